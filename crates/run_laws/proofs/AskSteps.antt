@@ -41,7 +41,7 @@ use Rattle.name_core.specs.declared.walks.Walked.{Walked}
 use Rattle.name_core.specs.declared.walks.Walked.TheVariants.{Completed, NoneLeft}
 use Rattle.name_core.proofs.AllowedLemmas.{no-opening-finish}
 use Rattle.name_core.proofs.AskLaws.{ids_stay_below}
-use Rattle.name_core.proofs.AskLemmas.{each-append, each-without, open-holds}
+use Rattle.name_core.proofs.AskLemmas.{each-append, each-without, open-holds, open-id}
 use Rattle.name_core.proofs.KeepLemmas.{keeps-settled, same-opening, settled-next, with_ask}
 use Rattle.name_core.proofs.Layers.{Asking, Same, Opened, asking}
 use Rattle.run_laws.proofs.SentFiles.{AreFiles, delivered-files}
@@ -50,10 +50,11 @@ abbrev pub Alone : NameState → NameService
 Alone s = record { names = s; pending = None }
 
 -- A property of tables, and one of open asks that each ask has whose id is n or above. Changes keep the first: those of calls that `Spares`
--- allows, those of finishes of asks that have the second, those of walks, and updates of files that have encrypted keys.
+-- allows, those of finishes of open asks, which have the second, those of walks, and updates of files that have encrypted keys.
 pub record Invariant (Holds : NameTable → Type 0) (P : OpenAsk → Type 0) (Spares : NameState → NameCall → Type 0) (n : ℕ) : Type 0 where
   pub called : (s : NameState) (c : NameCall) (o : EditOp) → Keeps (Alone s) → n ≤ next_id s → Spares s c → first_cause (causes s c) ≡ None → (deed s c).logs ≡ Some o → Holds s.table → Holds (after_table s.table o)
-  pub finished : (t : NameTable) (q : OpenAsk) (edek : Option Edek) → P q → first_cause (finish_causes t.rows t.statuses q edek q.ask) ≡ None → Holds t → Holds (after_table t (finish_op q.id edek q.ask))
+  pub finished : (s : NameState) (q : OpenAsk) (edek : Option Edek) → Keeps (Alone s) → open_ask s.asks q.id ≡ Some q → P q → first_cause (finish_causes s.table.rows s.table.statuses q edek q.ask) ≡ None → Holds s.table
+      → Holds (after_table s.table (finish_op q.id edek q.ask))
   pub completed : (t : NameTable) (session : ℕ) → Holds t → Holds (after_table t (op.Complete session))
   pub updated : (t : NameTable) (session failed : ℕ) (mark : Option NPath) (files : List FileKey) → AreFiles t.rows files → Holds t → Holds (after_table t (op.Update session failed mark files))
   pub later_asks : (q : OpenAsk) → n ≤ q.id → P q
@@ -146,31 +147,31 @@ module _ (Holds : NameTable → Type 0) (P : OpenAsk → Type 0) (Spares : NameS
   closes : (s : NameService) (id : ℕ) → Still s → Still (record { names = closed s.names id; pending = s.pending })
   closes s id h = record { later = h.later; asks = each-without P s.names.asks id h.asks; table = h.table }
 
-  finishes : (s : NameState) (q : OpenAsk) (edek : Option Edek) → P q → first_cause (finish_causes s.table.rows s.table.statuses q edek q.ask) ≡ None → Still (Alone s)
+  finishes : (s : NameState) (q : OpenAsk) (edek : Option Edek) → Keeps (Alone s) → open_ask s.asks q.id ≡ Some q → P q → first_cause (finish_causes s.table.rows s.table.statuses q edek q.ask) ≡ None → Still (Alone s)
       → Still (Alone (done_with (Some (finish_op q.id edek q.ask)) (closed s q.id))) × Still (record { names = closed s q.id; pending = Some (finish_op q.id edek q.ask) })
-  finishes s q edek only free h = takes (closed s q.id) (finish_op q.id edek q.ask) (inv.finished s.table q edek only free (h.table true)) (no-opening-finish q.id edek q.ask) (closes (Alone s) q.id h)
+  finishes s q edek k opened only free h = takes (closed s q.id) (finish_op q.id edek q.ask) (inv.finished s q edek k opened only free (h.table true)) (no-opening-finish q.id edek q.ask) (closes (Alone s) q.id h)
 
-  writes : (s : NameState) (q : OpenAsk) (edek : Option Edek) (result : Result (Unit {0}) NameRefusal) (s' : NameState) → P q → Finishes s q edek result s' → Still (Alone s) → Still (Alone s')
-  writes s q edek result s' only (NoRoom, may, is) h = at (Alone s') (Alone s) (ap Alone (ap (λ o. o.state) is)) h
-  writes s q edek result s' only (Plain, may, is) h = go (first_cause (finish_causes s.table.rows s.table.statuses q edek q.ask)) refl is
+  writes : (s : NameState) (q : OpenAsk) (edek : Option Edek) (result : Result (Unit {0}) NameRefusal) (s' : NameState) → Keeps (Alone s) → open_ask s.asks q.id ≡ Some q → P q → Finishes s q edek result s' → Still (Alone s) → Still (Alone s')
+  writes s q edek result s' k opened only (NoRoom, may, is) h = at (Alone s') (Alone s) (ap Alone (ap (λ o. o.state) is)) h
+  writes s q edek result s' k opened only (Plain, may, is) h = go (first_cause (finish_causes s.table.rows s.table.statuses q edek q.ask)) refl is
     where
       go : (o : Option NameRefusal) → first_cause (finish_causes s.table.rows s.table.statuses q edek q.ask) ≡ o → (record { reply = result; state = s' }) ≡ unless_stopped o s q edek → Still (Alone s')
       go (Some why) stops is = at (Alone s') (Alone (closed s q.id)) (ap Alone (ap (λ o. o.state) is)) (closes (Alone s) q.id h)
-      go None free is = at (Alone s') (Alone (done_with (Some (finish_op q.id edek q.ask)) (closed s q.id))) (ap Alone (ap (λ o. o.state) is)) (finishes s q edek only free h).0
+      go None free is = at (Alone s') (Alone (done_with (Some (finish_op q.id edek q.ask)) (closed s q.id))) (ap Alone (ap (λ o. o.state) is)) (finishes s q edek k opened only free h).0
 
   ends : (s : NameService) (id : ℕ) (given : KeyAnswer) (result : Result (Unit {0}) NameRefusal) (logged : List EditOp) (s' : NameService) → FinishServes s id given AnyFault result logged s' → Keeps s → Still s → Still s'
   ends s id given result logged s' did k h = found (open_ask s.names.asks id) refl did
     where
-      of : (q : OpenAsk) → P q → (given : KeyAnswer) → FinishServesOpen s q given AnyFault result logged s' → Still s'
-      of q only (answer.Refused why) e = at s' (record { names = closed s.names q.id; pending = s.pending }) e.left_is (closes s q.id h)
-      of q only (answer.Given edek) (inl waits) = at s' (record { names = closed s.names q.id; pending = s.pending }) waits.ends.left_is (closes s q.id h)
-      of q only (answer.Given edek) (inr (kept, inl w)) = at s' (Alone w.changed) w.left (writes (settled kept s) q edek result w.changed only w.finishes (settles kept s k h))
-      of q only (answer.Given edek) (inr (kept, inr u)) =
-          at s' (record { names = closed (settled kept s) q.id; pending = Some (finish_op q.id edek q.ask) }) u.left (finishes (settled kept s) q edek only u.free (settles kept s k h)).1
+      of : (q : OpenAsk) → open_ask s.names.asks q.id ≡ Some q → P q → (given : KeyAnswer) → FinishServesOpen s q given AnyFault result logged s' → Still s'
+      of q opened only (answer.Refused why) e = at s' (record { names = closed s.names q.id; pending = s.pending }) e.left_is (closes s q.id h)
+      of q opened only (answer.Given edek) (inl waits) = at s' (record { names = closed s.names q.id; pending = s.pending }) waits.ends.left_is (closes s q.id h)
+      of q opened only (answer.Given edek) (inr (kept, inl w)) = at s' (Alone w.changed) w.left (writes (settled kept s) q edek result w.changed (keeps-settled kept s k) opened only w.finishes (settles kept s k h))
+      of q opened only (answer.Given edek) (inr (kept, inr u)) =
+          at s' (record { names = closed (settled kept s) q.id; pending = Some (finish_op q.id edek q.ask) }) u.left (finishes (settled kept s) q edek (keeps-settled kept s k) opened only u.free (settles kept s k h)).1
 
       found : (o : Option OpenAsk) → open_ask s.names.asks id ≡ o → FinishServesAt s o given AnyFault result logged s' → Still s'
       found None is e = at s' s e.left_is h
-      found (Some q) is e = of q (open-holds P s.names.asks id q h.asks is) given e
+      found (Some q) is e = of q (subst (λ (n : ℕ). open_ask s.names.asks n ≡ Some q) (sym (open-id s.names.asks id q is)) is) (open-holds P s.names.asks id q h.asks is) given e
 
   -- asks
 
@@ -307,7 +308,7 @@ asks-keep P n later s s' did k used asks = (still.later, still.asks)
   where
     still : Stays (λ t. ⊤) P n s'
     still =
-        step (λ t. ⊤) P AnyCall n (record { called = λ s c o k new spares free logs h. tt; finished = λ t q edek only free h. tt; completed = λ t session h. tt; updated = λ t session failed mark files are h. tt; later_asks = later }) s s' did (any-step s s' did) k
+        step (λ t. ⊤) P AnyCall n (record { called = λ s c o k new spares free logs h. tt; finished = λ s q edek k opened only free h. tt; completed = λ t session h. tt; updated = λ t session failed mark files are h. tt; later_asks = later }) s s' did (any-step s s' did) k
         (record { later = used; asks = asks; table = λ kept. tt })
 
 -- ids are in order in a namesystem that is opened again

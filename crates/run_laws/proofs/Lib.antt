@@ -9,4 +9,5 @@ pub mod ShownKeys
 pub mod SnapshotLaw
 pub mod WalkLaws
 pub mod ZoneMarks
+pub mod ZoneRuns
 pub mod ZoneSteps

@@ -43,7 +43,7 @@ use Rattle.run_laws.proofs.RefusalLaw.{refused_for_its_zone}
 
 -- an ask since it was made
 
-abbrev IsNot : ℕ → OpenAsk → Type 0
+abbrev pub IsNot : ℕ → OpenAsk → Type 0
 IsNot id q = q.id ≡ id → ⊥
 
 -- Since s, the namesystem only took steps, or no ask with the id is open, as after a restart. The id is used.

@@ -52,7 +52,7 @@ module _ (dir : ℕ) (name : List ℕ) (was : Snapshot) where
   snapshot-stays : Invariant Has AnyAsk Spares 0
   snapshot-stays = record {
     called = λ s c o k new spares free logs h. has-called s c o k spares free logs h;
-    finished = λ t q edek only free h. has-finished t q.id edek q.ask h;
+    finished = λ s q edek k opened only free h. has-finished s.table q.id edek q.ask h;
     completed = λ t session h. record { opened = h.opened; stands = h.stands };
     updated = λ t session failed mark files are_files h. record { opened = h.opened; stands = h.stands };
     later_asks = λ q later. tt;

@@ -64,7 +64,7 @@ module _ (under : Option ℕ) (key : Option KeyName) (P : OpenAsk → Type 0) (n
   pub zone-stays : Invariant (KeepsKey under key) P AnyCall n
   zone-stays = record {
     called = λ s c o k new spares free logs h. keys-stay under key begun.marked s.table o (leaves-called s c o new logs) h;
-    finished = λ t q edek only free h. keys-stay under key begun.marked t (finish_op q.id edek q.ask) (leaves-finished t q edek q.ask only free) h;
+    finished = λ s q edek k opened only free h. keys-stay under key begun.marked s.table (finish_op q.id edek q.ask) (leaves-finished s.table q edek q.ask only free) h;
     completed = λ t session h. h;
     updated = λ t session failed mark files are_files h. keys-stay under key begun.marked t (op.Update session failed mark files) (not-zones under key begun.marked t.rows files are_files h) h;
     later_asks = begun.later_asks;

@@ -25,6 +25,7 @@ use Rattle.world_run.specs.RenamePaths.{read_rename_paths, rename_along}
 use Rattle.world_run.specs.SnapPaths.{read_snap_path, snap_at, unsnap_at}
 use Rattle.world_run.specs.Step.{Step, delete_with, zone_with}
 use Rattle.world_run.specs.World.{WorldState}
+use Rattle.run_laws.specs.Names.{KeepZones}
 
 -- a restart finds what the log is known to hold
 abbrev pub DiskTells : Type 0
@@ -92,6 +93,13 @@ abbrev pub RunsKeepSnapshots : Type 0
 RunsKeepSnapshots =
     (w : WorldState) (dir : ℕ) (name : List ℕ) (was : Snapshot) (between : List WorldState) (v : WorldState)
     → IsNames w.names → HasSnapshot dir name was w.names → LeadsKeeping dir name w between v → HasSnapshot dir name was v.names
+
+-- As long as a file exists, it lies in the same zone, or in none: whatever events come between, restarts included, and whether pending
+-- operations are kept or dropped. No id comes twice, so a file with the same id is the same file.
+abbrev pub RunsKeepZones : Type 0
+RunsKeepZones =
+    (w : WorldState) (between : List WorldState) (v : WorldState) (kept later : Bool)
+    → IsNames w.names → Leads w between v → KeepZones (settled kept w.names).table.rows (settled later v.names).table.rows
 
 -- An ask is accepted; after any events its draw is made, by the number of its note, and the reply is kept; after any events its finish
 -- takes that reply. If it is refused with ZoneChanged, the zone that the path lies in is another one than when the ask was made.

@@ -1,12 +1,12 @@
 //! Laws over several calls of the namesystem, and over runs of events of both services: what holds
 //! of an ask and its finish, whatever calls, asks, finishes, draws and restarts come between them,
-//! and of a snapshot. Laws of linked worlds: what holds of the keys of zone files, of ready keys and
+//! of a snapshot, and of the zone of a file. Laws of linked worlds: what holds of the keys of zone files, of ready keys and
 //! of batches. The functions do nothing: their contracts are the laws.
 #![tactic(auto)]
 
 ghost use Rattle.run_laws.specs.Keys.{ReadyKeysAreCurrent, ShownKeysAreKept, ZoneFilesDecrypt};
-ghost use Rattle.run_laws.specs.Names.{RefusedForItsZone};
-ghost use Rattle.run_laws.specs.Runs.{RunsKeepSnapshots, RunsRefuseForTheZone};
+ghost use Rattle.run_laws.specs.Names.{FilesKeepZones, RefusedForItsZone};
+ghost use Rattle.run_laws.specs.Runs.{RunsKeepSnapshots, RunsKeepZones, RunsRefuseForTheZone};
 ghost use Rattle.run_laws.specs.Walks.{BatchesAreOnce, BatchesShareNoFile, RepeatedIsIgnored};
 
 /// A file whose reply has the key that its ask wanted is refused as `ZoneChanged` only if the zone
@@ -27,6 +27,14 @@ pub fn runs_refuse_for_the_zone()
 /// services included.
 pub fn runs_keep_snapshots()
     ensures { RunsKeepSnapshots }
+{}
+
+/// The zone of a file never changes while the file exists, though the file may move: neither by one
+/// operation that the table allows, nor in a run, restarts of the services included. A file outside
+/// all zones stays outside.
+pub fn files_keep_their_zones()
+    ensures by_operation { FilesKeepZones }
+    ensures in_runs { RunsKeepZones }
 {}
 
 /// A user who may decrypt opens each zone file, live or in a snapshot: the decryption of its

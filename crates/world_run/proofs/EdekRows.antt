@@ -42,6 +42,13 @@ AllReplace rows files = (f : FileKey) → In f files → Replaces rows f
 abbrev pub AreFiles : List Entry → ℕ → KeyName → Type 0
 AreFiles rows id key = (x : Entry) → In x rows → x.row.id ≡ id → (old : Edek) × (x.row.kind ≡ File (Some old)) × (key ≡ old.version.key)
 
+-- no directory has the id
+abbrev pub NoDirectory : List Entry → ℕ → Type 0
+NoDirectory rows id = (x : Entry) → In x rows → x.row.id ≡ id → is_dir x.row.kind ≡ false
+
+no-directory : (rows : List Entry) (id : ℕ) (key : KeyName) → AreFiles rows id key → NoDirectory rows id
+no-directory rows id key files x i same = ap is_dir (files x i same).1
+
 pub are-files : (rows : List Entry) (f : FileKey) → InPlace rows → Replaces rows f → AreFiles rows f.id f.edek.version.key
 are-files rows f good r x i same =
     let is : r.file ≡ x = some-is r.file x (sym r.stands ∙ ap (entry_of rows) (sym same) ∙ good.once x i) in
@@ -95,9 +102,9 @@ module _ (id : ℕ) (edek : Edek) where
   id-rekeyed x = elim (which-file x) [ inl w ↦ ap (λ (y : Entry). y.row.id) w.1 ∙ sym w.0 | inr same ↦ ap (λ (y : Entry). y.row.id) same ]
 
   -- a file becomes no directory
-  dir-rekeyed : (x : Entry) → (x.row.id ≡ id → (old : Edek) × (x.row.kind ≡ File (Some old)) × (edek.version.key ≡ old.version.key)) → is_dir (rekeyed x).row.kind ≡ is_dir x.row.kind
+  pub dir-rekeyed : (x : Entry) → (x.row.id ≡ id → is_dir x.row.kind ≡ false) → is_dir (rekeyed x).row.kind ≡ is_dir x.row.kind
   dir-rekeyed x file = elim (which-file x) [
-    | inl w ↦ ap (λ (y : Entry). is_dir y.row.kind) w.1 ∙ sym (ap is_dir (file w.0).1)
+    | inl w ↦ ap (λ (y : Entry). is_dir y.row.kind) w.1 ∙ sym (file w.0)
     | inr same ↦ ap (λ (y : Entry). is_dir y.row.kind) same
   ]
 
@@ -119,7 +126,7 @@ module _ (id : ℕ) (edek : Edek) where
       go true ih = refl
       go false ih = ih
 
-  dir-at-rekeyed : (rows : List Entry) (q : List (List ℕ)) → AreFiles rows id edek.version.key → is_dir_at (row_at (all_rekeyed rows) q) ≡ is_dir_at (row_at rows q)
+  dir-at-rekeyed : (rows : List Entry) (q : List (List ℕ)) → NoDirectory rows id → is_dir_at (row_at (all_rekeyed rows) q) ≡ is_dir_at (row_at rows q)
   dir-at-rekeyed [] q files = refl
   dir-at-rekeyed (y ∷ ys) q files =
       ap (λ (r : List (List ℕ)). is_dir_at (cond (same_path r q) (Some (rekeyed y).row) (row_at (all_rekeyed ys) q))) (path-rekeyed y)
@@ -129,7 +136,7 @@ module _ (id : ℕ) (edek : Edek) where
       go true ih = dir-rekeyed y (files y (inl refl))
       go false ih = ih
 
-  pub rekeyed-in-place : (rows : List Entry) → AreFiles rows id edek.version.key → InPlace rows → InPlace (all_rekeyed rows)
+  pub rekeyed-in-place : (rows : List Entry) → NoDirectory rows id → InPlace rows → InPlace (all_rekeyed rows)
   rekeyed-in-place rows files good = record {
     rising = rising-rekeyed rows good.rising;
     once = λ x i.
@@ -216,7 +223,8 @@ all-still rows f fs good all g i = still-replaces rows f g good (all f (inl refl
 pub edeks-in-place : (files : List FileKey) (rows : List Entry) → AllReplace rows files → InPlace rows → InPlace (with_edeks files rows)
 edeks-in-place [] rows all good = good
 edeks-in-place (f ∷ fs) rows all good =
-    edeks-in-place fs (set_kind rows f.id (File (Some f.edek))) (all-still rows f fs good all) (rekeyed-in-place f.id f.edek rows (are-files rows f good (all f (inl refl))) good)
+    edeks-in-place fs (set_kind rows f.id (File (Some f.edek))) (all-still rows f fs good all)
+    (rekeyed-in-place f.id f.edek rows (no-directory rows f.id f.edek.version.key (are-files rows f good (all f (inl refl)))) good)
 
 -- each row still fits its zone
 
@@ -241,7 +249,8 @@ pub zones-edeks : (files : List FileKey) (rows : List Entry) → AllReplace rows
 zones-edeks [] rows all good zones = zones
 zones-edeks (f ∷ fs) rows all good zones =
     let its = are-files rows f good (all f (inl refl)) in
-    zones-edeks fs (set_kind rows f.id (File (Some f.edek))) (all-still rows f fs good all) (rekeyed-in-place f.id f.edek rows its good) (zones-rekeyed f.id f.edek rows its zones)
+    zones-edeks fs (set_kind rows f.id (File (Some f.edek))) (all-still rows f fs good all)
+    (rekeyed-in-place f.id f.edek rows (no-directory rows f.id f.edek.version.key its) good) (zones-rekeyed f.id f.edek rows its zones)
 
 -- each row was there before, or is that of one of the files
 

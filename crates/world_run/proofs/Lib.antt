@@ -53,3 +53,4 @@ pub mod UpdateKeeps
 pub mod VersionLemmas
 pub mod WalkKeeps
 pub mod WorldLemmas
+pub mod ZoneKeeps

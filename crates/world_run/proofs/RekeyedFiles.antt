@@ -14,8 +14,9 @@ use Rattle.zone_table.proofs.Marks.{eq-yes}
 use Rattle.name_store.specs.Table.{with_edeks}
 use Rattle.name_core.proofs.EdekRows.{AllFiles, AreFiles, IsFileAt, zone-edeks}
 use Rattle.world_run.specs.Promise.{In, IsReencrypted}
-use Rattle.world_run.proofs.EdekRows.{entry-rekeyed, file_row, id-rekeyed, path-rekeyed, which-file}
+use Rattle.world_run.proofs.EdekRows.{dir-rekeyed, entry-rekeyed, file_row, id-rekeyed, path-rekeyed, rekeyed-in-place, which-file}
 use Rattle.world_run.proofs.Members.{in-each, in-map}
+use Rattle.world_run.proofs.RowLemmas.{InPlace}
 
 -- a row after these files got their keys
 abbrev pub rekeyed : List FileKey → Entry → Entry
@@ -52,6 +53,17 @@ untouched (f ∷ fs) x none = elim (which-file f.id f.edek x) [
   | inr same ↦ ap (rekeyed fs) same ∙ untouched fs x (λ g i. none g (inr i))
 ]
 
+not-dir : (k : Kind) → is_some (edek_of k) ≡ true → is_dir k ≡ false
+not-dir (Dir key) h = absurd cc
+not-dir (File edek) h = refl
+
+-- a file stays a file, and a directory stays a directory
+dirs-stay : (fs : List FileKey) (x : Entry) → ((f : FileKey) → In f fs → x.row.id ≡ f.id → is_dir x.row.kind ≡ false) → is_dir (rekeyed fs x).row.kind ≡ is_dir x.row.kind
+dirs-stay [] x file = refl
+dirs-stay (f ∷ fs) x file =
+    let same = dir-rekeyed f.id f.edek x (file f (inl refl)) in
+    dirs-stay fs (with_kind f.id (File (Some f.edek)) x) (λ g i at. same ∙ file g (inr i) (sym (id-rekeyed f.id f.edek x) ∙ at)) ∙ same
+
 -- a file with an encrypted key has one afterwards, and no other row does
 keyed-stays : (fs : List FileKey) (x : Entry) → ((f : FileKey) → In f fs → x.row.id ≡ f.id → is_some (edek_of x.row.kind) ≡ true) → is_some (edek_of (rekeyed fs x).row.kind) ≡ is_some (edek_of x.row.kind)
 keyed-stays [] x file = refl
@@ -74,10 +86,6 @@ place-stays (f ∷ fs) rows zone =
     go None = refl
     go (Some e) = path-rekeyed f.id f.edek e
 
-not-dir : (k : Kind) → is_some (edek_of k) ≡ true → is_dir k ≡ false
-not-dir (Dir key) h = absurd cc
-not-dir (File edek) h = refl
-
 -- each row with the id of one of these has an encrypted key
 abbrev pub AreKeyed : List Entry → List FileKey → Type 0
 AreKeyed rows files = (f : FileKey) (x : Entry) → In f files → In x rows → x.row.id ≡ f.id → is_some (edek_of x.row.kind) ≡ true
@@ -86,12 +94,31 @@ pub all-files : (rows : List Entry) (files : List FileKey) → AreKeyed rows fil
 all-files rows files keyed =
     in-each (λ (f : FileKey). AreFiles f.id rows) files (λ f i. in-each (IsFileAt f.id) rows (λ x j same. not-dir x.row.kind (keyed f x i j (eq-yes x.row.id f.id same))))
 
+still-keyed : (rows : List Entry) (f : FileKey) (fs : List FileKey) → AreKeyed rows (f ∷ fs) → AreKeyed (set_kind rows f.id (File (Some f.edek))) fs
+still-keyed rows f fs keyed g x i j same =
+    let y = in-map (with_kind f.id (File (Some f.edek))) x rows j in
+    elim (which-file f.id f.edek y.0) [
+      | inl w ↦ ap (λ (z : Entry). is_some (edek_of z.row.kind)) (y.2 ∙ w.1)
+      | inr stays ↦
+          (let is : x ≡ y.0 = y.2 ∙ stays in
+          ap (λ (z : Entry). is_some (edek_of z.row.kind)) is ∙ keyed g y.0 (inr i) y.1 (ap (λ (z : Entry). z.row.id) (sym is) ∙ same))
+    ]
+
+-- rows stay in order and in their directories
+pub keyed-in-place : (files : List FileKey) (rows : List Entry) → AreKeyed rows files → InPlace rows → InPlace (with_edeks files rows)
+keyed-in-place [] rows keyed good = good
+keyed-in-place (f ∷ fs) rows keyed good =
+    keyed-in-place fs (set_kind rows f.id (File (Some f.edek))) (still-keyed rows f fs keyed)
+    (rekeyed-in-place f.id f.edek rows (λ x i same. not-dir x.row.kind (keyed f x (inl refl) i same)) good)
+
 -- what a row was before: it has the same id, is a file of the same zones, and is at the same place in each
 pub record WasRow (rows : List Entry) (files : List FileKey) (x : Entry) : Type 0 where
   pub old : Entry
   pub member : In old rows
   pub is : x ≡ rekeyed files old
   pub id : x.row.id ≡ old.row.id
+  pub dir : is_dir x.row.kind ≡ is_dir old.row.kind
+  pub zone : zone_of (with_edeks files rows) x.path ≡ zone_of rows old.path
   pub file : (zone : ℕ) → is_file_of (with_edeks files rows) zone x ≡ is_file_of rows zone old
   pub place : (zone : ℕ) → path_in (with_edeks files rows) zone x.path ≡ path_in rows zone old.path
 
@@ -106,6 +133,8 @@ was-row rows files keyed x i =
       member = y.1;
       is = y.2;
       id = ap (λ (z : Entry). z.row.id) y.2 ∙ id-stays files y.0;
+      dir = ap (λ (z : Entry). is_dir z.row.kind) y.2 ∙ dirs-stay files y.0 (λ f j same. not-dir y.0.row.kind (keyed f y.0 j y.1 same));
+      zone = zone;
       file = λ n. (λ k. has k && same_id (option_map (λ (e : Entry). e.row.id) (zone k)) (Some n));
       place = λ n. (λ k. drop (length (place-stays files rows n k)) (path k));
     }
