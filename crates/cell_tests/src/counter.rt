@@ -16,9 +16,13 @@ impl Core for Counter {
 
     ghost step = { λ s q r t. (r ≡ s.count) × (t.count ≡ (s.count + q) % 2 ^ 64) };
 
+    ghost acts = { λ s q r t. (r ≡ s.count) × (t.count ≡ (s.count + q) % 2 ^ 64) };
+
     ghost allows = { λ _ _. ⊤ };
 
     ghost can = { λ _ _. ⊤ };
+
+    ghost alone = { λ _. ⊤ };
 
     ghost sound = { λ _. ⊤ };
 
@@ -31,4 +35,6 @@ impl Core for Counter {
     ghost grows = { λ es fs q p a. tt };
 
     ghost fits = { λ s es q sound legal a. tt };
+
+    ghost plain = { λ s t q r can alone acted. acted };
 }

@@ -26,9 +26,13 @@ impl Core for Issuer {
 
     ghost step = { Steps };
 
+    ghost acts = { Steps };
+
     ghost allows = { Allows };
 
     ghost can = { Can };
+
+    ghost alone = { λ _. ⊤ };
 
     ghost sound = { λ _. ⊤ };
 
@@ -49,4 +53,6 @@ impl Core for Issuer {
     ghost grows = { Allows-grows };
 
     ghost fits = { Allows-fits };
+
+    ghost plain = { λ s t q r can alone acted. acted };
 }

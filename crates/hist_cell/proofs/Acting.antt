@@ -1,14 +1,10 @@
 -- What a call under the lock comes to.
 use Rattle.std.proofs.Common.{◌≡◌, ℕ, ◌<◌, Bool, true, false, List, [], ◌∷◌, ◌++◌, length, refl, ap, sym, ◌∙◌, subst, Option, Some, inl, eq-eqb, arith, cond, ltb}
-use mathlib.Core.List.{IsPrefix}
 use Rattle.hist_cell.specs.declared.views.Entry.{Entry}
 use Rattle.hist_cell.specs.declared.views.Known.{Known}
 use Rattle.hist_cell.specs.declared.views.View.{View}
-use Rattle.hist_cell.specs.History.{IsIn, first_number, other_numbers, state_after, own, LegalOf, Follows, Learns, MakesEntryOn, Splits, Meets, Closes, state_of, Distinct, longer, shorter, united, known, with_turn, with_entry, without_turn, turn_of, newcomer}
+use Rattle.hist_cell.specs.History.{IsIn, first_number, other_numbers, state_after, own, LegalOf, Learns, Lends, MakesEntryOn, Splits, Meets, Closes, state_of, Distinct, longer, shorter, united, known, with_turn, with_entry, without_turn, turn_of, newcomer, entry_by}
 use Rattle.hist_cell.proofs.Lists.{own-mine, own-none, state_after-push, both_begin}
-
-pub inner : {A : Type 0} (x y : A) → Some x ≡ Some y → x ≡ y
-inner x y e = cc e
 
 pub one_item : {A : Type 0} (x y : A) → x ∷ [] ≡ y ∷ [] → x ≡ y
 one_item x y e = cc e
@@ -17,52 +13,53 @@ pub first_in : (ns : List ℕ) → ns ≡ first_number ns ∷ other_numbers ns �
 first_in ns is = subst (IsIn (first_number ns)) (sym is) (inl refl)
 
 module _ {Q R S : Type 0} (step : S → Q → R → S → Type 0) (allows : List (Entry Q R S) → Q → Type 0) where
-  -- the entry of a call under the lock may follow all that the turn has seen
-  pub follows_on : (start : Option S) (first core : S) (es : List (Entry Q R S)) (e : Entry Q R S) → start ≡ Some first → core ≡ state_after first es
-      → allows es e.call → step core e.call e.reply e.after → Follows step allows start es e
-  follows_on start first core es e is core_is may right =
-      subst (λ (o : Option S). Follows step allows o es e) (sym is) (may, subst (λ (s : S). step s e.call e.reply e.after) core_is right)
+  acts_plain : (first s s' : S) (p t : View Q R S) (call : Q) (reply : R) (found : ℕ) → t.start ≡ Some first → s ≡ state_after first t.seen
+      → p.numbers ≡ first_number p.numbers ∷ other_numbers p.numbers → Learns step allows (with_turn p t) found
+      → LegalOf step allows p.start (t.seen ++ entry_by (with_turn p t) call reply s' ∷ [])
+      → MakesEntryOn step allows s (known p) call reply (known (without_turn (with_entry (with_turn p t) (entry_by (with_turn p t) call reply s')))) s'
+  acts_plain first s s' p t call reply found first_is before ns look legal =
+      let e : Entry Q R S = entry_by (with_turn p t) call reply s' in
+      record {
+        acts = record {
+          entry = e;
+          between = look.begins.0;
+          by = refl;
+          call_is = refl;
+          reply_is = refl;
+          seen = ap (λ l. l ++ e ∷ []) (sym look.begins.1);
+          mine = own-mine (first_number p.numbers) t.seen e (eq-eqb e.by (first_number p.numbers) refl) ∙ ap (λ l. l ++ e ∷ []) (look.base_own (first_number p.numbers) (first_in p.numbers ns));
+          legal = legal;
+          same = (refl, refl, refl);
+        };
+        first = first;
+        first_is = sym (look.same_start refl) ∙ first_is;
+        before = before ∙ ap (state_after first) (sym look.begins.1);
+        after = refl;
+      }
 
-  acts_plain : (first s s' : S) (p t : View Q R S) (e : Entry Q R S) (found : ℕ) → t.start ≡ Some first → s ≡ state_after first t.seen → e.after ≡ s'
-      → e.by ≡ first_number p.numbers → p.numbers ≡ first_number p.numbers ∷ other_numbers p.numbers
-      → Learns step allows (with_turn p t) found → LegalOf step allows p.start (t.seen ++ e ∷ [])
-      → MakesEntryOn step allows s (known p) e.call e.reply (known (without_turn (with_entry (with_turn p t) e))) s'
-  acts_plain first s s' p t e found first_is before after by ns look legal = record {
-    acts = record {
-      entry = e;
-      between = look.begins.0;
-      by = by;
-      call_is = refl;
-      reply_is = refl;
-      seen = ap (λ l. l ++ e ∷ []) (sym look.begins.1);
-      mine = own-mine (first_number p.numbers) t.seen e (eq-eqb e.by (first_number p.numbers) by) ∙ ap (λ l. l ++ e ∷ []) (look.base_own (first_number p.numbers) (first_in p.numbers ns));
-      legal = legal;
-      same = (refl, refl, refl);
-    };
-    first = first;
-    first_is = sym (look.same_start refl) ∙ first_is;
-    before = before ∙ ap (state_after first) (sym look.begins.1);
-    after = after;
-  }
-
-  pub acts_by : (first s s' : S) (old : Known Q R S) (p t m n w : View Q R S) (e x : Entry Q R S) (found : ℕ) (call : Q) (reply : R)
-      → t.start ≡ Some first → s ≡ state_after first t.seen → x.after ≡ s'
-      → known p ≡ old → m ≡ with_turn p t → Some x ≡ Some e → x.by ≡ first_number m.numbers → x.call ≡ call → x.reply ≡ reply
-      → p.numbers ≡ first_number p.numbers ∷ other_numbers p.numbers
-      → n ≡ with_entry m e → LegalOf step allows m.start (m.seen ++ e ∷ []) → w ≡ without_turn n → Learns step allows m found
+  -- what a call under the lock comes to: the caller p took the turn t, and their view m got the entry
+  pub acts_by : (first s s' : S) (old : Known Q R S) (p t m w : View Q R S) (found : ℕ) (said call : Q) (reply : R) → t.start ≡ Some first → s ≡ state_after first t.seen
+      → known p ≡ old → m ≡ with_turn p t → said ≡ call → p.numbers ≡ first_number p.numbers ∷ other_numbers p.numbers → Learns step allows m found
+      → LegalOf step allows m.start (m.seen ++ entry_by m said reply s' ∷ []) → w ≡ without_turn (with_entry m (entry_by m said reply s'))
       → MakesEntryOn step allows s old call reply (known w) s'
-  acts_by first s s' old p t m n w e x found call reply first_is before after is took said by called replied ns added legal gave look =
-      let same : x ≡ e = inner x e said in
-      let by' : e.by ≡ first_number p.numbers = sym (ap (λ y. y.by) same) ∙ (by ∙ ap (λ y. first_number y.numbers) took) in
-      let after' : e.after ≡ s' = sym (ap (λ y. y.after) same) ∙ after in
+  acts_by first s s' old p t m w found said call reply first_is before is took called ns look legal gave =
       let look' : Learns step allows (with_turn p t) found = subst (λ (y : View Q R S). Learns step allows y found) took look in
-      let legal' : LegalOf step allows p.start (t.seen ++ e ∷ []) = subst (λ (y : View Q R S). LegalOf step allows y.start (y.seen ++ e ∷ [])) took legal in
-      let end : w ≡ without_turn (with_entry (with_turn p t) e) = gave ∙ ap without_turn (added ∙ ap (λ y. with_entry y e) took) in
-      subst (λ o. MakesEntryOn step allows s o call reply (known w) s') is
-      (subst (λ (y : View Q R S). MakesEntryOn step allows s (known p) call reply (known y) s') (sym end)
-      (subst (λ (q : Q). MakesEntryOn step allows s (known p) q reply (known (without_turn (with_entry (with_turn p t) e))) s') (sym (ap (λ y. y.call) same) ∙ called)
-      (subst (λ (r : R). MakesEntryOn step allows s (known p) e.call r (known (without_turn (with_entry (with_turn p t) e))) s') (sym (ap (λ y. y.reply) same) ∙ replied)
-      (acts_plain first s s' p t e found first_is before after' by' ns look' legal'))))
+      let legal' : LegalOf step allows p.start (t.seen ++ entry_by (with_turn p t) said reply s' ∷ []) = subst (λ (y : View Q R S). LegalOf step allows y.start (y.seen ++ entry_by y said reply s' ∷ [])) took legal in
+      let end : w ≡ without_turn (with_entry (with_turn p t) (entry_by (with_turn p t) said reply s')) = gave ∙ ap (λ y. without_turn (with_entry y (entry_by y said reply s'))) took in
+      subst (λ (o : Known Q R S). MakesEntryOn step allows s o call reply (known w) s') is
+      (subst (λ (q : Q). MakesEntryOn step allows s (known p) q reply (known w) s') called
+      (subst (λ (y : View Q R S). MakesEntryOn step allows s (known p) said reply (known y) s') (sym end)
+      (acts_plain first s s' p t said reply found first_is before ns look' legal')))
+
+  -- the pass that was lent before the entry
+  pub lends_by : {H : Type 0} (lends : S → H → Type 0) (s s' : S) (v w : Known Q R S) (call : Q) (reply : R) (lent : H)
+      → MakesEntryOn step allows s v call reply w s' → lends s lent → Lends step allows lends v call reply w lent
+  lends_by lends s s' v w call reply lent a given = record {
+    acts = a.acts;
+    first = a.first;
+    first_is = a.first_is;
+    given = subst (λ (x : S). lends x lent) a.before given;
+  }
 
   -- a caller's start is the turn's
   pub start_of : (p t m u : View Q R S) (first : S) (found : ℕ) → m ≡ with_turn p t → t ≡ u → u.start ≡ Some first → Learns step allows m found → m.start ≡ Some first
@@ -74,9 +71,8 @@ module _ {Q R S : Type 0} (step : S → Q → R → S → Type 0) (allows : List
   core_seen first core t u is same = is ∙ ap (λ (y : View Q R S). state_after first y.seen) (sym same)
 
   -- the state after the entry too
-  pub core_after : (first core : S) (t w p m n : View Q R S) (e x : Entry Q R S) → m ≡ with_turn p t → Some x ≡ Some e → n ≡ with_entry m e → w ≡ turn_of n → x.after ≡ state_after first w.seen
-  core_after first core t w p m n e x took said added gave =
-      ap (λ y. y.after) (inner x e said) ∙ (sym (state_after-push first m.seen e) ∙ ap (state_after first) (sym (ap (λ y. y.seen) gave ∙ ap (λ y. y.seen) added)))
+  pub core_after : (first : S) (m w : View Q R S) (e : Entry Q R S) → w ≡ turn_of (with_entry m e) → e.after ≡ state_after first w.seen
+  core_after first m w e gave = sym (state_after-push first m.seen e) ∙ ap (state_after first) (sym (ap (λ (y : View Q R S). y.seen) gave))
 
   splits_plain : (p t : View Q R S) (found : ℕ) → p.numbers ≡ first_number p.numbers ∷ other_numbers p.numbers → Learns step allows (with_turn p t) found → Splits (known p) (known (newcomer (with_turn p t)))
   splits_plain p t found ns look =
@@ -95,12 +91,6 @@ module _ {Q R S : Type 0} (step : S → Q → R → S → Type 0) (allows : List
       subst (λ o. Splits o (known n)) is
       (subst (λ (y : View Q R S). Splits (known p) (known y)) (sym (new ∙ ap newcomer took))
       (splits_plain p t found ns (subst (λ (y : View Q R S). Learns step allows y found) took look)))
-
-  -- what a caller's history allows, the whole one allows too
-  pub allows_on : ((es fs : List (Entry Q R S)) (q : Q) → IsPrefix es fs → allows es q → allows fs q) → (old : Known Q R S) (p t m : View Q R S) (found : ℕ) (call : Q)
-      → known p ≡ old → m ≡ with_turn p t → Learns step allows m found → allows old.seen call → allows m.seen call
-  allows_on grows old p t m found call is took look h =
-      grows p.seen m.seen call (subst (λ (l : List (Entry Q R S)). IsPrefix l m.seen) (ap (λ y. y.base) took) look.begins) (subst (λ (o : Known Q R S). allows o.seen call) (sym is) h)
 
   first_both : (ms ns : List ℕ) → ms ≡ first_number ms ∷ other_numbers ms → first_number (ms ++ ns) ≡ first_number ms
   first_both [] ns e = absurd (cc e)

@@ -90,6 +90,10 @@ module _ {Q R S : Type 0} where
   abbrev pub with_entry : View Q R S → Entry Q R S → View Q R S
   with_entry v e = record v { base = v.seen ++ e ∷ []; seen = v.seen ++ e ∷ [] }
 
+  -- the entry that this caller adds by such a call
+  abbrev pub entry_by : View Q R S → Q → R → S → Entry Q R S
+  entry_by v call reply after = record { by = first_number v.numbers; call = call; reply = reply; after = after }
+
   -- two callers' views made one
   abbrev pub united : View Q R S → View Q R S → View Q R S
   united v w = record v { turn = false; numbers = v.numbers ++ w.numbers; begun = w.start; base = shorter v.seen w.seen; held = cond (ltb (length v.seen) (length w.seen)) v.numbers w.numbers; seen = longer v.seen w.seen }
@@ -211,6 +215,13 @@ module _ {Q R S : Type 0} (step : S → Q → R → S → Type 0) (allows : List
     pub first_is : v.start ≡ Some first
     pub before : s ≡ state_after first (v.seen ++ acts.between)
     pub after : acts.entry.after ≡ t
+
+  -- Such a call, and a pass that the core lent in the state from which the entry is a step.
+  pub record Lends {H : Type 0} (lends : S → H → Type 0) (v : Known Q R S) (call : Q) (reply : R) (w : Known Q R S) (lent : H) : Type 0 where
+    pub acts : MakesEntry v call reply w
+    pub first : S
+    pub first_is : v.start ≡ Some first
+    pub given : lends (state_after first (v.seen ++ acts.between)) lent
 
   -- the core after the whole history, of which the pass has seen a prefix
   pub record Closes (v : Known Q R S) (core : S) : Type 0 where

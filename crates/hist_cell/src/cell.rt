@@ -1,15 +1,16 @@
 //! Cells.
-ghost use Rattle.std.specs.Prelude.{◌≡◌, cond, ltb};
-ghost use Rattle.hist_cell.specs.History.{Closes, LegalOf, MakesEntry, Meets, Splits};
+ghost use Rattle.std.specs.Prelude.{◌≡◌, cond, ltb, IfErr, IfOk};
+ghost use Rattle.hist_cell.specs.History.{Closes, Lends, LegalOf, MakesEntry, Meets, Splits};
 
 use crate::cores::Core;
+use crate::holds::Holds;
 use crate::locked::Locked;
 use crate::naming::Naming;
 use crate::pass::Pass;
 use crate::rule::HistoryRule;
 use crate::seats::{ViewOf, learn, unite};
 use atomic_table::Table;
-use std::alloc::Global;
+use std::alloc::{AllocError, Global};
 use std::snapshot::Snapshot;
 use std::sync::{Mutex, Wait};
 
@@ -29,13 +30,61 @@ fn larger(a: u64, b: u64) -> u64
 }
 
 impl<C: Core, N: Naming> Cell<C, N> {
-    /// Makes a call, which is one entry of the history. What the pass has seen must allow it. It may wait
-    /// for the lock. If the history has 2^64 - 1 entries, it never returns.
+    /// Makes a call, which is one entry of the history. What the pass has seen must allow it, and it must
+    /// need no pass of another cell. It may wait for the lock. If the history has 2^64 - 1 entries, it
+    /// never returns.
     pub fn act<R: Wait>(&self, rt: &R, pass: &mut Pass<C, N>, call: C::Call) -> C::Reply
         requires allowed { C.allows pass.old.seen call }
+        requires alone { C.alone call }
         ensures { MakesEntry C.step C.allows pass.old call result pass.new }
     {
         self.lock.lock(rt).act(rt, &self.table.shared, pass, call)
+    }
+
+    /// Meets `with` into the pass that the core keeps, and makes the call, as one entry of the history.
+    /// What `pass` has seen must allow the call, and `with` must be a pass that the call needs, as one that
+    /// has seen the reply which the call uses. It may wait for the lock of this cell and then for that of
+    /// the other one. If the history has 2^64 - 1 entries, it never returns.
+    pub fn act_meeting<R: Wait>(
+        &self,
+        rt: &R,
+        pass: &mut Pass<C, N>,
+        other: &C::OtherCell,
+        with: C::OtherPass,
+        call: C::Call,
+    ) -> C::Reply
+    where
+        C: Holds,
+        requires allowed { C.allows pass.old.seen call }
+        requires needs { C.needs pass.old.seen call with }
+        ensures { MakesEntry C.step C.allows pass.old call result pass.new }
+    {
+        self.lock
+            .lock(rt)
+            .act_meeting(rt, &self.table.shared, pass, other, with, call)
+    }
+
+    /// Splits a pass from the one that the core keeps, and makes the call, as one entry of the history. The
+    /// new pass has seen as much of the other cell as the kept one had just before the entry. What `pass`
+    /// has seen must allow the call, which must need no pass of the other cell. If there is no memory for the
+    /// new pass, no entry is made. It waits as `act_meeting` does.
+    pub fn act_lending<R: Wait>(
+        &self,
+        rt: &R,
+        pass: &mut Pass<C, N>,
+        other: &C::OtherCell,
+        call: C::Call,
+    ) -> Result<(C::Reply, C::OtherPass), AllocError>
+    where
+        C: Holds,
+        requires allowed { C.allows pass.old.seen call }
+        requires alone { C.alone call }
+        ensures lent { IfOk result (λ r. Lends C.step C.allows C.lends pass.old call r.0 pass.new r.1) }
+        ensures none { IfErr result (λ _. pass.new ≡ pass.old) }
+    {
+        self.lock
+            .lock(rt)
+            .act_lending(rt, &self.table.shared, pass, other, call)
     }
 
     /// Creates a pass with a new number, which has seen what the old one has. It may wait.

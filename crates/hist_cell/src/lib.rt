@@ -4,6 +4,7 @@
 
 mod cell;
 mod cores;
+mod holds;
 mod locked;
 mod naming;
 mod opened;
@@ -14,6 +15,7 @@ mod views;
 
 pub use cell::Cell;
 pub use cores::Core;
+pub use holds::Holds;
 pub use naming::Naming;
 pub use opened::Opened;
 pub use pass::Pass;

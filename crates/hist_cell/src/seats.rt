@@ -1,6 +1,6 @@
 //! The steps on the history word.
 ghost use Rattle.std.specs.Prelude.{◌≡◌, ◌<◌, ◌+◌, ◌^◌, [], ◌∷◌, ◌++◌, true, false, length, Some};
-ghost use Rattle.hist_cell.specs.History.{IsIn, Learns, LegalOf, Follows, with_entry, with_turn, without_turn, as_before, turn_of, united, counted, newcomer};
+ghost use Rattle.hist_cell.specs.History.{IsIn, Learns, LegalOf, Follows, entry_by, first_number, with_entry, with_turn, without_turn, as_before, turn_of, united, counted, newcomer};
 ghost use Rattle.hist_cell.specs.declared.views.Entry.{Entry as AnEntry};
 
 use crate::cores::Core;
@@ -9,6 +9,7 @@ use crate::rule::{
 };
 use crate::views::{Entry, View};
 use atomic_table::{Seat, Shared};
+use std::marker::Brand;
 use std::snapshot::Snapshot;
 use std::sync::Wait;
 
@@ -78,6 +79,26 @@ pub fn give_turn<C: Core>(word: &Word<C>, seat: &mut Place<C>) -> Place<C>
     ensures turn { (result.table_id ≡ seat.old.table_id) × (result.me ≡ (turn_of seat.old.me.0, [])) }
 {
     word.split_seat::<GiveTurn>(seat)
+}
+
+/// Adds the entry of a call to the history, and gives the turn back. The view keeps what it has seen.
+pub fn add_entry<C: Core>(
+    word: &Word<C>,
+    seat: &mut Place<C>,
+    call: &Snapshot<C::Call>,
+    reply: &C::Reply,
+    core: &C,
+) -> Place<C>
+    requires seat { (seat.old.table_id ≡ word.now.table_id) × (0 < word.now.table_id.words) × (seat.old.me.1 ≡ []) }
+    requires turn { (seat.old.me.0.turn ≡ true) × (length seat.old.me.0.seen + 1 < 2 ^ 64) }
+    requires number { IsIn (first_number seat.old.me.0.numbers) seat.old.me.0.numbers }
+    requires follows { Follows C.step C.allows seat.old.me.0.start seat.old.me.0.seen (entry_by seat.old.me.0 call.now.value reply.now core.now) }
+    ensures mine { (seat.new.table_id ≡ seat.old.table_id) × (seat.new.id ≡ seat.old.id) × (seat.new.me ≡ (without_turn (with_entry seat.old.me.0 (entry_by seat.old.me.0 call.now.value reply.now core.now)), [])) }
+    ensures turn { (result.table_id ≡ seat.old.table_id) × (result.me ≡ (turn_of (with_entry seat.old.me.0 (entry_by seat.old.me.0 call.now.value reply.now core.now)), [])) }
+    ensures legal { LegalOf C.step C.allows seat.old.me.0.start (seat.old.me.0.seen ++ entry_by seat.old.me.0 call.now.value reply.now core.now ∷ []) }
+{
+    commit::<C, Brand>(word, seat, call, reply, core);
+    give_turn(word, seat)
 }
 
 /// Gives the turn back. The view is what it was before it took the turn.

@@ -94,9 +94,13 @@ impl<D: Disk, W: Words, C: Clock> Core for KmsSide<D, W, C> {
 
     ghost step = { KmsSteps D.state W.to_come };
 
+    ghost acts = { KmsSteps D.state W.to_come };
+
     ghost allows = { KmsAllows };
 
     ghost can = { λ _ _. ⊤ };
+
+    ghost alone = { λ _. ⊤ };
 
     ghost sound = { λ _. ⊤ };
 
@@ -120,4 +124,6 @@ impl<D: Disk, W: Words, C: Clock> Core for KmsSide<D, W, C> {
     ghost grows = { KmsAllows-grows };
 
     ghost fits = { λ s es q sound legal a. tt };
+
+    ghost plain = { λ s t q r can alone acted. acted };
 }

@@ -95,9 +95,13 @@ impl<D: Disk> Core for NameSide<D> {
 
     ghost step = { NameSteps D.state };
 
+    ghost acts = { NameSteps D.state };
+
     ghost allows = { NameAllows };
 
     ghost can = { λ _ _. ⊤ };
+
+    ghost alone = { λ _. ⊤ };
 
     ghost sound = { λ _. ⊤ };
 
@@ -129,4 +133,6 @@ impl<D: Disk> Core for NameSide<D> {
     ghost grows = { NameAllows-grows };
 
     ghost fits = { λ s es q sound legal a. tt };
+
+    ghost plain = { λ s t q r can alone acted. acted };
 }
