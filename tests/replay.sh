@@ -48,7 +48,7 @@ expect 'the namesystem' 0 '1 dir 0 - -
 8 refused N1 BadPath
 9 refused K4 NoSuchKey'
 
-# The root may become a zone while it is empty, and nothing below it then.
+# The root may become a zone while it is empty, and an empty directory below it as well.
 run replay <<'EOT'
 kms a create k 128 2b7e151628aed2a6abf7158809cf4f3c
 ask hdfs zone / k
@@ -57,6 +57,9 @@ finish 1
 nn a info /
 nn a mkdir /s
 ask hdfs zone /s k
+draw 2
+finish 2
+nn hdfs zones
 EOT
 expect 'the root as a zone' 0 '1 version k@0 2b7e151628aed2a6abf7158809cf4f3c
 2 ask 1 4294967297 metadata k
@@ -64,7 +67,10 @@ expect 'the root as a zone' 0 '1 version k@0 2b7e151628aed2a6abf7158809cf4f3c
 4 done
 5 dir 0 / k
 6 done
-7 refused N7 AlreadyInZone'
+7 ask 2 4294967299 metadata k
+8 reply 2 meta k 128 1 1
+9 done
+10 zones /:k /s:k'
 
 # Keys of the other lengths, and what is refused of them.
 run replay <<'EOT'
