@@ -254,6 +254,10 @@ class Names(Replayed):
     def below(self, path):
         return [it for it in self.rows if is_below(it, path)]
 
+    def files_of(self, zone):
+        """The files of a zone. Those of a zone in it are of that one."""
+        return [it for it in self.below(zone) if self.rows[it].is_file and self.zone_of(it) == zone]
+
     def directory(self, path):
         need(path in self.rows and not self.rows[path].is_file, "a directory does not exist")
         return self.rows[path].id
@@ -332,7 +336,7 @@ class Names(Replayed):
     def zone(self, record):
         path, key = record.path(), record.key_name()
         self.directory(path)
-        need(self.below(path) == [path] and self.zone_of(path) is None, "a zone is not empty, or lies in one")
+        need(self.below(path) == [path] and self.rows[path].mark is None, "a zone is not empty, or is one already")
         self.rows[path] = replace(self.rows[path], mark=key)
 
     def allow(self, record):
@@ -362,7 +366,7 @@ class Names(Replayed):
         zone = self.directory(path)
         need(self.rows[path].mark == key, "a re-encryption is of another key")
         need(zone not in self.statuses or self.statuses[zone].is_completed, "a re-encryption goes on")
-        there = {self.rows[it].id for it in self.below(path) if self.rows[it].is_file}
+        there = {self.rows[it].id for it in self.files_of(path)}
         self.statuses[zone] = Status(session, key, noted, there)
 
     def update(self, record):
@@ -372,7 +376,7 @@ class Names(Replayed):
         need(count == changed <= 1000, "an update has another number of files")
         new = [(record.number(8), record.edek()) for _ in range(count)]
         zone, status = self.going(session)
-        files = {self.rows[it].id: it for it in self.below(zone) if self.rows[it].is_file}
+        files = {self.rows[it].id: it for it in self.files_of(zone)}
         need(len(dict(new)) == count, "an update has a file twice")
         for number, edek in new:
             need(number in files, "an update is of a file outside of its zone")

@@ -195,6 +195,33 @@ for gate in range(256):
 for end in (b"\x00", b"\x02", b"\xff"):
     expect("the end gate", run(log(BASE[:2], end=end)[0]), (0, "1 list d/\n"))
 
+# A zone in a zone, of another key, with a file.
+INNER = [mkdir(row_id(5), b"/z/s"), zone(b"/z/s", b"j"), file(row_id(6), b"/z/s/i", edek(b"j"))]
+INNER_EDEK = EDEK.replace("k@", "j@")
+expect(
+    "a zone in a zone",
+    run(log(BASE + INNER)[0], b"nn a info /z/s/i\nnn a info /z/g\nnn a info /z/s\nnn hdfs zones\n"),
+    (0, f"1 file {row_id(6)} /z/s {INNER_EDEK}\n2 file {row_id(4)} /z {EDEK}\n3 dir {row_id(5)} /z/s j\n4 zones /z:k /z/s:j\n"),
+)
+INNER_MOVED = BASE + INNER + [rename(b"/z/s", b"/z/t"), rename(b"/z/t/i", b"/z/t/h"), rename(b"/z", b"/d/y")]
+expect(
+    "a zone in a zone that moved",
+    run(log(INNER_MOVED)[0], b"nn a info /d/y/t/h\nnn hdfs zones\n"),
+    (0, f"1 file {row_id(6)} /d/y/t {INNER_EDEK}\n2 zones /d/y:k /d/y/t:j\n"),
+)
+# Both are re-encrypted, and each takes updates of its own file.
+BOTH = BASE + INNER + [submit(row_id(7), b"/z", b"k", 1), submit(row_id(8), b"/z/s", b"j", 2)]
+BOTH += [update(row_id(8), [(row_id(6), edek(b"j", MATERIAL, 2))], 0, b"/i"), update(row_id(7), [(row_id(4), NEW)], 0, b"/g")]
+expect(
+    "updates of a zone and of a zone in it",
+    run(log(BOTH)[0], b"nn a info /z/s/i\nnn a info /z/g\nnn hdfs status /z\nnn hdfs status /z/s\n"),
+    (
+        0,
+        f"1 file {row_id(6)} /z/s {INNER_EDEK.replace('@0', '@2')}\n2 file {row_id(4)} /z {NEW_EDEK}\n"
+        "3 status Processing k@1 1 0 no g\n4 status Processing j@2 1 0 no i\n",
+    ),
+)
+
 # Records that don't apply.
 for name, records in {
     "no parent": [mkdir(row_id(5), b"/x/y")],
@@ -208,7 +235,11 @@ for name, records in {
     "no key in a zone": [file(row_id(5), b"/z/h")],
     "a key outside of zones": [file(row_id(5), b"/e", edek(b"k"))],
     "a zone that is not empty": [mkdir(row_id(5), b"/d/c"), zone(b"/d", b"k")],
-    "a zone in a zone": [mkdir(row_id(5), b"/z/s"), zone(b"/z/s", b"k")],
+    "a zone in a zone that is one already": INNER + [remove(b"/z/s/i"), zone(b"/z/s", b"j")],
+    "the key of the zone around the zone": INNER + [file(row_id(7), b"/z/s/h", edek(b"k"))],
+    "a rename into a zone in the zone": INNER + [rename(b"/z/g", b"/z/s/h")],
+    "a rename out of a zone in a zone": INNER + [rename(b"/z/s/i", b"/z/i")],
+    "a rename of a zone in a zone out of it": INNER + [rename(b"/z/s", b"/s")],
     "a file for a zone": [zone(b"/f", b"k")],
     "a zone at no path": [zone(b"/x", b"k")],
     "a removal of the root": [remove(b"/")],
@@ -229,6 +260,7 @@ for name, records in {
     is_damaged(name, BASE + records)
 # Updates that don't apply.
 OTHER = [mkdir(row_id(6), b"/y"), zone(b"/y", b"k"), file(row_id(7), b"/y/g", edek(b"k"))]
+INNER_OTHER = [mkdir(row_id(6), b"/z/s"), zone(b"/z/s", b"k"), file(row_id(7), b"/z/s/g", edek(b"k"))]
 for name, records in {
     "an update of a session that was not submitted": [update(row_id(6), [(row_id(4), NEW)])],
     "an update of a session that was cancelled": [cancel(row_id(5)), update(row_id(5), [(row_id(4), NEW)])],
@@ -241,6 +273,8 @@ for name, records in {
     "an update of a file that was removed": [remove(b"/z/g"), update(row_id(5), [(row_id(4), NEW)])],
     "an update of a file of another zone": OTHER + [update(row_id(5), [(row_id(7), NEW)])],
     "an update of a file of another zone after one that applies": OTHER + [update(row_id(5), [(row_id(4), NEW), (row_id(7), NEW)])],
+    "an update of a file of a zone in the zone": INNER_OTHER + [update(row_id(5), [(row_id(7), edek(b"k"))])],
+    "a rename of a zone in a zone that is being re-encrypted": INNER_OTHER + [rename(b"/z/s", b"/z/t")],
     "an update with a key of another key": [update(row_id(5), [(row_id(4), edek(b"j"))])],
     "an update of a zone that was removed": [remove(b"/z"), update(row_id(5), [], 1)],
 }.items():
