@@ -8,7 +8,7 @@ use Rattle.std.specs.Str.{bytes_eq}
 use Rattle.std.proofs.lemmas.Bool.Decides.{nat_tests}
 use Rattle.std.proofs.lemmas.List.{length-append}
 use Rattle.std.proofs.lemmas.Slice.Eq.{bytes_eq-Decides}
-use Rattle.name_calls.specs.Paths.{is_child, is_prefix, last_name, same_path}
+use Rattle.name_calls.specs.Paths.{is_child, is_prefix, last_name, parent, same_path}
 use Rattle.inode_tree.specs.declared.rows.Row.{Row}
 use Rattle.inode_tree.specs.Below.{rows_below, seen_from}
 use Rattle.inode_tree.specs.Listing.{child_of, children}
@@ -17,8 +17,10 @@ use Rattle.inode_tree.proofs.Seeks.{same-is}
 use Rattle.inode_tree.proofs.ZoneLemmas.{prefix-itself, prefix-whole}
 use Rattle.snap_store.proofs.Zones.{prefix-length}
 use Rattle.name_store.proofs.CauseLemmas.{both, join}
-use Rattle.name_core.specs.Reads.{other_zone, zone_in_or_above}
+use Rattle.name_core.specs.Reads.{path_of_zone, zone_in_or_above, zone_over}
 use Rattle.name_core.proofs.DeleteLaws.{swap-bytes}
+use Rattle.name_core.proofs.LawLemmas.{prefix-parent}
+use Rattle.name_core.proofs.SnapshotZones.{over-parent}
 
 -- a path at or below the directory, seen from the directory
 
@@ -284,18 +286,73 @@ zones-below (x ∷ rows) p q = go (is_prefix p x.path) refl (zones-below rows p 
     go false h zones =
         subst (λ (b : Bool). AreZones p (cond (is_marked x.row && b) (Some (longer x whole)) whole) seen (zone_of (x ∷ rows) p)) (sym (prefix-beside p x.path q h)) (beside h (is_zone_over p x) refl zones)
 
+-- if the zone of the directory is above it, it is that of its parent
+
+first-short : (x : Entry) (o : Option Entry) (n : ℕ) → length (longer x o).path < n → length x.path < n
+first-short x None n h = h
+first-short x (Some f) n h = go (nat_lt (length x.path) (length f.path)) refl h
+  where
+    less : nat_lt (length x.path) (length f.path) ≡ true → length f.path < n → length x.path < n
+    less e g = grind (arith, nat_tests, e, g)
+
+    go : (b : Bool) → nat_lt (length x.path) (length f.path) ≡ b → length (cond b f x).path < n → length x.path < n
+    go true e g = less e g
+    go false e g = g
+
+rest-short : (x f : Entry) (n : ℕ) → length (longer x (Some f)).path < n → length f.path < n
+rest-short x f n h = go (nat_lt (length x.path) (length f.path)) refl h
+  where
+    more : nat_lt (length x.path) (length f.path) ≡ false → length x.path < n → length f.path < n
+    more e g = grind (arith, nat_tests, e, g)
+
+    go : (b : Bool) → nat_lt (length x.path) (length f.path) ≡ b → length (cond b f x).path < n → length f.path < n
+    go true e g = g
+    go false e g = more e g
+
+-- a row with a shorter path is a zone over the directory if it is one over its parent
+over-up : (p : List (List ℕ)) (x : Entry) → (is_zone_over p x ≡ true → length x.path < length p) → is_zone_over p x ≡ is_zone_over (parent p) x
+over-up p x short = go (same_path x.path p) refl
+  where
+    never : same_path x.path p ≡ true → is_marked x.row ≡ true → ⊥
+    never here marked =
+        let path : x.path ≡ p = same-is x.path p here in
+        let size : length x.path ≡ length p = ap length path in
+        let less = short (join (is_marked x.row) (is_prefix x.path p) marked (ap (λ (q : List (List ℕ)). is_prefix q p) path ∙ prefix-itself p)) in
+        absurd (omega (arith, less, size))
+
+    plain : same_path x.path p ≡ true → (m : Bool) → is_marked x.row ≡ m → (m && is_prefix x.path p) ≡ (m && is_prefix x.path (parent p))
+    plain here true marked = absurd (never here marked)
+    plain here false marked = refl
+
+    go : (b : Bool) → same_path x.path p ≡ b → is_zone_over p x ≡ is_zone_over (parent p) x
+    go true here = plain here (is_marked x.row) refl
+    go false other = ap (λ (b : Bool). is_marked x.row && b) (prefix-parent x.path p other)
+
+zone-up : (rows : List Entry) (p : List (List ℕ)) → IsAbove p (zone_of rows p) → zone_of rows p ≡ zone_of rows (parent p)
+zone-up [] p h = refl
+zone-up (x ∷ rows) p h =
+    let short = parts (is_zone_over p x) refl (zone_of rows p) h in
+    let over = over-up p x short.0 in
+    let rest = zone-up rows p short.1 in
+    λ i. cond (over i) (Some (longer x (rest i))) (rest i)
+  where
+    parts : (b : Bool) → is_zone_over p x ≡ b → (o : Option Entry) → IsAbove p (cond b (Some (longer x o)) o) → (is_zone_over p x ≡ true → length x.path < length p) × IsAbove p o
+    parts true over None h = ((λ e. h), tt)
+    parts true over (Some f) h = ((λ e. first-short x (Some f) (length p) h), rest-short x f (length p) h)
+    parts false over o h = ((λ e. absurd (cc (e, over))), h)
+
+over-above : (rows : List Entry) (p : List (List ℕ)) → IsAbove p (zone_of rows p) → zone_over rows p ≡ path_of_zone rows p
+over-above rows [] h = none (zone_of rows []) h
+  where
+    none : (o : Option Entry) → IsAbove [] o → None ≡ option_map (λ (e : Entry). e.path) o
+    none None h = refl
+    none (Some e) h = absurd (omega (arith, h))
+over-above rows (x ∷ p) h = over-parent rows (x ∷ p) (λ e. cc) ∙ ap (option_map (λ (e : Entry). e.path)) (sym (zone-up rows (x ∷ p) h))
+
 -- the path of the zone, seen from the root
-pub zone-path-below : (rows : List Entry) (p q : List (List ℕ)) → zone_in_or_above rows p (zone_of (rows_below rows p) q) ≡ option_map (λ (e : Entry). e.path) (zone_of rows (p ++ q))
+pub zone-path-below : (rows : List Entry) (p q : List (List ℕ)) → zone_in_or_above rows p (zone_of (rows_below rows p) q) ≡ path_of_zone rows (p ++ q)
 zone-path-below rows p q = go (zone_of (rows_below rows p) q) (zones-below rows p q)
   where
-    apart : (e : Entry) → length e.path < length p → (b : Bool) → same_path e.path p ≡ b → cond b None (Some e.path) ≡ Some e.path
-    apart e h true is = let size : length e.path ≡ length p = ap length (same-is e.path p is) in absurd (omega (arith, h, size))
-    apart e h false is = refl
-
-    other : (o : Option Entry) → IsAbove p o → other_zone p o ≡ option_map (λ (e : Entry). e.path) o
-    other None h = refl
-    other (Some e) h = apart e h (same_path e.path p) refl
-
-    go : (seen : Option Entry) → AreZones p (zone_of rows (p ++ q)) seen (zone_of rows p) → zone_in_or_above rows p seen ≡ option_map (λ (e : Entry). e.path) (zone_of rows (p ++ q))
-    go None zones = other (zone_of rows p) zones.1 ∙ ap (option_map (λ (e : Entry). e.path)) (sym zones.0)
+    go : (seen : Option Entry) → AreZones p (zone_of rows (p ++ q)) seen (zone_of rows p) → zone_in_or_above rows p seen ≡ path_of_zone rows (p ++ q)
+    go None zones = over-above rows p zones.1 ∙ ap (option_map (λ (e : Entry). e.path)) (sym zones.0)
     go (Some e) zones = ap Some (sym zones.2) ∙ ap (option_map (λ (f : Entry). f.path)) (sym zones.1)

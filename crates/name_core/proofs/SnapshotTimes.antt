@@ -2,7 +2,7 @@
 use Rattle.std.proofs.Common.{◌≡◌, ℕ, ◌+◌, ◌≤◌, zero, suc, Bool, true, false, cond, not, ◌&&◌, ◌||◌, List, [], ◌∷◌, ◌++◌, drop, length, Option, Some, None, is_none, refl, sym, ap, ◌∙◌, subst, arith}
 use Rattle.std.specs.Prelude.{◌==◌}
 use Rattle.std.specs.List.{All, AllByRecursion, filter, find, list_all, list_any}
-use Rattle.std.specs.Option.{option_map_or}
+use Rattle.std.specs.Option.{option_map, option_map_or}
 use Rattle.std.specs.Ordering.{is_lt, nat_cmp}
 use Rattle.std.specs.Str.{bytes_eq}
 use Rattle.std.proofs.lemmas.Bool.Decides.{nat_tests}
@@ -18,7 +18,7 @@ use Rattle.inode_tree.specs.Below.{at_or_below}
 use Rattle.inode_tree.specs.Listing.{children}
 use Rattle.inode_tree.specs.Moves.{CanMove, renamed}
 use Rattle.inode_tree.specs.Rows.{Entry, IsRows, entry_of, has_children, is_dir, is_dir_at, is_marked, is_zone_over, longer, put, row_at, set_kind, with_kind, zone_of}
-use Rattle.inode_tree.proofs.MovedLaws.{free as all-off, placed, row-renamed}
+use Rattle.inode_tree.proofs.MovedLaws.{free as all-off, off-parent, placed, row-renamed}
 use Rattle.inode_tree.proofs.MovedRows.{IsOff}
 use Rattle.inode_tree.proofs.MovedZones.{zone-elsewhere}
 use Rattle.inode_tree.proofs.Seeks.{same-is, same-itself}
@@ -30,19 +30,19 @@ use Rattle.edit_ops.specs.declared.ops.EditOp.TheVariants as op
 use Rattle.name_calls.specs.declared.calls.NameRefusal.{NameRefusal}
 use Rattle.name_calls.specs.declared.calls.NameRefusal.TheVariants as refusal
 use Rattle.name_calls.specs.declared.calls.NameReply.TheVariants as reply
-use Rattle.name_store.specs.Causes.{allowed_causes, directory_causes, disallow_causes, first_cause, id_at, id_of, kept_causes, removal_causes, row_causes, to_be_made, unsnap_causes}
+use Rattle.name_store.specs.Causes.{allowed_causes, directory_causes, disallow_causes, first_cause, id_at, id_of, is_root, kept_causes, removal_causes, row_causes, to_be_made, unsnap_causes}
 use Rattle.name_store.specs.Table.{IsTable, NameTable, after_table, allows, ids_once, may_update, new_directory, new_file}
 use Rattle.name_store.proofs.CauseLemmas.{IsDisallowable, IsMarkable, allowed, both, clear, directory, disallowable, holds-none, join, makeable, markable, none-of-both, none-of-join, renamable}
 use Rattle.name_store.proofs.IdLemmas.{kind-id}
-use Rattle.name_store.proofs.RowLemmas.{directory-entry}
-use Rattle.name_core.specs.Reads.{answer_unless, entry_causes, info_answer, info_reply, list_answer, list_reply, other_zone, shown_at, snapshot_rows, zone_in_or_above}
+use Rattle.name_store.proofs.RowLemmas.{directory-entry, entry-at}
+use Rattle.name_core.specs.Reads.{answer_unless, entry_causes, info_answer, info_reply, list_answer, list_reply, shown_at, snapshot_rows, zone_in_or_above, zone_over}
 use Rattle.name_core.specs.Laws.{SnapshotsTellTheSame}
 use Rattle.name_core.proofs.DeleteLaws.{other-row, other-zone}
 use Rattle.name_core.proofs.EdekRows.{all-files, row-edeks, zone-edeks}
 use Rattle.name_core.proofs.LawLemmas.{prefix-parent, row-other, zone-same}
 use Rattle.name_core.proofs.SnapshotLaws.{behind-none, missing, stays}
 use Rattle.name_core.proofs.SnapshotZones.{equal}
-use Rattle.name_core.proofs.ZoneLaws.{LiesAt, OnlyAt, kind-path, only-there, zones-at}
+use Rattle.name_core.proofs.ZoneLaws.{kind-path}
 
 -- a snapshot that is read
 record IsRead (t : NameTable) (p : List (List ℕ)) (name : List ℕ) : Type 0 where
@@ -66,16 +66,19 @@ is-read t p name free =
     go dir may None is h = absurd cc
     go dir may (Some was) is h = record { dir = dir; allowed = may; was = was; named = is }
 
--- the directory of the snapshot, and the zone that it lies in, are the same in another table
+-- the directory of the snapshot, and the zone over it, are the same in another table
 record IsSame (t t' : NameTable) (p : List (List ℕ)) : Type 0 where
   id : id_at t'.rows p ≡ id_at t.rows p
   dir : is_dir_at (row_at t'.rows p) ≡ true
-  zone : other_zone p (zone_of t'.rows p) ≡ other_zone p (zone_of t.rows p)
+  zone : zone_over t'.rows p ≡ zone_over t.rows p
   allowed : is_among t'.snaps.allowed (id_at t.rows p) ≡ true
 
-same-rows : (t t' : NameTable) (p : List (List ℕ)) → is_dir_at (row_at t.rows p) ≡ true → row_at t'.rows p ≡ row_at t.rows p → zone_of t'.rows p ≡ zone_of t.rows p
+over-by : (rows' rows : List Entry) (p : List (List ℕ)) → zone_of rows' (parent p) ≡ zone_of rows (parent p) → zone_over rows' p ≡ zone_over rows p
+over-by rows' rows p zone = ap (λ (o : Option Entry). cond (is_root p) None (option_map (λ (e : Entry). e.path) o)) zone
+
+same-rows : (t t' : NameTable) (p : List (List ℕ)) → is_dir_at (row_at t.rows p) ≡ true → row_at t'.rows p ≡ row_at t.rows p → zone_of t'.rows (parent p) ≡ zone_of t.rows (parent p)
     → is_among t'.snaps.allowed (id_at t.rows p) ≡ true → IsSame t t' p
-same-rows t t' p dir row zone may = record { id = ap id_of row; dir = ap is_dir_at row ∙ dir; zone = ap (other_zone p) zone; allowed = may }
+same-rows t t' p dir row zone may = record { id = ap id_of row; dir = ap is_dir_at row ∙ dir; zone = over-by t'.rows t.rows p zone; allowed = may }
 
 -- a row that is put in
 
@@ -88,7 +91,7 @@ put-apart rows q p none dir = go (same_path q p) refl
 
 same-put : (t : NameTable) (p : List (List ℕ)) (e : Entry) → is_dir_at (row_at t.rows p) ≡ true → is_among t.snaps.allowed (id_at t.rows p) ≡ true → is_marked e.row ≡ false → row_at t.rows e.path ≡ None
     → IsSame t (record t { rows = put e t.rows }) p
-same-put t p e dir may plain none = same-rows t (record t { rows = put e t.rows }) p dir (row-other e t.rows p (put-apart t.rows e.path p none dir)) (zone-same e t.rows p plain) may
+same-put t p e dir may plain none = same-rows t (record t { rows = put e t.rows }) p dir (row-other e t.rows p (put-apart t.rows e.path p none dir)) (zone-same e t.rows (parent p) plain) may
 
 -- rows that are taken away
 
@@ -144,10 +147,10 @@ off-at q p (x ∷ es) off dir = go (same_path x.path p) refl dir (off-at q p es 
     go true is dir rest = ap (is_prefix q) (sym (same-is x.path p is)) ∙ off.0
     go false is dir rest = rest dir
 
--- a directory that doesn't move stays, and its zone too
+-- a directory that doesn't move stays, and the zone over it too
 same-rename : (t : NameTable) (p a b : List (List ℕ)) → IsRows t.rows → CanMove t.rows a b → is_prefix a p ≡ false → is_dir_at (row_at t.rows p) ≡ true → is_among t.snaps.allowed (id_at t.rows p) ≡ true
     → IsSame t (after_table t (op.Rename a b)) p
-same-rename t p a b good can out dir may = same-rows t (after_table t (op.Rename a b)) p dir row (zone-elsewhere t.rows a b good can p out off) may
+same-rename t p a b good can out dir may = same-rows t (after_table t (op.Rename a b)) p dir row (zone-elsewhere t.rows a b good can (parent p) (off-parent a p out) (off-parent b p off)) may
   where
     off : is_prefix b p ≡ false
     off = off-at b p t.rows (all-off t.rows a b (placed t.rows good) can) dir
@@ -178,6 +181,18 @@ kept-row (x ∷ es) p id kind dir h =
         × (is_dir_at (cond b (Some (with_kind id kind x).row) (row_at (set_kind es id kind) p)) ≡ true)
     go true h rest = (kind-id id kind x, of-dir (x.row.id == id) h)
     go false h rest = rest h
+
+-- an id is that of the row at the path
+abbrev OnlyAt : List (List ℕ) → ℕ → List Entry → Type 0
+OnlyAt p id es = All (λ (e : Entry). e.row.id ≡ id → e.path ≡ p) es
+
+only-there : (rows : List Entry) (p : List (List ℕ)) (row : Row) → IsRows rows → row_at rows p ≡ Some row → OnlyAt p row.id rows
+only-there rows p row good stands i d b is =
+    let at = entry-at rows p row good stands in
+    path-of (sym (good.once i d b) ∙ ap (entry_of rows) is ∙ at.2) at.3
+  where
+    path-of : {e f : Entry} → Some e ≡ Some f → f.path ≡ p → e.path ≡ p
+    path-of {e} {f} h k = let same : e ≡ f = cc in ap (λ (x : Entry). x.path) same ∙ k
 
 -- another row with another kind is no zone of the path
 zone-beside : (es : List Entry) (p q : List (List ℕ)) (id : ℕ) (kind : Kind) → OnlyAt q id es → is_prefix q p ≡ false → zone_of (set_kind es id kind) p ≡ zone_of es p
@@ -237,7 +252,17 @@ parent-dir rows (x ∷ es) p all h = go (same_path x.path p) refl h (parent-dir 
     go true is h rest = ap (λ (y : List (List ℕ)). is_dir_at (row_at rows (parent y))) (sym (same-is x.path p is)) ∙ All-head (λ (e : Entry). is_dir_at (row_at rows (parent e.path)) ≡ true) x es all
     go false is h rest = rest h
 
--- a directory without children is not above another one
+-- a directory without children is not the parent of one
+no-parent : (rows : List Entry) (q : List (List ℕ)) (x : List ℕ) (p : List (List ℕ)) → has_children rows q ≡ false → is_dir_at (row_at rows (x ∷ p)) ≡ true → same_path q (parent (x ∷ p)) ≡ false
+no-parent rows q x p none dir = go (same_path q (parent (x ∷ p))) refl
+  where
+    go : (b : Bool) → same_path q (parent (x ∷ p)) ≡ b → b ≡ false
+    go true is =
+        let child : is_child q (x ∷ p) ≡ true = ap (λ (y : List (List ℕ)). is_child y (x ∷ p)) (same-is q (parent (x ∷ p)) is) ∙ child-of-parent x p in
+        let f : true ≡ false = sym (any-at (is_child q) rows (x ∷ p) dir child) ∙ none in absurd cc
+    go false is = refl
+
+-- nor above another one
 childless : (rows : List Entry) (q : List (List ℕ)) (k : ℕ) (p : List (List ℕ)) → IsRows rows → has_children rows q ≡ false → length p ≤ k → is_dir_at (row_at rows p) ≡ true → same_path q p ≡ false
     → is_prefix q p ≡ false
 childless rows q k [] good none short dir apart = root q apart
@@ -247,20 +272,21 @@ childless rows q k [] good none short dir apart = root q apart
     root (y ∷ q) h = refl
 childless rows q zero (x ∷ p) good none short dir apart = absurd (omega (arith, short))
 childless rows q (suc k) (x ∷ p) good none short dir apart =
-    prefix-parent q (x ∷ p) apart ∙ go (same_path q (parent (x ∷ p))) refl (childless rows q k (parent (x ∷ p)) good none (let size = parent-shorter x p in omega (arith, short, size)) (parent-dir rows rows (x ∷ p) good.housed dir))
-  where
-    go : (b : Bool) → same_path q (parent (x ∷ p)) ≡ b → (same_path q (parent (x ∷ p)) ≡ false → is_prefix q (parent (x ∷ p)) ≡ false) → is_prefix q (parent (x ∷ p)) ≡ false
-    go true is rest =
-        let child : is_child q (x ∷ p) ≡ true = ap (λ (y : List (List ℕ)). is_child y (x ∷ p)) (same-is q (parent (x ∷ p)) is) ∙ child-of-parent x p in
-        let f : true ≡ false = sym (any-at (is_child q) rows (x ∷ p) dir child) ∙ none in absurd cc
-    go false is rest = rest is
+    prefix-parent q (x ∷ p) apart
+    ∙ childless rows q k (parent (x ∷ p)) good none (let size = parent-shorter x p in omega (arith, short, size)) (parent-dir rows rows (x ∷ p) good.housed dir) (no-parent rows q x p none dir)
 
-lies-other : (p : List (List ℕ)) (o : Option Entry) → LiesAt p o → other_zone p o ≡ None
-lies-other p None h = refl
-lies-other p (Some e) h = ap (λ (b : Bool). cond b None (Some e.path)) (ap (λ (q : List (List ℕ)). same_path q p) h ∙ same-itself p)
+-- the zone over a directory stays when a directory without children becomes a zone
+zone-over-stays : (rows : List Entry) (q : List (List ℕ)) (id : ℕ) (kind : Kind) (p : List (List ℕ)) → IsRows rows → OnlyAt q id rows → has_children rows q ≡ false → is_dir_at (row_at rows p) ≡ true
+    → zone_over (set_kind rows id kind) p ≡ zone_over rows p
+zone-over-stays rows q id kind [] good only none dir = refl
+zone-over-stays rows q id kind (x ∷ p) good only none dir = over-by (set_kind rows id kind) rows (x ∷ p) (zone-beside rows (parent (x ∷ p)) q id kind only out)
+  where
+    out : is_prefix q (parent (x ∷ p)) ≡ false
+    out = childless rows q (length (parent (x ∷ p))) (parent (x ∷ p)) good none (omega arith) (parent-dir rows rows (x ∷ p) good.housed dir) (no-parent rows q x p none dir)
 
 same-zone : (t : NameTable) (p q : List (List ℕ)) (key : KeyName) (name : List ℕ) → IsRows t.rows → IsRead t p name → IsMarkable t.rows q → IsSame t (after_table t (op.Zone q key)) p
-same-zone t p q key name good r may = record { id = kept.0; dir = kept.1; zone = go (same_path q p) refl; allowed = r.allowed }
+same-zone t p q key name good r may =
+    record { id = kept.0; dir = kept.1; zone = zone-over-stays t.rows q (id_at t.rows q) (Dir (Some key)) p good only may.empty r.dir; allowed = r.allowed }
   where
     kept : (id_of (row_at (set_kind t.rows (id_at t.rows q) (Dir (Some key))) p) ≡ id_at t.rows p) × (is_dir_at (row_at (set_kind t.rows (id_at t.rows q) (Dir (Some key))) p) ≡ true)
     kept = kept-row t.rows p (id_at t.rows q) (Dir (Some key)) refl r.dir
@@ -271,14 +297,6 @@ same-zone t p q key name good r may = record { id = kept.0; dir = kept.1; zone =
         there : (o : Option Row) → row_at t.rows q ≡ o → is_dir_at o ≡ true → OnlyAt q (id_of o) t.rows
         there None is h = absurd cc
         there (Some row) is h = only-there t.rows q row good is
-
-    go : (b : Bool) → same_path q p ≡ b → other_zone p (zone_of (set_kind t.rows (id_at t.rows q) (Dir (Some key))) p) ≡ other_zone p (zone_of t.rows p)
-    go true is =
-        let same : q ≡ p = same-is q p is in
-        let none : zone_of t.rows p ≡ None = ap (zone_of t.rows) (sym same) ∙ may.outside in
-        lies-other p (zone_of (set_kind t.rows (id_at t.rows q) (Dir (Some key))) p) (zones-at t.rows p (id_at t.rows q) (Dir (Some key)) (subst (λ (x : List (List ℕ)). OnlyAt x (id_at t.rows q) t.rows) same only) none)
-        ∙ sym (ap (other_zone p) none)
-    go false is = ap (other_zone p) (zone-beside t.rows p q (id_at t.rows q) (Dir (Some key)) only (childless t.rows q (length p) p good may.empty (omega arith) r.dir is))
 
 -- the directories that may have snapshots
 
@@ -333,7 +351,7 @@ same-after t (op.File id q edek) p name good may r =
 same-after t (op.Remove q) p name good may r =
     let none = holds-none t.rows t.snaps q (none-of-both (removal_causes t.rows q) (kept_causes t.rows t.snaps q) (allowed t (op.Remove q) refl may).free).1 in
     let out = apart-from t p q name good.rules r none in
-    same-rows t (after_table t (op.Remove q)) p r.dir (other-row q p t.rows out.1) (other-zone q p t.rows out.1)
+    same-rows t (after_table t (op.Remove q)) p r.dir (other-row q p t.rows out.1) (other-zone q (parent p) t.rows (off-parent q p out.1))
     (among-kept (λ (id : ℕ). not (at_or_below t.rows id q)) t.snaps.allowed (id_at t.rows p) (ap not out.0) r.allowed)
 same-after t (op.Rename a b) p name good may r =
     let free = renamable t.rows t.snaps t.statuses a b (allowed t (op.Rename a b) refl may).free in
@@ -347,7 +365,7 @@ same-after t (op.Unsnap q n) p name good may r = same-rows t (after_table t (op.
 same-after t (op.Submit session q noted) p name good may r = same-rows t (after_table t (op.Submit session q noted)) p r.dir refl refl r.allowed
 same-after t (op.Update session failed mark files) p name good may r =
     let files-are = all-files t session files good.rules (both (ids_once files) (list_all (may_update t session) files) (allowed t (op.Update session failed mark files) refl may).fits).1 in
-    same-rows t (after_table t (op.Update session failed mark files)) p r.dir (row-edeks files t.rows p files-are r.dir) (zone-edeks files t.rows p files-are) r.allowed
+    same-rows t (after_table t (op.Update session failed mark files)) p r.dir (row-edeks files t.rows p files-are r.dir) (zone-edeks files t.rows (parent p) files-are) r.allowed
 same-after t (op.Cancel session) p name good may r = same-rows t (after_table t (op.Cancel session)) p r.dir refl refl r.allowed
 same-after t (op.Complete session) p name good may r = same-rows t (after_table t (op.Complete session)) p r.dir refl refl r.allowed
 

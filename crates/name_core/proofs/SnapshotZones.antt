@@ -1,25 +1,24 @@
 -- The zone that an entry of a snapshot lay in.
-use Rattle.std.proofs.Common.{◌≡◌, ℕ, ◌≤◌, Bool, true, false, cond, List, [], ◌∷◌, ◌++◌, length, take, Option, Some, None, is_some, IsSome, refl, sym, ap, ◌∙◌, subst, arith}
+use Rattle.std.proofs.Common.{◌≡◌, ℕ, ◌≤◌, suc, Bool, true, false, cond, List, [], ◌∷◌, ◌++◌, length, take, Option, Some, None, is_some, refl, sym, ap, ◌∙◌, subst, arith}
 use Rattle.std.specs.Prelude.{◌==◌}
 use Rattle.std.specs.List.{All, find}
 use Rattle.std.specs.Option.{option_map, option_map_or}
 use Rattle.std.specs.Str.{bytes_eq}
 use Rattle.std.proofs.lemmas.Bool.Decides.{nat_tests}
-use Rattle.std.proofs.lemmas.List.Elements.{All-cons, All-head, All-nil, All-tail}
+use Rattle.std.proofs.lemmas.List.Elements.{All-head, All-nil, All-tail}
 use Rattle.std.proofs.lemmas.Slice.Eq.{bytes_eq-Decides}
-use Rattle.name_calls.specs.Paths.{is_prefix, is_relative, same_path}
+use Rattle.name_calls.specs.Paths.{is_prefix, is_relative, parent}
 use Rattle.name_calls.specs.declared.read_paths.SnapPart.{SnapPart}
 use Rattle.inode_tree.specs.declared.rows.Row.{Row}
-use Rattle.inode_tree.specs.Rows.{AllAfter, Entry, IsRising, IsRows, entry_of, is_marked, is_zone_over, longer, row_at, zone_id, zone_of}
-use Rattle.inode_tree.proofs.Seeks.{before-not-same, same-is, same-itself}
+use Rattle.inode_tree.specs.Rows.{Entry, IsRows, is_marked, is_zone_over, longer, row_at, zone_of}
 use Rattle.snap_store.specs.Snapshots.{Snapshot, is_named, snapshot_named, zone_depth}
 use Rattle.snap_store.proofs.Zones.{prefix-length}
 use Rattle.name_store.specs.Causes.{id_at, id_of}
 use Rattle.name_store.specs.Table.{IsTable, NameTable, path_of}
 use Rattle.name_store.proofs.CauseLemmas.{both}
 use Rattle.name_store.proofs.RowLemmas.{entry-at}
-use Rattle.name_core.specs.Reads.{other_zone, snapshot_rows, zone_in_or_above, zone_in_snapshot}
-use Rattle.name_core.proofs.RowLemmas.{HoldsOf, zone-holds, zone-row, zone-stands}
+use Rattle.name_core.specs.Reads.{path_of_zone, snapshot_rows, zone_in_or_above, zone_in_snapshot, zone_over}
+use Rattle.name_core.proofs.RowLemmas.{HoldsOf, zone-holds}
 
 -- the directory of a snapshot
 
@@ -74,9 +73,9 @@ prefix-take (x ∷ a) (y ∷ p) h =
     let same : x ≡ y = (bytes_eq-Decides x y).0 parts.0 in
     λ i. sym same i ∷ prefix-take a p parts.1 i
 
-zone-over : (es : List Entry) (p : List (List ℕ)) → HoldsOf (λ (e : Entry). is_prefix e.path p ≡ true) (zone_of es p)
-zone-over [] p = tt
-zone-over (e ∷ es) p = go (is_zone_over p e) refl (zone_of es p) (zone-over es p)
+zone-prefix : (es : List Entry) (p : List (List ℕ)) → HoldsOf (λ (e : Entry). is_prefix e.path p ≡ true) (zone_of es p)
+zone-prefix [] p = tt
+zone-prefix (e ∷ es) p = go (is_zone_over p e) refl (zone_of es p) (zone-prefix es p)
   where
     one : (t : Bool) (f : Entry) → is_prefix e.path p ≡ true → is_prefix f.path p ≡ true → is_prefix (cond t f e).path p ≡ true
     one true f h g = g
@@ -96,7 +95,7 @@ pub record ZoneThere (t : NameTable) (p : List (List ℕ)) (part : SnapPart) (n 
 pub zone-there : (t : NameTable) (p : List (List ℕ)) (part : SnapPart) (n : ℕ) → IsTable t → is_some (row_at t.rows p) ≡ true → Some n ≡ zone_depth (snapshot_rows t p part.name) part.below
     → ZoneThere t p part n
 zone-there t p part n good stands h =
-    go (zone_of (snapshot_rows t p part.name) part.below) refl (zone-over (snapshot_rows t p part.name) part.below)
+    go (zone_of (snapshot_rows t p part.name) part.below) refl (zone-prefix (snapshot_rows t p part.name) part.below)
     (zone-holds (λ (e : Entry). is_relative (p ++ e.path) ≡ true) part.below (snapshot_rows t p part.name) (whole-rows t p part.name good stands)) (sym h)
   where
     go : (o : Option Entry) → zone_of (snapshot_rows t p part.name) part.below ≡ o → HoldsOf (λ (e : Entry). is_prefix e.path part.below ≡ true) o → HoldsOf (λ (e : Entry). is_relative (p ++ e.path) ≡ true) o
@@ -111,52 +110,11 @@ zone-there t p part n good stands h =
           zone = ap (zone_in_or_above t.rows p) is ∙ ap (λ (q : List (List ℕ)). Some (p ++ q)) (sym path);
         }
 
--- the zone other than the directory itself
+-- the zone over the directory
 
--- the directory itself is the zone
-pub zone-itself : (rows : List Entry) (p : List (List ℕ)) (id : ℕ) → IsRows rows → is_some (row_at rows p) ≡ true → zone_id rows p ≡ Some id → id ≡ id_at rows p → other_zone p (zone_of rows p) ≡ None
-zone-itself rows p id good stands zone same = ap (other_zone p) (sym (zone-row rows p id good zone) ∙ ap (entry_of rows) (same ∙ ap id_of row.1) ∙ at.2) ∙ ap (λ (b : Bool). cond b None (Some at.0.path)) here
+pub over-parent : (rows : List Entry) (p : List (List ℕ)) → (p ≡ [] → ⊥) → zone_over rows p ≡ path_of_zone rows (parent p)
+over-parent rows [] h = absurd (h refl)
+over-parent rows (x ∷ p) h = ap (λ (b : Bool). cond b None (path_of_zone rows (parent (x ∷ p)))) (some-names (length p))
   where
-    row : (row : Row) × (row_at rows p ≡ Some row)
-    row = some-at rows p stands
-
-    at : (dir : Entry) × (dir.row ≡ row.0) × (entry_of rows row.0.id ≡ Some dir) × (dir.path ≡ p)
-    at = entry-at rows p row.0 good row.1
-
-    here : same_path at.0.path p ≡ true
-    here = ap (λ (q : List (List ℕ)). same_path q p) at.3 ∙ same-itself p
-
--- each row is that at its path
-rows-found : (es : List Entry) → IsRising es → All (λ (e : Entry). row_at es e.path ≡ Some e.row) es
-rows-found [] r = All-nil (λ (e : Entry). row_at [] e.path ≡ Some e.row)
-rows-found (x ∷ es) r =
-    All-cons (λ (e : Entry). row_at (x ∷ es) e.path ≡ Some e.row) x es (ap (λ (b : Bool). cond b (Some x.row) (row_at es x.path)) (same-itself x.path)) (after es r.0 (rows-found es r.1))
-  where
-    after : (fs : List Entry) → AllAfter x.path fs → All (λ (e : Entry). row_at es e.path ≡ Some e.row) fs → All (λ (e : Entry). row_at (x ∷ es) e.path ≡ Some e.row) fs
-    after [] a all = All-nil (λ (e : Entry). row_at (x ∷ es) e.path ≡ Some e.row)
-    after (f ∷ fs) a all =
-        All-cons (λ (e : Entry). row_at (x ∷ es) e.path ≡ Some e.row) f fs
-        (ap (λ (b : Bool). cond b (Some x.row) (row_at es f.path)) (before-not-same x.path f.path a.0) ∙ All-head (λ (e : Entry). row_at es e.path ≡ Some e.row) f fs all)
-        (after fs a.1 (All-tail (λ (e : Entry). row_at es e.path ≡ Some e.row) f fs all))
-
--- the zone is above the directory
-pub zone-other : (rows : List Entry) (p : List (List ℕ)) (id : ℕ) → IsRows rows → zone_id rows p ≡ Some id → (id ≡ id_at rows p → ⊥)
-    → other_zone p (zone_of rows p) ≡ option_map (λ (e : Entry). e.path) (entry_of rows id)
-zone-other rows p id good zone differs =
-    go (zone_of rows p) (zone-holds (λ (e : Entry). row_at rows e.path ≡ Some e.row) p rows (rows-found rows good.rising)) zone ∙ ap (option_map (λ (e : Entry). e.path)) (sym (zone-row rows p id good zone))
-  where
-    apart : (e : Entry) → row_at rows e.path ≡ Some e.row → e.row.id ≡ id → (b : Bool) → same_path e.path p ≡ b → cond b None (Some e.path) ≡ Some e.path
-    apart e at is true same =
-        absurd (differs (sym is ∙ ap id_of (sym at) ∙ ap (id_at rows) (same-is e.path p same)))
-    apart e at is false same = refl
-
-    go : (o : Option Entry) → HoldsOf (λ (e : Entry). row_at rows e.path ≡ Some e.row) o → option_map (λ (e : Entry). e.row.id) o ≡ Some id → other_zone p o ≡ option_map (λ (e : Entry). e.path) o
-    go None at is = absurd cc
-    go (Some e) at is = apart e at (cc is) (same_path e.path p) refl
-
-pub path-some : (rows : List Entry) (p : List (List ℕ)) (id : ℕ) → IsRows rows → zone_id rows p ≡ Some id → is_some (option_map (λ (e : Entry). e.path) (entry_of rows id)) ≡ true
-path-some rows p id good zone = go (entry_of rows id) (zone-stands rows p id good zone)
-  where
-    go : (o : Option Entry) → IsSome o → is_some (option_map (λ (e : Entry). e.path) o) ≡ true
-    go None h = absurd cc
-    go (Some e) h = refl
+    some-names : (n : ℕ) → (suc n == 0) ≡ false
+    some-names n = grind (arith, nat_tests)
