@@ -3,6 +3,7 @@ ghost use Rattle.cell_tests.specs.Issuing.{Issued};
 
 use crate::counter::Counter;
 use crate::issuer::{Issuer, IssuerCall};
+use crate::registering::run_registry;
 use crate::workers::run_workers;
 use hist_cell::{Cell, Naming, Opened, Pass};
 use std::marker::Brand;
@@ -150,5 +151,20 @@ fn a_dropped_pass_leaves_its_calls(rt: HostRuntime) -> Result<(), Fail> {
     let opened = Opened::new(rt.alloc(), Counter { count: 0 })?;
     let (met, seen, count) = count_and_drop::<Brand, _>(&rt, opened, 100);
     assert!(rt; met == 100 && seen == 201 && count == 201);
+    Ok(())
+}
+
+// Each number that is registered was issued by a call that the registry's own pass has then seen, and a
+// pass that it lends has seen as much.
+#[test]
+fn a_registry_sees_what_was_issued(rt: HostRuntime) -> Result<(), Fail> {
+    let opened = Opened::new(rt.alloc(), Issuer { next: 3 })?;
+    let (issuer, all) = run_registry::<Brand, _>(&rt, rt.alloc(), opened)?;
+    assert!(rt; issuer.next == 6 && all.count == 3 && all.seen == 3);
+    assert!(rt;
+        (all.one.number == 3 && all.two.number == 4) || (all.one.number == 4 && all.two.number == 3)
+    );
+    assert!(rt; all.one.seen.max(all.two.seen) == 2);
+    assert!(rt; all.last.number == 5 && all.last.lent == 2 && all.last.seen == 3);
     Ok(())
 }
