@@ -46,6 +46,14 @@ def row_records(kind, paths, first_id):
     return b"".join([record.pack(1, size, kind, number, length, path, rest) for number, path in enumerate(paths, first_id)])
 
 
+def path_bytes(path):
+    return len(path).to_bytes(2, "big") + path
+
+
+def zone_records(paths):
+    return frames([b"\x06" + path_bytes(it) + b"\x01k" for it in paths])
+
+
 def removal_records(paths):
     length = len(paths[0])
     record = struct.Struct(f">BIBH{length}s")
@@ -53,29 +61,33 @@ def removal_records(paths):
 
 
 class Rows:
-    """What a log makes: the zone /zone, directories in it, and files in these. Directories come before what is in them."""
+    """What a log makes: the zone /zone, directories in it, and files in these. Directories come before what is in them. Those of the
+    inner zones are among the directories."""
 
-    def __init__(self, directories, files, removed=(), submitted=False):
+    def __init__(self, directories, files, removed=(), submitted=False, inner_zones=(), inner_files=()):
         self.directories = directories
         self.files = files
         self.removed = removed
         self.submitted = submitted
+        self.inner_zones = inner_zones
+        self.inner_files = inner_files
 
     def first_file(self):
         return FIRST_ID + 1 + len(self.directories)
 
     def log(self):
-        zone = b"/zone"
-        zone_path = len(zone).to_bytes(2, "big") + zone
-        parts = [frames([b"\x01" + (1).to_bytes(4, "big")]), row_records(DIRECTORY, [zone], FIRST_ID)]
-        parts.append(frames([b"\x06" + zone_path + b"\x01k"]))
+        zone, next_id = b"/zone", self.first_file() + len(self.files)
+        parts = [frames([b"\x01" + (1).to_bytes(4, "big")]), row_records(DIRECTORY, [zone], FIRST_ID), zone_records([zone])]
         parts += [row_records(DIRECTORY, [it], number) for number, it in enumerate(self.directories, FIRST_ID + 1)]
+        parts.append(zone_records(self.inner_zones))
         parts.append(row_records(FILE, self.files, self.first_file()))
+        if self.inner_files:
+            parts.append(row_records(FILE, self.inner_files, next_id))
         if self.removed:
             parts.append(removal_records(self.removed))
         if self.submitted:
-            session = self.first_file() + len(self.files)
-            parts.append(frames([bytes([SUBMISSION]) + session.to_bytes(8, "big") + zone_path + b"\x01k" + bytes(2)]))
+            session = next_id + len(self.inner_files)
+            parts.append(frames([bytes([SUBMISSION]) + session.to_bytes(8, "big") + path_bytes(zone) + b"\x01k" + bytes(2)]))
         return b"HKMSNAM1" + b"".join(parts) + b"\x00"
 
 
@@ -85,6 +97,14 @@ def rows_in(top, above, files, name="file-%09d"):
     directories = [f"{top}/dir-{it:03}".encode() for it in range(count)]
     paths = [directories[it * count // files] + b"/" + (name % it).encode() for it in range(files)]
     return Rows(above + directories, paths)
+
+
+def with_inner_zones(rows, files):
+    """The same rows with an inner zone in each directory, and so many files in these zones."""
+    count = len(rows.directories)
+    zones = [it + b"/inner" for it in rows.directories]
+    paths = [zones[it * count // files] + b"/file-%09d" % it for it in range(files)]
+    return Rows(rows.directories + zones, rows.files, inner_zones=zones, inner_files=paths)
 
 
 def shuffled(items):
@@ -308,9 +328,9 @@ class Bench:
         print_row(f"a snapshot of {files:,} files, ms", min(taken) * 1e3, most, 100, 0)
         print_row("its removal, ms", min(removed) * 1e3, most, 100, 0)
 
-    def walk_seconds(self, files, runs):
-        """The processor time of a walk in a zone of so many files, the mean of those that give a batch."""
-        rows = rows_in("/zone", [], files)
+    def walk_seconds(self, rows, runs):
+        """The processor time of a walk in the zone /zone, the mean of those that give a batch."""
+        files = len(rows.files)
         rows.submitted = True
         self.clear()
         with open(self.names, "wb") as file:
@@ -330,8 +350,15 @@ class Bench:
     def print_walks(self, files):
         """Measures walks in a zone of so many files, beside those in one of at most 10,000."""
         fewer = min(files, 10_000)
-        ours, theirs = self.walk_seconds(files, 3), self.walk_seconds(fewer, 10)
+        ours, theirs = self.walk_seconds(rows_in("/zone", [], files), 3), self.walk_seconds(rows_in("/zone", [], fewer), 10)
         print_row(f"a batch of {BATCH:,} files of {files:,}, µs", ours * 1e6, f"the same of {fewer:,}", theirs * 1e6, 0, 2)
+
+    def print_walks_beside_inner_zones(self, files):
+        """Measures walks in a zone of so many files beside a fifth as many in inner zones, which the walks pass by."""
+        rows, inner = rows_in("/zone", [], files), files // 5
+        ours, theirs = self.walk_seconds(with_inner_zones(rows, inner), 5), self.walk_seconds(rows, 5)
+        what = f"a batch of {BATCH:,} files of {files:,} beside {inner:,} in inner zones, µs"
+        print_row(what, ours * 1e6, "the same without these", theirs * 1e6, 0, 1.3)
 
     def print_renames(self, files):
         """Measures renames of a directory with so many rows below it, there and back."""
@@ -371,6 +398,7 @@ def main():
     bench.print_snapshots(min(files, 100_000))
     bench.print_renames(min(files, 500_000))
     bench.print_walks(files)
+    bench.print_walks_beside_inner_zones(min(files, 500_000))
     bench.clear()
 
 
