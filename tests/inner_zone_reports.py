@@ -1,6 +1,7 @@
-"""The changes of the trials in which a zone is made in a zone: from the answers to their questions before each to those after it, or None
-if it is refused. The questions are the directory and a file in it, at the paths before and after it is renamed, a file of the outer zone, all
-zones, and what the encrypted key of the first file opens to. The trial with faults asks for the directory, the other file and the zones."""
+"""The changes of the trials that make a zone in a zone: from the answers to their questions before each to those after it, or
+None if it is refused. The questions are the directory and a file in it, at the paths before and after it is renamed, a file of the
+outer zone, all zones, and what the encrypted key of the first file opens to. The trial with faults asks for the directory, the file of
+the outer zone and the zones."""
 
 ABSENT = 'refused N2 NoSuchPath'
 FILE = 'file 8589934594 %s j@0:0f0e0d0c0b0a09080706050403020100:874d6191b620e3261bef6864990db6ce'

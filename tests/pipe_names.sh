@@ -205,4 +205,43 @@ expect 'a submission that is denied' 0 '200 {"material":"K34VFiiu0qar9xWICc9PPA"
 '"$(error 403 KeyRefused 'N21 KeyRefused K3 Denied ServiceBlacklist GENERATE_EEK')"'
 200 {"answer":"status Completed j@1 5 0 no e"}'
 
+# A zone in a zone: a file is of the innermost one, and the submission of the outer one leaves it alone.
+fresh
+converse < <(
+    keys 'keys?user.name=alice' '{"name":"k","length":128,"material":"K34VFiiu0qar9xWICc9PPA"}'
+    keys 'keys?user.name=alice' '{"name":"j","length":128,"material":"AAECAwQFBgcICQoLDA0ODw"}'
+    names POST 'mkdir?path=/z&user.name=alice'
+    names POST 'zone?path=/z&key=k&user.name=hdfs'
+    names POST 'mkdir?path=/z/s&user.name=alice'
+    names POST 'zone?path=/z/s&key=j&user.name=hdfs'
+    names POST 'zone?path=/z/s&key=j&user.name=hdfs'
+    names POST 'create?path=/z/f&user.name=alice'
+    names POST 'create?path=/z/s/g&user.name=alice'
+    names POST 'rename?path=/z/f&to=/z/s/f&user.name=alice'
+    names GET 'zones?user.name=hdfs'
+    keys 'key/k?user.name=alice' '{"material":"AAECAwQFBgcICQoLDA0ODw"}'
+    names POST 'reencrypt?path=/z&user.name=hdfs'
+    names GET 'status?path=/z&user.name=hdfs'
+    names GET 'status?path=/z/s&user.name=hdfs'
+)
+expect 'a zone in a zone' 0 '201 {"material":"K34VFiiu0qar9xWICc9PPA","name":"k@0"}
+201 {"material":"AAECAwQFBgcICQoLDA0ODw","name":"j@0"}
+200
+200
+200
+200
+'"$(error 409 AlreadyInZone 'N7 AlreadyInZone')"'
+201
+201
+'"$(error 409 CrossZone 'N9 CrossZone')"'
+200 {"answer":"zones /z:k /z/s:j"}
+200 {"material":"AAECAwQFBgcICQoLDA0ODw","name":"k@1"}
+200
+200 {"answer":"status Completed k@1 1 0 no f"}
+200 {"answer":"status None"}'
+encrypted_key /z/f
+same 'the file of the outer zone' k@1 "$version"
+encrypted_key /z/s/g
+same 'the file of the inner zone' j@0 "$version"
+
 [ "$failures" -eq 0 ]
