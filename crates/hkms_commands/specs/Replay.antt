@@ -19,6 +19,7 @@ use Rattle.world_run.specs.World.{WorldState, first_world}
 use Rattle.command_io.specs.declared.ends.ReplayEnd.{ReplayEnd}
 use Rattle.command_io.specs.declared.ends.ReplayEnd.TheVariants.{Done, AclRefused, AclRepeated, AclUnknown, AclTooLong, BadLine, DamagedKeys, DamagedNames, StoreFault, NoMemory, WriteFault, Spent}
 use Rattle.command_io.specs.declared.props.PropsFault.{PropsFault}
+use Rattle.command_io.specs.Ends.{ended_by, ended_by_props, last_line}
 use Rattle.command_io.specs.Lines.{is_lf, lines_of, text_of}
 use Rattle.command_io.specs.Properties.{HasPropsFault, ReadsProperties}
 use Rattle.hkms_commands.specs.Logs.{HiddenBefore, OnDisk, ReadsAs, opened_logs}

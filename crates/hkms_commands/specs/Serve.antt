@@ -11,7 +11,7 @@ use Rattle.server_run.specs.declared.run.RunEnd.{RunEnd}
 use Rattle.server_run.specs.declared.run.RunEnd.TheVariants as run_end
 use Rattle.command_io.specs.declared.props.PropsFault.{PropsFault}
 use Rattle.command_io.specs.declared.ends.ReplayEnd.TheVariants as replay_end
-use Rattle.command_io.specs.Ends.{Shows, ended_by, ended_by_props}
+use Rattle.command_io.specs.Ends.{Reports, Shows, ended_by, ended_by_props}
 use Rattle.command_io.specs.Properties.{HasPropsFault, ReadsProperties}
 
 -- the generator that has the next eight words as its seed

@@ -26,7 +26,7 @@ use Rattle.hkms_commands.specs.declared.stage.LineOutcome.TheVariants.{Played, B
 use Rattle.command_io.specs.Lines.{is_line, line_used}
 use Rattle.hkms_commands.specs.Logs.{SurvivesLast, SurvivesUntil}
 use Rattle.hkms_commands.specs.PlayedLines.{AreSpelled, PlayedLine, events_of_lines, lines_in, transcript}
-use Rattle.command_io.specs.Ends.{ended_by}
+use Rattle.command_io.specs.Ends.{Closes, ended_by}
 use Rattle.hkms_commands.specs.Replay.{CutAt, HasProperties, IsPrinted, ReadsAt, RestartStops, Stops}
 use Rattle.hkms_commands.specs.Run.{FilesOpen, IsHidden, Runs, StayApart, behind, drawn_in, faults_after, logged_in, world_after}
 
