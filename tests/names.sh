@@ -395,7 +395,9 @@ refuses 'a zone where nothing stands' "$opened" "$d" "$marked"
 refuses 'a zone of a file' "$opened" "$(file 1 /f)" "$(zone /f k)"
 refuses 'a zone of a directory with something in it' "$opened" "$z" "$(dir 3 /z/d)" "$marked"
 refuses 'a zone twice' "$opened" "$z" "$marked" "$marked"
-refuses 'a zone in a zone' "$opened" "$z" "$marked" "$(dir 3 /z/y)" "$(zone /z/y j)"
+y=$(dir 3 /z/y) inner=$(zone /z/y j)
+refuses 'a zone in a zone twice' "$opened" "$z" "$marked" "$y" "$inner" "$inner"
+refuses 'a file of an inner zone with a key of the outer one' "$opened" "$z" "$marked" "$y" "$inner" "$(file 4 /z/y/f k)"
 e=$(dir 2 /d/e) allowed=$(allow /d) snapped=$(snap /d s)
 refuses 'snapshots allowed where nothing stands' "$opened" "$d" "$(allow /e)"
 refuses 'snapshots allowed of a file' "$opened" "$(file 1 /f)" "$(allow /f)"
