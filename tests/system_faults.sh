@@ -1,0 +1,12 @@
+#!/usr/bin/env bash
+# Real files whose system calls fail: a script of both services, with each call on the logs failing in turn, in each way that a system
+# has, and killed before each. tests/system_faults.py says what is looked at, and tests/system_faults.c what fails how.
+set -u
+. "$(dirname "${BASH_SOURCE[0]}")/room.bash"
+for tool in cc python3 openssl; do
+    command -v "$tool" >/dev/null || { echo "tests/system_faults.sh: skipped, the command $tool is not here"; exit 0; }
+done
+[ "$("$hkms" build </dev/null)" = 'usage refused' ] || exit 1
+
+cc -O1 -Wall -Wextra -Werror -shared -fPIC -o "$folder/faults.so" tests/system_faults.c -ldl || exit 1
+python3 tests/system_faults.py "$PWD/crates/hkms_tool/out/hkms_tool" "$folder/faults.so" "$quick"
