@@ -377,10 +377,10 @@ def is_absorbed(fault, call):
 def check_ends(script, fault, call, is_opening):
     """How the run with the fault went: its end, what it answered, and what it said on standard error."""
     status, last = script.ends[0]
+    need(script.ends[1:] in ([], [(0, "")]), f"the next run ends with {script.ends[1:]}")
     if fault.kind in KILLS:
         need((status, last) == (-9, ""), f"killed it ends with {status} and {last}")
         return
-    need(script.ends[1:] in ([], [(0, "")]), f"the next run ends with {script.ends[1:]}")
     if is_absorbed(fault, call):
         need((script.ends, script.store_faults) == ([(0, "")], 0), f"it ends with {script.ends} after {script.store_faults} store faults")
         return

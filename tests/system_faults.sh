@@ -9,4 +9,4 @@ done
 [ "$("$hkms" build </dev/null)" = 'usage refused' ] || exit 1
 
 cc -O1 -Wall -Wextra -Werror -shared -fPIC -o "$folder/faults.so" tests/system_faults.c -ldl || exit 1
-python3 tests/system_faults.py "$PWD/crates/hkms_tool/out/hkms_tool" "$folder/faults.so" "$quick"
+python3 -B tests/system_faults.py "$PWD/crates/hkms_tool/out/hkms_tool" "$folder/faults.so" "$quick"
