@@ -15,6 +15,7 @@
 #include <fcntl.h>
 #include <signal.h>
 #include <stdarg.h>
+#include <stdatomic.h>
 #include <stdio.h>
 #include <stdlib.h>
 #include <string.h>
@@ -32,7 +33,11 @@ struct file {
 };
 
 static struct file files[3] = {{"keys.log", -1, 0, NULL}, {"names.log", -1, 0, NULL}, {".", -1, 0, NULL}};
-static long count;
+static atomic_long count;
+static int report_out = -1;
+
+// The number of the call that this thread makes.
+static _Thread_local long number;
 
 static void *next(const char *name) {
     void *found = dlsym(RTLD_NEXT, name);
@@ -84,21 +89,23 @@ static int is_kind(const char *kind) {
     return wanted != NULL && strcmp(kind, wanted) == 0;
 }
 
-static void report(const char *call, const struct file *file, long result, int is_fault) {
-    static int out = -1;
-    char line[128];
+__attribute__((constructor)) static void open_report(void) {
     const char *path = getenv("FAULT_REPORT");
     if (path == NULL) return;
-    if (out < 0) out = ((int (*)(const char *, int, ...))next("open"))(path, O_WRONLY | O_CREAT | O_APPEND | O_CLOEXEC, 0600);
-    int size = snprintf(line, sizeof line, "%ld %s %s %ld%s\n", count, call, file->name, result, is_fault ? " fault" : "");
-    if (write(out, line, size) != size) abort();
+    report_out = ((int (*)(const char *, int, ...))next("open"))(path, O_WRONLY | O_CREAT | O_APPEND | O_CLOEXEC, 0600);
+}
+
+static void report(const char *call, const struct file *file, long result, int is_fault) {
+    char line[128];
+    int size = snprintf(line, sizeof line, "%ld %s %s %ld%s\n", number, call, file->name, result, is_fault ? " fault" : "");
+    if (report_out >= 0 && write(report_out, line, size) != size) abort();
 }
 
 // Counts a call, and returns whether it is the one that fails. A stop of the process happens here.
 static int is_due(const char *call, struct file *file) {
     const char *at = getenv("FAULT_AT");
-    count++;
-    if (at == NULL || count != atol(at)) return 0;
+    number = atomic_fetch_add(&count, 1) + 1;
+    if (at == NULL || number != atol(at)) return 0;
     if (is_kind("stop") || is_kind("power")) {
         report(call, file, -1, 1);
         for (int place = 0; is_kind("power") && place < 2; place++) restore(&files[place]);

@@ -332,7 +332,7 @@ class Script:
 # ---- what is looked at in the end
 
 
-def check_logs(folder, kept):
+def check_logs(folder, kept, most_completed=1):
     """Reads both logs: by logs.py, and by headline.py with the keys that were noted."""
     for name in ("keys.log", "names.log"):
         before, sys.argv[1:] = sys.argv[1:], [f"{folder}/{name}"]
@@ -353,7 +353,8 @@ def check_logs(folder, kept):
         completed = headline.count_completed(keys, names)
     except headline.Wrong as wrong:
         raise Wrong(f"the logs by headline.py: {wrong}") from wrong
-    need((opened, lost, completed) == (3, 0, 1), f"headline.py opens {opened} files, and sees {completed} re-encryptions completed")
+    is_whole = (opened, lost) == (3, 0) and 1 <= completed <= most_completed
+    need(is_whole, f"headline.py opens {opened} files, and sees {completed} re-encryptions completed")
 
 
 def check_answers(folder, kept):
