@@ -1,6 +1,7 @@
 #!/usr/bin/env bash
 # A byte on the named pipe hkms.stop ends `hkms serve`: it accepts no more connections, answers the requests that it has begun, ends
-# the connections that wait, and has status 0. A byte of before its start does nothing, and neither does an entry of another kind.
+# the connections that wait, and has status 0. A byte of before its start does nothing, and neither does an entry of another kind. The
+# commands of the unit for systemd do what they say.
 set -u
 . "$(dirname "${BASH_SOURCE[0]}")/room.bash"
 for tool in curl python3 mkfifo; do
@@ -96,6 +97,23 @@ same 'what it acknowledged' '["k"] 200' "$(ask GET '/kms/v1/keys/names?user.name
 tell
 finish
 expect 'the same folder again' 0 "$ended"
+
+# ---- the commands of the unit for systemd: they make the pipe, and wait for the end of the server
+
+fresh
+# run_unit SETTING PID: runs a command of the unit in the room, as systemd does for the server with this PID.
+run_unit() {
+    local command
+    command=$(sed -n "s/^$1=//p" packaging/systemd/hkms.service)
+    (cd "$room" && MAINPID=$2 timeout 20 bash -c "$command")
+}
+run_unit ExecStartPre ''
+same 'the pipe of the unit' 'fifo 600' "$(stat -c '%F %a' "$room/hkms.stop")"
+start
+same 'a stop by the unit' '' "$(run_unit ExecStop "$server" 2>&1)"
+finish
+expect 'a server that the unit stopped' 0 "$ended"
+same 'a stop of a server that has ended by itself' '' "$(run_unit ExecStop '' 2>&1)"
 
 # ---- another kind of entry
 
