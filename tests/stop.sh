@@ -81,14 +81,12 @@ print("kept:", first.split(b"\r\n")[0].decode(), read_all(kept))
 begun.sendall(get[20:])
 print("begun:", read_all(begun).split(b"\r\n")[0].decode())
 try:
-    late = connect()
-    late.sendall(get)
-    answer = read_all(late)
-except OSError:
-    answer = b""
-print("late:", answer)
+    connect()
+    print("late: it was let in")
+except ConnectionRefusedError:
+    print("late: refused")
 EOT
-same 'clients' $'kept: HTTP/1.1 200 OK b\'\'\nbegun: HTTP/1.1 200 OK\nlate: b\'\'' \
+same 'clients' $'kept: HTTP/1.1 200 OK b\'\'\nbegun: HTTP/1.1 200 OK\nlate: refused' \
     "$(timeout 60 python3 "$folder/clients.py" "$port" "$room")"
 finish
 expect 'a server that was told to end' 0 "$ended"

@@ -37,7 +37,7 @@ type TcpConnection<'n, C> = Accepted<TcpSource<'n, C>, TcpSink<'n, C>, TcpHandle
 /// descriptor, which is closed once both ends are closed and the handle is dropped. It counts errors,
 /// up to 2^64 - 1. Contracts promise nothing about what a peer sends or receives.
 ///
-/// Within a second after its alarm is raised it takes no more connections.
+/// Within a second after its alarm is raised it takes no more connections, and closes its listener.
 ///
 /// If the system lacks descriptors or memory for a connection, the door waits and accepts again. It
 /// closes a connection that it can't set up, and accepts the next one. An accept fails if the listener
@@ -228,6 +228,8 @@ impl<'n, N: Net<Listener = TcpListener, Stream = TcpStream> + Clock + Sync> Door
                 Ok(Some(came))
             }
             Ok(None) => {
+                // A client that comes from now on is refused at once.
+                self.listener = None;
                 self.closed = true;
                 Ok(None)
             }

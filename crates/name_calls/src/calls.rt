@@ -63,7 +63,7 @@ pub enum NameRefusal {
     /// Only the user `hdfs` makes zones and asks for them, has them re-encrypted, and allows and
     /// disallows snapshots.
     NotSuperuser,
-    /// A directory that is to become a zone is one already, or lies in one.
+    /// A directory that is to become a zone is one already.
     AlreadyInZone,
     /// The directory is not an encryption zone: it is not marked with a key.
     NotAZoneRoot,
