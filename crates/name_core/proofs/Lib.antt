@@ -1,6 +1,7 @@
 pub mod AllowedLemmas
 pub mod AskLaws
 pub mod AskLemmas
+pub mod AskSteps
 pub mod CallLemmas
 pub mod DeleteLaws
 pub mod EdekRows
@@ -12,6 +13,7 @@ pub mod OnceLemmas
 pub mod PathCopies
 pub mod RenameLaws
 pub mod RowLemmas
+pub mod SentFiles
 pub mod SnapshotLaws
 pub mod SnapshotRows
 pub mod SnapshotTimes

@@ -74,3 +74,7 @@ deliver_deed reply s = update_deed s reply.note (changes_of s.table.rows reply.n
 -- each file of a batch that is given up counts as failed
 abbrev pub give_up_deed : BatchNote → NameState → UpdateDeed
 give_up_deed note s = update_deed s note (all_failed note.sent)
+
+-- a batch that is ignored stays as it is
+abbrev pub ignore_deed : BatchNote → NameState → UpdateDeed
+ignore_deed note s = ignored s note

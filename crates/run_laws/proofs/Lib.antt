@@ -1,10 +1,8 @@
-pub mod AskSteps
 pub mod DrawnKeys
 pub mod EventSteps
 pub mod KeyLaws
 pub mod RefusalLaw
 pub mod RunLaw
-pub mod SentFiles
 pub mod ShownKeys
 pub mod SnapshotLaw
 pub mod WalkLaws

@@ -35,9 +35,9 @@ use Rattle.name_core.proofs.AskLemmas.{each-append, each-both, each-map, no-key,
 use Rattle.name_core.proofs.KeepLemmas.{keeps-of}
 use Rattle.name_core.proofs.RowLemmas.{BelowId, zone-row, zone-stands}
 use Rattle.run_laws.specs.Names.{Answers, RefusedForItsZone}
-use Rattle.run_laws.proofs.SentFiles.{updated-files}
+use Rattle.name_core.proofs.SentFiles.{updated-files}
 use Rattle.run_laws.proofs.ZoneMarks.{HasKey, LeavesZone, keys-stay, not-zones, zone-holds}
-use Rattle.run_laws.proofs.AskSteps.{AnyCall, Stays, any-step, steps}
+use Rattle.name_core.proofs.AskSteps.{AnyCall, Stays, any-step, steps}
 use Rattle.run_laws.proofs.ZoneSteps.{Begun, KeepsKey, zone-stays}
 
 -- an open ask doesn't have the id of the zone, and is the ask itself if it has its id

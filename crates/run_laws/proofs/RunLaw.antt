@@ -36,7 +36,7 @@ use Rattle.kms_core.proofs.ReadyLemmas.{KeepsReady, service_keeps_ready}
 use Rattle.world_run.specs.Step.{AskAt, DrawActs, FinishReply, after_ask, ask_line, finish_line, kept_reply, zone_with}
 use Rattle.world_run.specs.World.{WorldState, next_note, next_reply, numbered, with_names}
 use Rattle.run_laws.specs.Runs.{Happens, Leads, RunsRefuseForTheZone, ask_of}
-use Rattle.run_laws.proofs.AskSteps.{AnyAsk, any-asks, asks-keep, keeps-reopened}
+use Rattle.name_core.proofs.AskSteps.{AnyAsk, any-asks, asks-keep, keeps-reopened}
 use Rattle.run_laws.proofs.DrawnKeys.{Fits, drawn-fits}
 use Rattle.run_laws.proofs.EventSteps.{Reopened, Rests, Stepped, Turns, leads-keep, leads-ready, moves, numbered-last}
 use Rattle.run_laws.proofs.RefusalLaw.{refused_for_its_zone}

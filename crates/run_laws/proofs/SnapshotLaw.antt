@@ -21,7 +21,7 @@ use Rattle.name_core.proofs.SnapshotLaws.{snapshots_stay}
 use Rattle.hk_events.specs.declared.event.Event.{Event}
 use Rattle.world_run.specs.World.{WorldState}
 use Rattle.run_laws.specs.Runs.{HasSnapshot, LeadsKeeping, RunsKeepSnapshots, call_of}
-use Rattle.run_laws.proofs.AskSteps.{Alone, AnyAsk, Invariant, SparesStep, Stays, any-asks, keeps-reopened, step}
+use Rattle.name_core.proofs.AskSteps.{Alone, AnyAsk, Invariant, SparesStep, Stays, any-asks, keeps-reopened, step}
 use Rattle.run_laws.proofs.EventSteps.{IsOf, Reopened, Rests, Stepped, Turns, moves}
 
 module _ (dir : ℕ) (name : List ℕ) (was : Snapshot) where

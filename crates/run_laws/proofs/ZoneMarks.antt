@@ -21,7 +21,7 @@ use Rattle.edit_ops.specs.declared.ops.EditOp.TheVariants as op
 use Rattle.name_store.specs.Causes.{mark_at}
 use Rattle.name_store.specs.Table.{NameTable, after_table, id_of, new_directory, new_file, with_edeks}
 use Rattle.name_core.proofs.RowLemmas.{all-put}
-use Rattle.run_laws.proofs.SentFiles.{AreFiles, has_file}
+use Rattle.name_core.proofs.SentFiles.{AreFiles, has_file}
 
 eq-yes : (a b : ℕ) → (a == b) ≡ true → a ≡ b
 eq-yes a b h = grind (arith, nat_tests)

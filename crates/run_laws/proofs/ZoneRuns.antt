@@ -37,10 +37,10 @@ use Rattle.world_run.proofs.WorldLemmas.{rows-settled}
 use Rattle.world_run.proofs.ZoneKeeps.{KeptZone, rekeyed-zone, zone-after}
 use Rattle.run_laws.specs.Names.{FilesKeepZones, HasFile, KeepZones}
 use Rattle.run_laws.specs.Runs.{Leads, RunsKeepZones}
-use Rattle.run_laws.proofs.AskSteps.{AnyCall, Invariant, Stays, any-step, keeps-reopened, step}
+use Rattle.name_core.proofs.AskSteps.{AnyCall, Invariant, Stays, any-step, keeps-reopened, step}
 use Rattle.run_laws.proofs.EventSteps.{Reopened, Rests, Stepped, Turns, moves}
 use Rattle.run_laws.proofs.RunLaw.{IsNot}
-use Rattle.run_laws.proofs.SentFiles.{AreFiles, has_file}
+use Rattle.name_core.proofs.SentFiles.{AreFiles, has_file}
 
 -- one operation
 

@@ -17,7 +17,7 @@ use Rattle.name_core.specs.Calls.{deed, first_cause}
 use Rattle.name_core.specs.State.{NameState, next_id}
 use Rattle.name_core.specs.Walks.{session_at}
 use Rattle.name_core.proofs.AllowedLemmas.{may-make-zone}
-use Rattle.run_laws.proofs.AskSteps.{AnyCall, Invariant}
+use Rattle.name_core.proofs.AskSteps.{AnyCall, Invariant}
 use Rattle.run_laws.proofs.ZoneMarks.{HasKey, LeavesZone, keys-stay, not-zones}
 
 -- A zone with its key, if there is one, and a property of open asks: each ask whose id is n or above has it, and none with the id of the

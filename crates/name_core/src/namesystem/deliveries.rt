@@ -4,7 +4,7 @@ ghost use Rattle.hk_base.specs.Disk.{Tells};
 ghost use Rattle.edit_ops.specs.declared.ops.EditOp.{EditOp};
 ghost use Rattle.name_core.specs.State.{IsNamesystemOf, NameState, names_of};
 ghost use Rattle.name_core.specs.Steps.{MayUpdate, MayWrite, UpdatesSettled, Writes, delivered_answer};
-ghost use Rattle.name_core.specs.Updates.{UpdateDeed, applied, deliver_deed, give_up_deed, ignored, is_outstanding, update_op};
+ghost use Rattle.name_core.specs.Updates.{UpdateDeed, applied, deliver_deed, give_up_deed, ignore_deed, ignored, is_outstanding, update_op};
 ghost use Rattle.name_core.specs.Updating.{UpdateActs};
 
 use super::{Name, refusal};
@@ -95,10 +95,28 @@ impl Name {
         self.update(disk, note, changes)
     }
 
-    fn is_outstanding(&self, note: &BatchNote) -> bool
+    /// Returns whether a batch with the session and the files of a note is outstanding in the present
+    /// re-encryption of its zone.
+    pub fn is_outstanding(&self, note: &BatchNote) -> bool
         ensures { result ≡ is_outstanding (names_of self.now) note.now }
     {
         is_outstanding(&self.walks, self.store.statuses(), note)
+    }
+
+    /// Answers the delivery of a reply as if its batch were not outstanding: the pending operation is
+    /// settled, and nothing else changes. The only refusal is `StoreFault`.
+    pub fn ignore<D: Disk>(
+        &mut self,
+        disk: &mut D,
+        note: &BatchNote,
+    ) -> Result<Delivered, NameRefusal>
+        requires stands { Tells (D.state disk.old) → ((ops : List EditOp) × IsNamesystemOf (D.state disk.old) self.old ops) }
+        ensures { UpdateActs (D.state disk.old) (D.state disk.new) self.old (ignore_deed note.now) result self.new }
+    {
+        match self.settle(disk) {
+            Err(_) => Err(NameRefusal::StoreFault),
+            Ok(()) => Ok(self.ignored(note)),
+        }
     }
 
     /// Returns the answer for a batch that is not outstanding.

@@ -44,7 +44,7 @@ use Rattle.name_core.proofs.AskLaws.{ids_stay_below}
 use Rattle.name_core.proofs.AskLemmas.{each-append, each-without, open-holds, open-id}
 use Rattle.name_core.proofs.KeepLemmas.{keeps-settled, same-opening, settled-next, with_ask}
 use Rattle.name_core.proofs.Layers.{Asking, Same, Opened, asking}
-use Rattle.run_laws.proofs.SentFiles.{AreFiles, delivered-files}
+use Rattle.name_core.proofs.SentFiles.{AreFiles, delivered-files}
 
 abbrev pub Alone : NameState → NameService
 Alone s = record { names = s; pending = None }
