@@ -3,7 +3,7 @@ use Rattle.std.proofs.Common.{◌≡◌, ℕ, ◌<◌, Bool, true, false, List, 
 use Rattle.hist_cell.specs.declared.views.Entry.{Entry}
 use Rattle.hist_cell.specs.declared.views.Known.{Known}
 use Rattle.hist_cell.specs.declared.views.View.{View}
-use Rattle.hist_cell.specs.History.{IsIn, first_number, other_numbers, state_after, own, LegalOf, Learns, Lends, MakesEntryOn, Splits, Meets, Closes, state_of, Distinct, longer, shorter, united, known, with_turn, with_entry, without_turn, turn_of, newcomer, entry_by}
+use Rattle.hist_cell.specs.History.{IsIn, first_number, other_numbers, state_after, own, LegalOf, Learns, Lends, MakesEntryOn, Splits, TakesIn, Meets, Closes, state_of, Distinct, longer, shorter, united, known, with_turn, with_entry, without_turn, turn_of, newcomer, entry_by}
 use Rattle.hist_cell.proofs.Lists.{own-mine, own-none, state_after-push, both_begin}
 
 pub one_item : {A : Type 0} (x y : A) → x ∷ [] ≡ y ∷ [] → x ≡ y
@@ -59,6 +59,18 @@ module _ {Q R S : Type 0} (step : S → Q → R → S → Type 0) (allows : List
     first = a.first;
     first_is = a.first_is;
     given = subst (λ (x : S). lends x lent) a.before given;
+  }
+
+  -- the pass that was taken in before the entry
+  pub takes_in_by : {H : Type 0} (takes : S → H → S → Type 0) (answers : S → Q → R → S → Type 0) (s s' : S) (v w : Known Q R S) (with : H) (call : Q) (reply : R)
+      → MakesEntryOn step allows s v call reply w s' → ((met : S) × takes s with met × answers met call reply s') → TakesIn step allows takes answers v with call reply w
+  takes_in_by takes answers s s' v w with call reply a m = record {
+    acts = a.acts;
+    first = a.first;
+    first_is = a.first_is;
+    met = m.0;
+    took = subst (λ (x : S). takes x with m.0) a.before m.1;
+    answered = subst (λ (x : S). answers m.0 call reply x) (sym a.after) m.2;
   }
 
   -- a caller's start is the turn's

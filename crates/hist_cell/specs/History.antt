@@ -223,6 +223,15 @@ module _ {Q R S : Type 0} (step : S → Q → R → S → Type 0) (allows : List
     pub first_is : v.start ≡ Some first
     pub given : lends (state_after first (v.seen ++ acts.between)) lent
 
+  -- Such a call, by a core that first took in a pass of another cell, in the state from which the entry is a step.
+  pub record TakesIn {H : Type 0} (takes : S → H → S → Type 0) (answers : S → Q → R → S → Type 0) (v : Known Q R S) (with : H) (call : Q) (reply : R) (w : Known Q R S) : Type 0 where
+    pub acts : MakesEntry v call reply w
+    pub first : S
+    pub first_is : v.start ≡ Some first
+    pub met : S
+    pub took : takes (state_after first (v.seen ++ acts.between)) with met
+    pub answered : answers met call reply acts.entry.after
+
   -- the core after the whole history, of which the pass has seen a prefix
   pub record Closes (v : Known Q R S) (core : S) : Type 0 where
     pub all : List (Entry Q R S)

@@ -1,6 +1,6 @@
 //! Cells.
 ghost use Rattle.std.specs.Prelude.{◌≡◌, cond, ltb, IfErr, IfOk};
-ghost use Rattle.hist_cell.specs.History.{Closes, Lends, LegalOf, MakesEntry, Meets, Splits};
+ghost use Rattle.hist_cell.specs.History.{Closes, Lends, LegalOf, MakesEntry, Meets, Splits, TakesIn};
 
 use crate::cores::Core;
 use crate::holds::Holds;
@@ -41,7 +41,8 @@ impl<C: Core, N: Naming> Cell<C, N> {
         self.lock.lock(rt).act(rt, &self.table.shared, pass, call)
     }
 
-    /// Meets `with` into the pass that the core keeps, and makes the call, as one entry of the history.
+    /// Meets `with` into the pass that the core keeps, and makes the call, as one entry of the history. The
+    /// state of the entry shows the kept pass after the meeting.
     /// What `pass` has seen must allow the call, and `with` must be a pass that the call needs, as one that
     /// has seen the reply which the call uses. It may wait for the lock of this cell and then for that of
     /// the other one. If the history has 2^64 - 1 entries, it never returns.
@@ -57,7 +58,7 @@ impl<C: Core, N: Naming> Cell<C, N> {
         C: Holds,
         requires allowed { C.allows pass.old.seen call }
         requires needs { C.needs pass.old.seen call with }
-        ensures { MakesEntry C.step C.allows pass.old call result pass.new }
+        ensures { TakesIn C.step C.allows C.takes C.acts pass.old with call result pass.new }
     {
         self.lock
             .lock(rt)

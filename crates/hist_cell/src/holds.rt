@@ -78,7 +78,8 @@ pub fn answer_meeting<C: Holds, R: Wait>(
 ) -> C::Reply
     requires can { C.can core.old call }
     requires suits { C.suits core.old call with }
-    ensures { C.step core.old call result core.new }
+    ensures step { C.step core.old call result core.new }
+    ensures meets { (met : C) × C.takes core.old with met × C.acts met call result core.new }
 {
     core.take_in(rt, other, with);
     core.act(call)

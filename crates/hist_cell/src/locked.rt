@@ -109,7 +109,8 @@ impl<C: Core, N: Naming> Locked<C, N> {
         requires word { (word.now.table_id ≡ N.table) × (0 < word.now.table_id.words) }
         requires allowed { C.allows pass.old.seen call }
         requires needs { C.needs pass.old.seen call with }
-        ensures { MakesEntryOn C.step C.allows self.old pass.old call result pass.new self.new }
+        ensures acts { MakesEntryOn C.step C.allows self.old pass.old call result pass.new self.new }
+        ensures meets { (met : C) × C.takes self.old with met × C.acts met call result self.new }
     {
         let turn: Place<C> = mem::replace(&mut self.turn, Badge::blank()).into_seat();
         take_turn(word, &mut pass.seat, turn);

@@ -38,7 +38,7 @@ ticket_end ticket (x ∷ es) e returns = inr (ticket_end ticket es e returns)
 
 -- a key that was drawn and sealed with a ticket is one of its keys
 sealed_by : (ticket : Ticket) (words : ℕ → ℕ) (x : SealedKey) → x ≡ sealed_with ticket words → IsSealedWith ticket x
-sealed_by ticket words x is = subst (λ (y : SealedKey). IsSealedWith ticket y) (sym is) (record { opening = refl; birth = refl; version = refl; sealed = refl })
+sealed_by ticket words x is = record { words = words; is = is }
 
 module _ {D W : Type 0} (state : D → DiskState) (to_come : W → ℕ → ℕ) where
   pub made_none : (v : KmsKnown D W) → LegalOf (KmsSteps {D = D} {W = W} state to_come) (KmsAllows {S = KmsView D W}) v.start v.seen → MakesAll state to_come v [] v

@@ -11,7 +11,7 @@ use Rattle.kms_calls.specs.declared.calls.KmsReply.{KmsReply}
 use Rattle.hist_cell.specs.declared.views.Entry.{Entry}
 use Rattle.hist_cell.specs.History.{LegalAfter, LegalOf}
 use Rattle.kms_cell.specs.Entries.{KmsKnown, Makes}
-use Rattle.kms_cell.specs.Steps.{KmsSteps}
+use Rattle.kms_cell.specs.Steps.{KmsDoes, KmsSteps}
 use Rattle.kms_cell.specs.Tickets.{KmsAllows}
 use Rattle.kms_cell.specs.Views.{KmsView}
 use Rattle.kms_cell.specs.declared.acts.KmsAct.{KmsAct}
@@ -41,26 +41,26 @@ module _ {D W : Type 0} (state : D → DiskState) (to_come : W → ℕ → ℕ) 
             (subst (λ (r : KmsActed). KmsSteps state to_come last.0 a.entry.call r a.entry.after) a.reply_is last.1),
       )
 
-  call_answer : (user : Text) (c : KmsCall) (r : KmsActed) (s t : KmsView D W) → KmsSteps state to_come s (act.Call user c) r t → (reply : KmsReply) × (r ≡ acted.Call reply)
+  call_answer : (user : Text) (c : KmsCall) (r : KmsActed) (s t : KmsView D W) → KmsDoes state to_come s (act.Call user c) r t → (reply : KmsReply) × (r ≡ acted.Call reply)
   call_answer user c (acted.Call reply) s t h = (reply, refl)
   call_answer user c (acted.Ticket ticket) s t h = absurd h
   call_answer user c (acted.Deposit answer) s t h = absurd h
 
-  ticket_answer : (r : KmsActed) (s t : KmsView D W) → KmsSteps state to_come s act.Ticket r t → (ticket : Option Ticket) × (r ≡ acted.Ticket ticket)
+  ticket_answer : (r : KmsActed) (s t : KmsView D W) → KmsDoes state to_come s act.Ticket r t → (ticket : Option Ticket) × (r ≡ acted.Ticket ticket)
   ticket_answer (acted.Call reply) s t h = absurd h
   ticket_answer (acted.Ticket ticket) s t h = (ticket, refl)
   ticket_answer (acted.Deposit answer) s t h = absurd h
 
-  deposit_answer : (x : SealedKey) (r : KmsActed) (s t : KmsView D W) → KmsSteps state to_come s (act.Deposit x) r t → (answer : Deposit) × (r ≡ acted.Deposit answer)
+  deposit_answer : (x : SealedKey) (r : KmsActed) (s t : KmsView D W) → KmsDoes state to_come s (act.Deposit x) r t → (answer : Deposit) × (r ≡ acted.Deposit answer)
   deposit_answer x (acted.Call reply) s t h = absurd h
   deposit_answer x (acted.Ticket ticket) s t h = absurd h
   deposit_answer x (acted.Deposit answer) s t h = (answer, refl)
 
   pub call_is_answered : (v w : KmsKnown D W) (user : Text) (c : KmsCall) (r : KmsActed) → Makes state to_come v (act.Call user c) r w → (reply : KmsReply) × (r ≡ acted.Call reply)
-  call_is_answered v w user c r a = let made = made_step v w (act.Call user c) r a in call_answer user c r made.0 made.1 made.2
+  call_is_answered v w user c r a = let made = made_step v w (act.Call user c) r a in call_answer user c r made.0 made.1 made.2.does
 
   pub ticket_is_answered : (v w : KmsKnown D W) (r : KmsActed) → Makes state to_come v act.Ticket r w → (ticket : Option Ticket) × (r ≡ acted.Ticket ticket)
-  ticket_is_answered v w r a = let made = made_step v w act.Ticket r a in ticket_answer r made.0 made.1 made.2
+  ticket_is_answered v w r a = let made = made_step v w act.Ticket r a in ticket_answer r made.0 made.1 made.2.does
 
   pub deposit_is_answered : (v w : KmsKnown D W) (x : SealedKey) (r : KmsActed) → Makes state to_come v (act.Deposit x) r w → (answer : Deposit) × (r ≡ acted.Deposit answer)
-  deposit_is_answered v w x r a = let made = made_step v w (act.Deposit x) r a in deposit_answer x r made.0 made.1 made.2
+  deposit_is_answered v w x r a = let made = made_step v w (act.Deposit x) r a in deposit_answer x r made.0 made.1 made.2.does

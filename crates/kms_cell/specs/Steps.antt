@@ -18,11 +18,9 @@ use Rattle.kms_cell.specs.declared.acts.KmsAct.TheVariants as act
 use Rattle.kms_cell.specs.declared.acts.KmsActed.{KmsActed}
 use Rattle.kms_cell.specs.declared.acts.KmsActed.TheVariants as acted
 
--- A call of a user, at some moment, of a service that keeps its rules, under the lines that its lists agree with; there are such lines. Three
--- things are open: memory may run out; the disk may fail, if its count of faults rose; and the pending command was kept or not.
+-- A call of a user, at some moment, under the lines that its lists agree with; there are such lines. Three things are open: memory may run out; the disk may fail, if its count of faults rose; and the pending command was kept or not.
 pub record CallSteps {D W : Type 0} (state : D → DiskState) (to_come : W → ℕ → ℕ) (v : KmsView D W) (user : Text) (c : KmsCall) (reply : KmsReply) (v' : KmsView D W) : Type 0 where
   pub now : ℕ
-  pub rules : IsService (service_of (running v.kms))
   pub has_lines : (lines : List PropLine) × AreListsOf v.kms.acls lines
   pub acts : (lines : List PropLine) → AreListsOf v.kms.acls lines
       → ActsFor lines user (state v.disk) (state v'.disk) v.kms (to_come v.words) now c reply v'.kms (to_come v'.words)
@@ -37,9 +35,14 @@ pub record DepositSteps {D W : Type 0} (v : KmsView D W) (x : SealedKey) (answer
   pub answer_is : answer ≡ deposit_answer (keys_of (running v.kms)) x
   pub left : v' ≡ record v { kms = record v.kms { ready = queues_with v.kms.ready x answer } }
 
--- one call of the cell, with its reply and the state after it
-abbrev pub KmsSteps : {D W : Type 0} → (D → DiskState) → (W → ℕ → ℕ) → KmsView D W → KmsAct → KmsActed → KmsView D W → Type 0
-KmsSteps state to_come v (act.Call user c) (acted.Call reply) v' = CallSteps state to_come v user c reply v'
-KmsSteps state to_come v act.Ticket (acted.Ticket ticket) v' = TicketSteps v ticket v'
-KmsSteps state to_come v (act.Deposit x) (acted.Deposit answer) v' = DepositSteps v x answer v'
-KmsSteps state to_come v _ _ v' = ⊥
+abbrev pub KmsDoes : {D W : Type 0} → (D → DiskState) → (W → ℕ → ℕ) → KmsView D W → KmsAct → KmsActed → KmsView D W → Type 0
+KmsDoes state to_come v (act.Call user c) (acted.Call reply) v' = CallSteps state to_come v user c reply v'
+KmsDoes state to_come v act.Ticket (acted.Ticket ticket) v' = TicketSteps v ticket v'
+KmsDoes state to_come v (act.Deposit x) (acted.Deposit answer) v' = DepositSteps v x answer v'
+KmsDoes state to_come v _ _ v' = ⊥
+
+-- One call of the cell, with its reply and the state after it. The service keeps its rules.
+pub record KmsSteps {D W : Type 0} (state : D → DiskState) (to_come : W → ℕ → ℕ) (v : KmsView D W) (q : KmsAct) (r : KmsActed) (v' : KmsView D W) : Type 0 where
+  pub before : IsService (service_of (running v.kms))
+  pub after : IsService (service_of (running v'.kms))
+  pub does : KmsDoes state to_come v q r v'

@@ -1,22 +1,20 @@
 -- Which calls a history allows: a deposit needs the ticket that its key was sealed with.
-use Rattle.std.specs.Prelude.{◌≡◌, ◌⊎◌, List, [], ◌∷◌, ◌++◌, Some, ⊤}
+use Rattle.std.specs.Prelude.{◌≡◌, ◌⊎◌, ℕ, List, [], ◌∷◌, ◌++◌, Some, ⊤}
 use Rattle.std.proofs.Common.{inl, inr, subst}
 use mathlib.Core.List.{IsPrefix}
-use Rattle.eek_seal.specs.Seal.{seal}
 use Rattle.eek_seal.specs.Tickets.{SealedKey}
 use Rattle.eek_seal.specs.declared.tickets.Ticket.{Ticket}
+use Rattle.kms_core.specs.Draws.{sealed_with}
 use Rattle.hist_cell.specs.declared.views.Entry.{Entry}
 use Rattle.kms_cell.specs.declared.acts.KmsAct.{KmsAct}
 use Rattle.kms_cell.specs.declared.acts.KmsAct.TheVariants as act
 use Rattle.kms_cell.specs.declared.acts.KmsActed.{KmsActed}
 use Rattle.kms_cell.specs.declared.acts.KmsActed.TheVariants as acted
 
--- the key is for the queue of the ticket, and the ticket's material sealed it
+-- the key was drawn from some random words and sealed with the ticket, so it is for the ticket's queue and has the right lengths
 pub record IsSealedWith (ticket : Ticket) (x : SealedKey) : Type 0 where
-  pub opening : x.opening ≡ ticket.opening
-  pub birth : x.birth ≡ ticket.birth
-  pub version : x.version ≡ ticket.version
-  pub sealed : x.sealed ≡ seal ticket.material x.iv x.dek
+  pub words : ℕ → ℕ
+  pub is : x ≡ sealed_with ticket words
 
 module _ {S : Type 0} where
   -- the entry returned this ticket
@@ -29,8 +27,7 @@ module _ {S : Type 0} where
   HasTicket ticket [] = ⊥
   HasTicket ticket (e ∷ es) = ReturnsTicket ticket e ⊎ HasTicket ticket es
 
-  -- A deposit may follow if an entry returned a ticket of the same opening, birth and version, whose material sealed the key. Every other
-  -- call may follow every history.
+  -- A deposit may follow if an entry returned a ticket with which the key was drawn and sealed. Every other call may follow every history.
   abbrev pub KmsAllows : List (Entry KmsAct KmsActed S) → KmsAct → Type 0
   KmsAllows es (act.Call user c) = ⊤
   KmsAllows es act.Ticket = ⊤

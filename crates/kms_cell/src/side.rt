@@ -1,6 +1,8 @@
 //! The key management service as the state machine of a cell.
 ghost use Rattle.std.specs.Prelude.{◌≡◌};
-ghost use Rattle.kms_cell.specs.Steps.{CallSteps, DepositSteps};
+ghost use Rattle.kms_core.specs.State.{IsService, service_of};
+ghost use Rattle.kms_core.specs.Users.{running};
+ghost use Rattle.kms_cell.specs.Steps.{CallSteps, DepositSteps, KmsDoes};
 ghost use Rattle.kms_cell.specs.Views.{RunsOn};
 
 use crate::acts::{KmsAct, KmsActed};
@@ -68,8 +70,6 @@ impl<D: Disk, W: Words, C: Clock> KmsSide<D, W, C> {
     fn call(&mut self, user: Text, call: KmsCall) -> KmsReply
         ensures { CallSteps D.state W.to_come self.old user call result self.new }
     {
-        // The service keeps its rules.
-        let _ = self.kms.count();
         let now = self.clock.now_ms();
         self.kms
             .act(&mut self.disk, &mut self.words, now, &user, call)
@@ -80,6 +80,33 @@ impl<D: Disk, W: Words, C: Clock> KmsSide<D, W, C> {
         ensures { DepositSteps self.old sealed result self.new }
     {
         self.kms.deposit(sealed)
+    }
+
+    /// Answers a call.
+    fn answer(&mut self, call: KmsAct) -> KmsActed
+        ensures { KmsDoes D.state W.to_come self.old call result self.new }
+    {
+        match call {
+            KmsAct::Call { user, call } => {
+                let reply = self.call(user, call);
+                KmsActed::Call(reply)
+            }
+            KmsAct::Ticket => {
+                let ticket = self.kms.ticket();
+                KmsActed::Ticket(ticket)
+            }
+            KmsAct::Deposit { sealed } => {
+                let answer = self.deposit(sealed);
+                KmsActed::Deposit(answer)
+            }
+        }
+    }
+
+    /// Says that the service keeps its rules.
+    fn keep_rules(&self)
+        ensures { IsService (service_of (running self.now.kms)) }
+    {
+        let _ = self.kms.count();
     }
 }
 
@@ -105,20 +132,10 @@ impl<D: Disk, W: Words, C: Clock> Core for KmsSide<D, W, C> {
     ghost sound = { λ _. ⊤ };
 
     fn act(&mut self, call: KmsAct) -> KmsActed {
-        match call {
-            KmsAct::Call { user, call } => {
-                let reply = self.call(user, call);
-                KmsActed::Call(reply)
-            }
-            KmsAct::Ticket => {
-                let ticket = self.kms.ticket();
-                KmsActed::Ticket(ticket)
-            }
-            KmsAct::Deposit { sealed } => {
-                let answer = self.deposit(sealed);
-                KmsActed::Deposit(answer)
-            }
-        }
+        self.keep_rules();
+        let reply = self.answer(call);
+        self.keep_rules();
+        reply
     }
 
     ghost grows = { KmsAllows-grows };

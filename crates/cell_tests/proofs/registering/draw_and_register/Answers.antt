@@ -6,4 +6,4 @@ pub act_meeting-seen-requires-clause-needs : goal.act_meeting-seen-requires-clau
 act_meeting-seen-requires-clause-needs g c = issues _ c.act.new.pass c.in-Some.number _ c.in-Some.is c.act.ensures
 
 pub returns : goal.returns
-returns g c = registers _ c.act_lending.new.pass c.act_meeting-seen.new.pass c.in-Some.number _ c.act_meeting-seen.ensures
+returns g c = registers _ c.act_lending.new.pass c.act_meeting-seen.new.pass c.in-Some.number _ c.act_meeting-seen.ensures.acts

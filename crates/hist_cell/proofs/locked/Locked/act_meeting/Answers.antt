@@ -23,8 +23,8 @@ invariant_of-self g c =
       core_is = core_after g.C.Core.step g.C.Core.allows turn.first m c.add_entry-turn.result.me.0 (entry_by m c.of-was.result.value c.answer_meeting-reply.result c.answer_meeting-reply.new.core) gave;
     }
 
-pub returns : goal.returns
-returns g c =
+pub returns-clause-acts : goal.returns-clause-acts
+returns-clause-acts g c =
     let turn = c.self.invariant in
     let t = c.into_seat-turn.result.me.0 in
     let same = one_item t turn.view (sym c.into_seat-turn.ensures.2 ∙ (ap (λ b. b.views) c.replace.ensures.value ∙ turn.views)) in

@@ -7,4 +7,4 @@ pub returns : goal.returns
 returns g c =
     let after : KmsView _ _ = record { kms = c.act.new.self; disk = c.act.new.disk; words = c.act.new.words } in
     subst (λ (v : KmsView _ _). CallSteps g.D.Disk.state g.W.Words.to_come v c.args.user c.args.call c.act.result after)
-    c.self.view_is (record { now = c.now_ms-now.result; rules = c.count.ensures.rules; has_lines = (c.self.invariant.lines, c.self.invariant.lists); acts = c.act.ensures })
+    c.self.view_is (record { now = c.now_ms-now.result; has_lines = (c.self.invariant.lines, c.self.invariant.lists); acts = c.act.ensures })
