@@ -1,6 +1,6 @@
 pub mod AskLemmas
 pub mod CopyLemmas
-pub mod EntryLemmas
+pub mod FinishLemmas
 pub mod PairLemmas
 pub mod ServeLemmas
 pub mod WantLemmas

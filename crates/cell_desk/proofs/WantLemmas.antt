@@ -25,7 +25,7 @@ use Rattle.kms_core.proofs.LawLemmas.{ready_opens}
 use Rattle.kms_core.proofs.SentLemmas.{none_stands}
 use Rattle.name_calls.specs.declared.calls.Want.{Want}
 use Rattle.name_calls.specs.declared.calls.Want.TheVariants as want
-use Rattle.name_cell.specs.Asked.{Answers, IsOneOf}
+use Rattle.name_history.specs.Asked.{Answers, IsOneOf}
 use Rattle.kms_cell.specs.Entries.{KmsKnown, Makes}
 use Rattle.kms_cell.specs.Steps.{CallSteps}
 use Rattle.kms_cell.specs.Views.{KmsView}
@@ -83,28 +83,28 @@ module _ (s : ServiceState) (words : ℕ → ℕ) (now : ℕ) (name : KeyName) (
       subst (λ (r : KmsReply). Answers (want.Metadata name) (Some r)) (sym p.reply_is) (metadata-acts p.reply drawn s.keys p.serves.acts)
 
 module _ {D W : Type 0} (state : D → DiskState) (to_come : W → ℕ → ℕ) where
-  generate-step : (s t : KmsView D W) (user : Text) (name : KeyName) (reply : KmsReply) → CallSteps state to_come s user (call.Generate name 1) reply t → Answers (want.Generate name) (Some reply)
-  generate-step s t user name reply step =
+  generate-step : (s t : KmsView D W) (user : Text) (name : KeyName) (reply : KmsReply) → IsService (service_of (running s.kms)) → CallSteps state to_come s user (call.Generate name 1) reply t → Answers (want.Generate name) (Some reply)
+  generate-step s t user name reply rules step =
       let lines = step.has_lines.0 in
       let acts = step.acts lines step.has_lines.1 in
-      generate-served (service_of (running s.kms)) (to_come s.words) step.now name step.rules (Rose (state s.disk).faults (state t.disk).faults) reply acts.drawn acts.logged (service_of (running t.kms))
+      generate-served (service_of (running s.kms)) (to_come s.words) step.now name rules (Rose (state s.disk).faults (state t.disk).faults) reply acts.drawn acts.logged (service_of (running t.kms))
       (verdict lines user (call.Generate name 1)) acts.serves
 
-  metadata-step : (s t : KmsView D W) (user : Text) (name : KeyName) (reply : KmsReply) → CallSteps state to_come s user (call.Metadata name) reply t → Answers (want.Metadata name) (Some reply)
-  metadata-step s t user name reply step =
+  metadata-step : (s t : KmsView D W) (user : Text) (name : KeyName) (reply : KmsReply) → IsService (service_of (running s.kms)) → CallSteps state to_come s user (call.Metadata name) reply t → Answers (want.Metadata name) (Some reply)
+  metadata-step s t user name reply rules step =
       let lines = step.has_lines.0 in
       let acts = step.acts lines step.has_lines.1 in
-      metadata-served (service_of (running s.kms)) (to_come s.words) step.now name step.rules (Rose (state s.disk).faults (state t.disk).faults) reply acts.drawn acts.logged (service_of (running t.kms))
+      metadata-served (service_of (running s.kms)) (to_come s.words) step.now name rules (Rose (state s.disk).faults (state t.disk).faults) reply acts.drawn acts.logged (service_of (running t.kms))
       (verdict lines user (call.Metadata name)) acts.serves
 
   pub generate_is_answered : (v w : KmsKnown D W) (user : Text) (name : KeyName) (reply : KmsReply) (wanted : Want) → Makes state to_come v (act.Call user (call.Generate name 1)) (acted.Call reply) w
       → wanted ≡ want.Generate name → Answers wanted (Some reply)
   generate_is_answered v w user name reply wanted a is =
       let made = made_step state to_come v w (act.Call user (call.Generate name 1)) (acted.Call reply) a in
-      subst (λ (x : Want). Answers x (Some reply)) (sym is) (generate-step made.0 made.1 user name reply made.2)
+      subst (λ (x : Want). Answers x (Some reply)) (sym is) (generate-step made.0 made.1 user name reply made.2.before made.2.does)
 
   pub metadata_is_answered : (v w : KmsKnown D W) (user : Text) (name : KeyName) (reply : KmsReply) (wanted : Want) → Makes state to_come v (act.Call user (call.Metadata name)) (acted.Call reply) w
       → wanted ≡ want.Metadata name → Answers wanted (Some reply)
   metadata_is_answered v w user name reply wanted a is =
       let made = made_step state to_come v w (act.Call user (call.Metadata name)) (acted.Call reply) a in
-      subst (λ (x : Want). Answers x (Some reply)) (sym is) (metadata-step made.0 made.1 user name reply made.2)
+      subst (λ (x : Want). Answers x (Some reply)) (sym is) (metadata-step made.0 made.1 user name reply made.2.before made.2.does)

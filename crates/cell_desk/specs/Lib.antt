@@ -1,3 +1,3 @@
 pub mod Connections
-pub mod Entries
+pub mod Finishes
 pub mod Orders

@@ -1,16 +1,16 @@
 //! Asks of the namesystem, with the calls of the key management service that they want.
-ghost use Rattle.std.specs.Prelude.{◌≡◌, IfOk, List};
+ghost use Rattle.std.specs.Prelude.{◌≡◌, IfOk};
 ghost use Rattle.hk_serve.specs.Transactions.{OfNames};
-ghost use Rattle.kms_cell.specs.Entries.{KmsEntry};
-ghost use Rattle.name_cell.specs.Asked.{Answers};
 ghost use Rattle.name_core.specs.Calls.{superuser};
+ghost use Rattle.name_history.specs.Asked.{Answers, HasNote};
+ghost use Rattle.name_history.specs.Served.{Got, IfWanted, act_wanted};
 ghost use Rattle.cell_desk.specs.Connections.{MakesOrder};
-ghost use Rattle.cell_desk.specs.Entries.{KeysMake, calls_of};
-ghost use Rattle.cell_desk.specs.Orders.{WantedCalls, finish_reply};
+ghost use Rattle.cell_desk.specs.Finishes.{FinishesAsk};
+ghost use Rattle.cell_desk.specs.Orders.{finish_reply};
 
 use hk_base::{ByteList, NoMemory, Text};
 use kms_calls::{KmsCall, KmsReply};
-use name_calls::{Answered, Ask, NPath, NameRefusal, NameReply, Want};
+use name_calls::{Answered, Ask, AskNote, NPath, NameRefusal, NameReply, Want};
 use name_rest::NameOrder;
 use std::alloc::Global;
 use std::sync::Wait;
@@ -57,11 +57,9 @@ fn call_wanted<S: Turns, R: Wait>(
     want: Want,
 ) -> Option<KmsReply>
     requires { caller ≡ superuser }
-    ensures calls { (made : List (KmsEntry S.D S.W)) × KeysMake S.state S.to_come (S.keys_seen pass.old) made (S.keys_seen pass.new) × WantedCalls want result (calls_of made) }
+    ensures got { IfWanted (λ q r. Got 0 q r (S.keys_seen pass.new).number (S.keys_seen pass.new).seen) (act_wanted want) result }
     ensures answers { Answers want result }
 {
-    // The history that the pass has seen is legal.
-    let _ = shared.count_keys(pass);
     match want {
         Want::Nothing => None,
         Want::Generate(name) => {
@@ -75,6 +73,36 @@ fn call_wanted<S: Turns, R: Wait>(
     }
 }
 
+/// Makes the call that the note of an ask wants, if it wants one, and finishes the ask with the reply. The
+/// pass of the keys that makes the call is met into the one that the namesystem keeps.
+fn finish_asked<S: Turns, R: Wait>(
+    rt: &R,
+    shared: &S,
+    mut keys: S::Keys,
+    names: &mut S::Names,
+    caller: Text,
+    note: AskNote,
+) -> Result<(), NameRefusal>
+    requires caller { caller ≡ superuser }
+    requires noted { HasNote note (S.names_seen names.old).seen }
+    ensures { FinishesAsk S.state S.to_come (S.names_seen names.old) note result (S.names_seen names.new) }
+{
+    let id = note.id;
+    match call_wanted(rt, shared, &mut keys, caller, note.want) {
+        None => {
+            drop(keys);
+            shared.finish_names(rt, names, Answered { id, reply: None })
+        }
+        Some(reply) => {
+            let answered = Answered {
+                id,
+                reply: Some(reply),
+            };
+            shared.finish_meeting(rt, names, keys, answered)
+        }
+    }
+}
+
 fn finish_reply(finished: Result<(), NameRefusal>) -> NameReply
     ensures { result ≡ finish_reply finished }
 {
@@ -84,7 +112,8 @@ fn finish_reply(finished: Result<(), NameRefusal>) -> NameReply
     }
 }
 
-/// Carries out an ask of a user: makes it, makes the call that its note wants, and finishes it.
+/// Carries out an ask of a user: makes it, makes the call that its note wants, and finishes it. The call is
+/// made by a pass that is split from the one of the keys before the ask.
 pub(crate) fn carry_out<S: Turns, R: Wait>(
     rt: &R,
     shared: &S,
@@ -99,11 +128,12 @@ pub(crate) fn carry_out<S: Turns, R: Wait>(
 {
     // The history that the pass has seen is legal.
     let _ = shared.count_keys(keys);
-    let note = match shared.ask_names(rt, names, user, ask) {
-        Ok(note) => note,
-        Err(why) => return NameReply::Refused(why),
-    };
-    let reply = call_wanted(rt, shared, keys, caller, note.want);
-    let answered = Answered { id: note.id, reply };
-    finish_reply(shared.finish_names(rt, names, answered))
+    let split = shared.split_keys(rt, keys);
+    match shared.ask_names(rt, names, user, ask) {
+        Ok(note) => finish_reply(finish_asked(rt, shared, split, names, caller, note)),
+        Err(why) => {
+            drop(split);
+            NameReply::Refused(why)
+        }
+    }
 }

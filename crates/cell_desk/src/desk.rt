@@ -4,7 +4,7 @@ ghost use Rattle.hk_serve.specs.Transactions.{OfNames};
 ghost use Rattle.cell_desk.specs.Connections.{MakesOrder};
 
 use crate::asks::{carry_out, prepare};
-use crate::notices::{Notices, generates, tell_asked, tell_generated};
+use crate::telling::{generates, tell_asked, tell_generated};
 use hk_base::{Gate, Point, Text};
 use hk_serve::Desk;
 use kms_calls::{KmsCall, KmsReply};
@@ -13,7 +13,7 @@ use name_rest::NameOrder;
 use std::alloc::Global;
 use std::marker::Model;
 use std::sync::Wait;
-use turns::Turns;
+use turns::{Notices, Turns};
 
 /// Both services as a desk, which makes each call by its passes. Contracts see what the passes know.
 #[derive(Drop)]
@@ -96,6 +96,8 @@ impl<'a, S: Turns, R: Wait, G: Gate, H: Notices> CellDesk<'a, S, R, G, H> {
         let _ = self.shared.count_keys(&self.keys);
         let _ = self.shared.count_names(&self.names);
         let Ok((caller, zone)) = prepare(self.alloc, &ask) else {
+            drop(user);
+            drop(ask);
             return NameReply::Refused(NameRefusal::NoMemory);
         };
         let reply = carry_out(

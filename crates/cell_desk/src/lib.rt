@@ -3,9 +3,8 @@
 
 mod asks;
 mod desk;
-mod notices;
 mod serve;
+mod telling;
 
 pub use desk::CellDesk;
-pub use notices::{NoNotices, Notices};
 pub use serve::serve_cells;

@@ -4,24 +4,24 @@ ghost use Rattle.hk_base.specs.Faults.{Rose};
 ghost use Rattle.http_wire.specs.Reading.{ahead};
 ghost use Rattle.hk_serve.specs.Served.{Served};
 ghost use Rattle.kms_cell.specs.Entries.{KmsEntry};
-ghost use Rattle.name_cell.specs.Entries.{NameEntry};
+ghost use Rattle.name_history.specs.Entries.{NameEntry};
 ghost use Rattle.cell_desk.specs.Connections.{MakesOrder, ServedByCells};
-ghost use Rattle.cell_desk.specs.Entries.{KeysMake, NamesMake};
+ghost use Rattle.turns.specs.Entries.{KeysMake, NamesMake};
 
 use crate::desk::CellDesk;
-use crate::notices::Notices;
 use hk_base::{Ended, Gate, Sink, Source};
 use hk_serve::serve_conn;
 use std::alloc::Global;
 use std::sync::Wait;
-use turns::Turns;
+use turns::{Notices, Turns};
 
 /// Serves the requests of a connection with both services in their cells, as `serve_conn` does, and
 /// returns the passes. A request that is a call takes one call of its cell. A request that is a change
-/// with a call of the key management service in between takes its ask, that call as `hdfs`, and its
-/// finish; if there is no memory for it, it is refused and takes none. The passes make no other calls.
-/// Other threads may call the cells in between. It passes the gate before each reply, and tells the
-/// notices what was generated and submitted. It may wait for the gate and for the locks.
+/// with a call of the key management service in between takes its ask and its finish, and the state of the
+/// finish shows that call, made as `hdfs` by a pass that is split from `keys`; if there is no memory for it,
+/// it is refused and takes none. The passes make no other calls. Other threads may call the cells in
+/// between. It passes the gate before each reply, and tells the notices what was generated and submitted.
+/// It may wait for the gate and for the locks.
 pub fn serve_cells<I: Source, O: Sink, S: Turns, R: Wait, G: Gate, H: Notices>(
     rt: &R,
     alloc: Global,
@@ -37,8 +37,8 @@ pub fn serve_cells<I: Source, O: Sink, S: Turns, R: Wait, G: Gate, H: Notices>(
     ensures served { (unused : List ℕ) × Served (MakesOrder S.state S.to_come)
         (record { ahead = I.left source.old; desk = record { keys = S.keys_seen keys; names = S.names_seen names }; written = O.written sink.old })
         (record { ahead = ahead unused (I.left source.new); desk = record { keys = S.keys_seen result.1; names = S.names_seen result.2 }; written = O.written sink.new }) result.0 }
-    ensures entries { (by_keys : List (KmsEntry S.D S.W)) × (by_names : List (NameEntry S.D))
-        × KeysMake S.state S.to_come (S.keys_seen keys) by_keys (S.keys_seen result.1) × NamesMake S.state (S.names_seen names) by_names (S.names_seen result.2)
+    ensures entries { (by_keys : List (KmsEntry S.D S.W)) × (by_names : List (NameEntry S.D S.W))
+        × KeysMake S.state S.to_come (S.keys_seen keys) by_keys (S.keys_seen result.1) × NamesMake S.state S.to_come (S.names_seen names) by_names (S.names_seen result.2)
         × ServedByCells (I.left source.old) (O.written sink.old) by_keys by_names (I.left source.new) (O.written sink.new) result.0 }
 
     ensures read_later { I.faults source.old ≤ I.faults source.new }

@@ -4,13 +4,13 @@ use Rattle.std.proofs.Common.{subst, sym}
 use Rattle.hk_base.specs.Faults.{Rose}
 use Rattle.hk_base.specs.declared.ended.Ended.{Ended}
 use Rattle.kms_cell.specs.Entries.{KmsEntry}
-use Rattle.name_cell.specs.Entries.{NameEntry}
+use Rattle.name_history.specs.Entries.{NameEntry}
 use Rattle.cell_desk.specs.Connections.{ServedByCells}
 use Rattle.cell_server.specs.Connections.{ServesEnds}
 
 -- it is served as it was if neither what is left or written nor the faults changed
 pub serves_closed : {I O D W : Type 0} (left : I → Option (List ℕ)) (read_faults : I → ℕ) (written : O → Option (List ℕ)) (write_faults : O → ℕ)
-    (input : I) (out : O) (keys : List (KmsEntry D W)) (names : List (NameEntry D)) (input' : I) (out' : O) (how : Ended) (input'' : I) (out'' : O)
+    (input : I) (out : O) (keys : List (KmsEntry D W)) (names : List (NameEntry D W)) (input' : I) (out' : O) (how : Ended) (input'' : I) (out'' : O)
     → left input'' ≡ left input' → read_faults input'' ≡ read_faults input' → written out'' ≡ written out' → write_faults out'' ≡ write_faults out'
     → ServesEnds left read_faults written write_faults input out keys names input' out' how
     → ServesEnds left read_faults written write_faults input out keys names input'' out'' how

@@ -6,7 +6,7 @@ use Rattle.hist_cell.specs.declared.views.Known.{Known}
 use Rattle.hist_cell.specs.History.{Distinct, IsIn, Meets, Splits, own}
 use Rattle.hk_base.specs.declared.ended.Ended.{Ended}
 use Rattle.kms_cell.specs.Entries.{KmsEntry, KmsKnown}
-use Rattle.name_cell.specs.Entries.{NameEntry, NameKnown}
+use Rattle.name_history.specs.Entries.{NameEntry, NameKnown}
 use Rattle.server_parts.specs.Doors.{DoorState, with_accepted, with_left, with_more}
 use Rattle.cell_server.specs.Connections.{AllFresh, AllServed, Connections, EndsSo, GoesOn, Going, HasMet, Serving, Start, Visit, came_of, ends_of, keys_of, left_of, names_of}
 use Rattle.cell_workers.specs.Work.{PoolWorks, IsFresh}
@@ -94,22 +94,22 @@ module _ {I O D W : Type 0} where
   fresh_snoc (t ∷ starts) s f is = (f.0, fresh_snoc starts s f.1 is)
 
 module _ {I O D W : Type 0} (serves : Serving I O D W) where
-  still_served : (keys keys' : List (KmsEntry D W)) (names names' : List (NameEntry D)) (visits : List (Visit I O))
+  still_served : (keys keys' : List (KmsEntry D W)) (names names' : List (NameEntry D W)) (visits : List (Visit I O))
       → ((k : ℕ) → IsIn k (map keys_of visits) → own k keys' ≡ own k keys) → ((k : ℕ) → IsIn k (map names_of visits) → own k names' ≡ own k names)
       → AllServed serves keys names visits → AllServed serves keys' names' visits
   still_served keys keys' names names' [] same same' a = tt
   still_served keys keys' names names' (t ∷ visits) same same' a = (
     subst (λ (ks : List (KmsEntry D W)). serves t.input t.out ks (own t.names names') t.left.input t.left.out t.left.ended) (sym (same t.keys (inl refl)))
-        (subst (λ (ns : List (NameEntry D)). serves t.input t.out (own t.keys keys) ns t.left.input t.left.out t.left.ended) (sym (same' t.names (inl refl))) a.0),
+        (subst (λ (ns : List (NameEntry D W)). serves t.input t.out (own t.keys keys) ns t.left.input t.left.out t.left.ended) (sym (same' t.names (inl refl))) a.0),
     still_served keys keys' names names' visits (λ k i. same k (inr i)) (λ k i. same' k (inr i)) a.1,
   )
 
-  served_snoc : (keys : List (KmsEntry D W)) (names : List (NameEntry D)) (visits : List (Visit I O)) (t : Visit I O) → AllServed serves keys names visits
+  served_snoc : (keys : List (KmsEntry D W)) (names : List (NameEntry D W)) (visits : List (Visit I O)) (t : Visit I O) → AllServed serves keys names visits
       → serves t.input t.out (own t.keys keys) (own t.names names) t.left.input t.left.out t.left.ended → AllServed serves keys names (visits ++ t ∷ [])
   served_snoc keys names [] t a is = (is, tt)
   served_snoc keys names (u ∷ visits) t a is = (a.0, served_snoc keys names visits t a.1 is)
 
-  pub going_begins : (door : DoorState I O) (keys : KmsKnown D W) (names : NameKnown D) → Going serves door keys names door keys names []
+  pub going_begins : (door : DoorState I O) (keys : KmsKnown D W) (names : NameKnown D W) → Going serves door keys names door keys names []
   going_begins door keys names = record {
     visits = [];
     accepted = omega arith;
@@ -123,7 +123,7 @@ module _ {I O D W : Type 0} (serves : Serving I O D W) where
     fresh = tt;
   }
 
-  pub going_accepts : (door : DoorState I O) (keys : KmsKnown D W) (names : NameKnown D) (running : List (Start I O D W)) (door' : DoorState I O) (keys' : KmsKnown D W) (names' : NameKnown D) (s : Start I O D W)
+  pub going_accepts : (door : DoorState I O) (keys : KmsKnown D W) (names : NameKnown D W) (running : List (Start I O D W)) (door' : DoorState I O) (keys' : KmsKnown D W) (names' : NameKnown D W) (s : Start I O D W)
       → door' ≡ with_accepted door (ends_of s) → keys' ≡ keys → names' ≡ names → Splits keys s.keys → Splits names s.names → GoesOn serves door keys names running door' keys' names' (running ++ s ∷ [])
   going_accepts door keys names running door' keys' names' s more still still' splits splits' door0 keys0 names0 g =
       let accepted : door'.accepted ≡ door.accepted + 1 = ap (λ (d : DoorState I O). d.accepted) more in
@@ -139,14 +139,14 @@ module _ {I O D W : Type 0} (serves : Serving I O D W) where
             ∙ ap (with_more door0.came) (append_assoc (map came_of g.visits) (map ends_of running) (ends_of s ∷ []) ∙ ap (λ l. map came_of g.visits ++ l) (sym (map_snoc ends_of running s)))));
         gone = ap (λ (d : DoorState I O). d.gone) more ∙ g.gone;
         port = ap (λ (d : DoorState I O). d.port) more ∙ g.port;
-        served = subst (λ (p : KmsKnown D W). AllServed serves p.seen names'.seen g.visits) (sym still) (subst (λ (p : NameKnown D). AllServed serves keys.seen p.seen g.visits) (sym still') g.served);
+        served = subst (λ (p : KmsKnown D W). AllServed serves p.seen names'.seen g.visits) (sym still) (subst (λ (p : NameKnown D W). AllServed serves keys.seen p.seen g.visits) (sym still') g.served);
         met_keys = met_same keys0 keys keys' (map keys_of g.visits) still g.met_keys;
         met_names = met_same names0 names names' (map names_of g.visits) still' g.met_names;
         fresh = fresh_snoc running s g.fresh (splits.no_own, splits.ended, splits'.no_own, splits'.ended);
       }
 
-  pub going_finishes : (door : DoorState I O) (keys : KmsKnown D W) (names : NameKnown D) (s : Start I O D W) (running : List (Start I O D W)) (door' : DoorState I O) (keys' : KmsKnown D W) (names' : NameKnown D)
-      (input : I) (out : O) (theirs : KmsKnown D W) (their_names : NameKnown D) (how : Ended)
+  pub going_finishes : (door : DoorState I O) (keys : KmsKnown D W) (names : NameKnown D W) (s : Start I O D W) (running : List (Start I O D W)) (door' : DoorState I O) (keys' : KmsKnown D W) (names' : NameKnown D W)
+      (input : I) (out : O) (theirs : KmsKnown D W) (their_names : NameKnown D W) (how : Ended)
       → EndsSo serves s input out theirs their_names how → door' ≡ with_left door (record { input = input; out = out; ended = how })
       → Meets keys theirs keys' → Meets names their_names names'
       → GoesOn serves door keys names (s ∷ running) door' keys' names' running
@@ -172,7 +172,7 @@ module _ {I O D W : Type 0} (serves : Serving I O D W) where
             (met_stays keys0 keys theirs keys' (map keys_of g.visits) g.met_keys met) (met_stays names0 names their_names names' (map names_of g.visits) g.met_names met') g.served)
             (subst (λ (ks : List (KmsEntry D W)). serves s.input s.out ks (own their_names.number names'.seen) input out how)
             (ap (λ (n : ℕ). own n theirs.seen) (sym done.keys_number) ∙ sym (met.that_own theirs.number (inl refl)))
-            (subst (λ (ns : List (NameEntry D)). serves s.input s.out (own s.keys.number theirs.seen) ns input out how)
+            (subst (λ (ns : List (NameEntry D W)). serves s.input s.out (own s.keys.number theirs.seen) ns input out how)
             (ap (λ (n : ℕ). own n their_names.seen) (sym done.names_number) ∙ sym (met'.that_own their_names.number (inl refl))) done.served));
         met_keys = subst (HasMet keys0 keys') (sym (map_snoc keys_of g.visits t)) (met_one keys0 keys theirs keys' (map keys_of g.visits) g.met_keys met none);
         met_names = subst (HasMet names0 names') (sym (map_snoc names_of g.visits t)) (met_one names0 names their_names names' (map names_of g.visits) g.met_names met' none');
@@ -180,7 +180,7 @@ module _ {I O D W : Type 0} (serves : Serving I O D W) where
       }
 
   -- no connection runs any longer
-  pub going_ends : (first second : ℕ → ℕ) (door0 : DoorState I O) (keys0 : KmsKnown D W) (names0 : NameKnown D) (door : DoorState I O) (keys : KmsKnown D W) (names : NameKnown D) → Going serves door0 keys0 names0 door keys names []
+  pub going_ends : (first second : ℕ → ℕ) (door0 : DoorState I O) (keys0 : KmsKnown D W) (names0 : NameKnown D W) (door : DoorState I O) (keys : KmsKnown D W) (names : NameKnown D W) → Going serves door0 keys0 names0 door keys names []
       → Connections serves first second door0 keys0 names0 door keys names
   going_ends first second door0 keys0 names0 door keys names g =
       let accepted : door.accepted ≡ door0.accepted + (length g.visits + 0) = g.accepted in
@@ -199,7 +199,7 @@ module _ {I O D W : Type 0} (serves : Serving I O D W) where
       }
 
   -- two passes of workers are met as well
-  pub workers_end : (first second : ℕ → ℕ) (door0 : DoorState I O) (keys0 : KmsKnown D W) (names0 : NameKnown D) (door : DoorState I O) (keys begun theirs keys' : KmsKnown D W) (names names_begun their_names names' : NameKnown D)
+  pub workers_end : (first second : ℕ → ℕ) (door0 : DoorState I O) (keys0 : KmsKnown D W) (names0 : NameKnown D W) (door : DoorState I O) (keys begun theirs keys' : KmsKnown D W) (names names_begun their_names names' : NameKnown D W)
       → Going serves door0 keys0 names0 door keys names [] → IsFresh begun → IsFresh names_begun → PoolWorks first second begun names_begun theirs their_names → Meets keys theirs keys' → Meets names their_names names'
       → Connections serves first second door0 keys0 names0 door keys' names'
   workers_end first second door0 keys0 names0 door keys begun theirs keys' names names_begun their_names names' g fresh fresh' works met met' =
@@ -220,14 +220,14 @@ module _ {I O D W : Type 0} (serves : Serving I O D W) where
       }
 
   -- the same, after a split for the workers
-  pub workers_end_after : (first second : ℕ → ℕ) (door0 : DoorState I O) (keys0 keys1 : KmsKnown D W) (names0 names1 : NameKnown D) (door : DoorState I O) (keys begun theirs keys' : KmsKnown D W) (names names_begun their_names names' : NameKnown D)
+  pub workers_end_after : (first second : ℕ → ℕ) (door0 : DoorState I O) (keys0 keys1 : KmsKnown D W) (names0 names1 : NameKnown D W) (door : DoorState I O) (keys begun theirs keys' : KmsKnown D W) (names names_begun their_names names' : NameKnown D W)
       → keys1 ≡ keys0 → names1 ≡ names0 → Splits keys0 begun → Splits names0 names_begun → Going serves door0 keys1 names1 door keys names [] → PoolWorks first second begun names_begun theirs their_names
       → Meets keys theirs keys' → Meets names their_names names' → Connections serves first second door0 keys0 names0 door keys' names'
   workers_end_after first second door0 keys0 keys1 names0 names1 door keys begun theirs keys' names names_begun their_names names' same same' splits splits' g works met met' =
       workers_end first second door0 keys0 names0 door keys begun theirs keys' names names_begun their_names names'
-      (subst (λ (k : KmsKnown D W). Going serves door0 k names0 door keys names []) same (subst (λ (n : NameKnown D). Going serves door0 keys1 n door keys names []) same' g))
+      (subst (λ (k : KmsKnown D W). Going serves door0 k names0 door keys names []) same (subst (λ (n : NameKnown D W). Going serves door0 keys1 n door keys names []) same' g))
       (splits.no_own, splits.ended) (splits'.no_own, splits'.ended) works met met'
 
   -- nothing has happened yet
-  pub connections_none : (first second : ℕ → ℕ) (door : DoorState I O) (keys : KmsKnown D W) (names : NameKnown D) → Connections serves first second door keys names door keys names
+  pub connections_none : (first second : ℕ → ℕ) (door : DoorState I O) (keys : KmsKnown D W) (names : NameKnown D W) → Connections serves first second door keys names door keys names
   connections_none first second door keys names = going_ends first second door keys names door keys names (going_begins door keys names)

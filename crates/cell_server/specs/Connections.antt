@@ -7,7 +7,7 @@ use Rattle.hk_base.specs.declared.ended.Ended.TheVariants as ended
 use Rattle.hist_cell.specs.declared.views.Known.{Known}
 use Rattle.hist_cell.specs.History.{Distinct, IsIn, own}
 use Rattle.kms_cell.specs.Entries.{KmsEntry, KmsKnown}
-use Rattle.name_cell.specs.Entries.{NameEntry, NameKnown}
+use Rattle.name_history.specs.Entries.{NameEntry, NameKnown}
 use Rattle.server_parts.specs.Doors.{DoorState, Left, with_more}
 use Rattle.cell_desk.specs.Connections.{ServedByCells}
 use Rattle.cell_workers.specs.Work.{IsWork}
@@ -16,11 +16,11 @@ use Rattle.cell_workers.specs.Work.{IsWork}
 
 -- what serves a connection: both ends before, the entries of each service, both ends after, and how it ended
 abbrev pub Serving : Type 0 → Type 0 → Type 0 → Type 0 → Type 1
-Serving I O D W = I → O → List (KmsEntry D W) → List (NameEntry D) → I → O → Ended → Type 0
+Serving I O D W = I → O → List (KmsEntry D W) → List (NameEntry D W) → I → O → Ended → Type 0
 
 -- A connection was served by these entries. It ended with a fault of reading or writing only if that count of faults rose.
 pub record ServesEnds {I O D W : Type 0} (left : I → Option (List ℕ)) (read_faults : I → ℕ) (written : O → Option (List ℕ)) (write_faults : O → ℕ)
-    (input : I) (out : O) (keys : List (KmsEntry D W)) (names : List (NameEntry D)) (input' : I) (out' : O) (how : Ended) : Type 0 where
+    (input : I) (out : O) (keys : List (KmsEntry D W)) (names : List (NameEntry D W)) (input' : I) (out' : O) (how : Ended) : Type 0 where
   pub served : ServedByCells (left input) (written out) keys names (left input') (written out') how
   pub read_later : read_faults input ≤ read_faults input'
   pub read_fault : how ≡ ended.ReadFault → Rose (read_faults input) (read_faults input')
@@ -32,10 +32,10 @@ pub record Start (I O D W : Type 0) : Type 0 where
   pub input : I
   pub out : O
   pub keys : KmsKnown D W
-  pub names : NameKnown D
+  pub names : NameKnown D W
 
 -- a connection was served by the entries that its passes made, which met no others
-pub record EndsSo {I O D W : Type 0} (serves : Serving I O D W) (start : Start I O D W) (input : I) (out : O) (keys : KmsKnown D W) (names : NameKnown D) (how : Ended) : Type 0 where
+pub record EndsSo {I O D W : Type 0} (serves : Serving I O D W) (start : Start I O D W) (input : I) (out : O) (keys : KmsKnown D W) (names : NameKnown D W) (how : Ended) : Type 0 where
   pub served : serves start.input start.out (own start.keys.number keys.seen) (own start.names.number names.seen) input out how
   pub keys_number : keys.number ≡ start.keys.number
   pub keys_ended : keys.ended ≡ start.keys.ended
@@ -93,14 +93,14 @@ module _ {I O D W : Type 0} where
 
 module _ {I O D W : Type 0} (serves : Serving I O D W) where
   -- each connection was served by the entries of its numbers, and no others
-  abbrev pub AllServed : List (KmsEntry D W) → List (NameEntry D) → List (Visit I O) → Type 0
+  abbrev pub AllServed : List (KmsEntry D W) → List (NameEntry D W) → List (Visit I O) → Type 0
   AllServed keys names [] = ⊤
   AllServed keys names (visit ∷ more) =
       serves visit.input visit.out (own visit.keys keys) (own visit.names names) visit.left.input visit.left.out visit.left.ended × AllServed keys names more
 
   -- Connections came and were left in the order in which they came, except for those that still run. Each that was left was served by the
   -- entries of two numbers of its own, which the caller's passes have seen.
-  pub record Going (door0 : DoorState I O) (keys0 : KmsKnown D W) (names0 : NameKnown D) (door : DoorState I O) (keys : KmsKnown D W) (names : NameKnown D)
+  pub record Going (door0 : DoorState I O) (keys0 : KmsKnown D W) (names0 : NameKnown D W) (door : DoorState I O) (keys : KmsKnown D W) (names : NameKnown D W)
       (running : List (Start I O D W)) : Type 0 where
     pub visits : List (Visit I O)
     pub accepted : door.accepted ≡ door0.accepted + (length visits + length running)
@@ -114,14 +114,14 @@ module _ {I O D W : Type 0} (serves : Serving I O D W) where
     pub fresh : AllFresh running
 
   -- what goes on from any first state still does
-  abbrev pub GoesOn : DoorState I O → KmsKnown D W → NameKnown D → List (Start I O D W) → DoorState I O → KmsKnown D W → NameKnown D → List (Start I O D W) → Type 0
+  abbrev pub GoesOn : DoorState I O → KmsKnown D W → NameKnown D W → List (Start I O D W) → DoorState I O → KmsKnown D W → NameKnown D W → List (Start I O D W) → Type 0
   GoesOn door keys names running door' keys' names' running' =
-      (door0 : DoorState I O) (keys0 : KmsKnown D W) (names0 : NameKnown D) → Going door0 keys0 names0 door keys names running → Going door0 keys0 names0 door' keys' names' running'
+      (door0 : DoorState I O) (keys0 : KmsKnown D W) (names0 : NameKnown D W) → Going door0 keys0 names0 door keys names running → Going door0 keys0 names0 door' keys' names' running'
 
   -- Connections came and were all left, in the order in which they came. Each was served by the entries of two numbers of its own, which the
   -- caller's passes have seen. Beside their passes, those of workers were met, whose entries are work: `first` and `second` are the words of the
   -- fillers.
-  pub record Connections (first second : ℕ → ℕ) (door0 : DoorState I O) (keys0 : KmsKnown D W) (names0 : NameKnown D) (door : DoorState I O) (keys : KmsKnown D W) (names : NameKnown D) : Type 0 where
+  pub record Connections (first second : ℕ → ℕ) (door0 : DoorState I O) (keys0 : KmsKnown D W) (names0 : NameKnown D W) (door : DoorState I O) (keys : KmsKnown D W) (names : NameKnown D W) : Type 0 where
     pub visits : List (Visit I O)
     pub accepted : door.accepted ≡ door0.accepted + length visits
     pub left : door.left ≡ door0.left + length visits

@@ -9,12 +9,11 @@ use crate::context::ServeContext;
 use crate::ends::ServeEnd;
 use crate::hang_ups::{count_to_join, take_place};
 use crate::running::{Done, Queue, Running};
-use cell_desk::Notices;
 use hk_base::Gate;
 use server_parts::{Accepted, Door};
 use std::sync::Wait;
 use std::thread::{Scope, Threads};
-use turns::Turns;
+use turns::{Notices, Turns};
 
 /// Waits for a connection to end, leaves it at the door, and meets its passes.
 fn finish<'a, R: Threads + Wait, S: Turns, G: Gate, H: Notices, A: Door>(

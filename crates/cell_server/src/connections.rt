@@ -8,14 +8,13 @@ use crate::context::ServeContext;
 use crate::ends::ServeEnd;
 use crate::hang_ups::hang_up_unserved;
 use crate::running::Queue;
-use cell_desk::Notices;
 use hk_base::Gate;
 use server_parts::Door;
 use std::alloc::AllocError;
 use std::collections::VecDeque;
 use std::sync::Wait;
 use std::thread::{Scope, Threads};
-use turns::Turns;
+use turns::{Notices, Turns};
 
 /// How many connections beyond those with a place may wait to be joined.
 const UNJOINED: usize = 1024;

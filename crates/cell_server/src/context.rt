@@ -6,12 +6,12 @@ ghost use Rattle.cell_server.specs.Connections.{EndsSo, ServesEnds};
 use crate::handles::SharedHandle;
 use crate::places::Places;
 use crate::running::Done;
-use cell_desk::{Notices, serve_cells};
+use cell_desk::serve_cells;
 use hk_base::Gate;
 use server_parts::{CloseInput, CloseOutput, HangUp};
 use std::alloc::Global;
 use std::sync::Wait;
-use turns::Turns;
+use turns::{Notices, Turns};
 
 /// What connections are served with. Their threads share it.
 #[derive(Drop)]

@@ -5,7 +5,6 @@ ghost use Rattle.cell_server.specs.Connections.{EndsSo, ServesEnds};
 
 use crate::context::ServeContext;
 use crate::handles::SharedHandle;
-use cell_desk::Notices;
 use cell_workers::MustJoin;
 use hk_base::{Ended, Gate, Sink, Source};
 use server_parts::{CloseInput, CloseOutput, Door, HangUp};
@@ -14,7 +13,7 @@ use std::marker::Model;
 use std::snapshot::Snapshot;
 use std::sync::Wait;
 use std::thread::{Promise, Scope, Threads};
-use turns::Turns;
+use turns::{Notices, Turns};
 
 /// A connection that has ended: both ends, the passes that served it, and how it ended.
 #[derive(Drop)]

@@ -48,7 +48,7 @@ fn serve_opened<
     let _ = shared.count_keys(keys);
     let _ = shared.count_names(names);
     match end {
-        ServeEnd::Served => match last_round(rt, alloc, shared, keys, names, gate) {
+        ServeEnd::Served => match last_round(rt, alloc, shared, names, gate) {
             Ok(()) => ServeEnd::Served,
             Err(_) => ServeEnd::NoMemory,
         },
@@ -65,8 +65,8 @@ fn serve_opened<
 /// run two fillers, which draw from `first` and `second`, two batch workers and an updater.
 ///
 /// If all connections were served, a last round then finishes the re-encryptions that the workers left.
-/// If the door fails or takes no more connections, those that run are ended, and there is no last round. It may wait for the door, the connections, the gate and the locks, and waits for ever if
-/// `places` is 0.
+/// If the door fails or takes no more connections, those that run are ended, and there is no last round.
+/// It may wait for the door, the connections, the gate and the locks, and waits for ever if `places` is 0.
 pub fn serve_all<
     R: Threads + Wait + Sync,
     K: Drop + Send,

@@ -1,3 +1,4 @@
 pub mod MadeLemmas
+pub mod MeetLemmas
 pub mod RoundLemmas
 pub mod WorkLemmas

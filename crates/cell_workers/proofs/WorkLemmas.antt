@@ -6,15 +6,12 @@ use Rattle.hk_base.specs.Disk.{DiskState}
 use Rattle.hist_cell.specs.declared.views.Entry.{Entry}
 use Rattle.hist_cell.specs.declared.views.Known.{Known}
 use Rattle.hist_cell.specs.History.{IsIn, MakesEntry, Meets, Splits, own}
-use Rattle.reenc_walk.specs.declared.sent.BatchNote.{BatchNote}
-use Rattle.reenc_update.specs.Replies.{ReplyState}
-use Rattle.turns.specs.Turns.{ServesTurn}
 use Rattle.kms_cell.specs.Entries.{KmsEntry, KmsKnown}
 use Rattle.kms_cell.specs.Fills.{FillsTurn}
 use Rattle.kms_cell.specs.declared.filling.FillTurn.{FillTurn}
-use Rattle.name_cell.specs.Entries.{NameEntry, NameKnown}
-use Rattle.cell_desk.specs.Entries.{MakesEntries}
-use Rattle.cell_workers.specs.Work.{Adds, AllCall, AreFillTurns, PoolWorks, FilledFrom, Fills, FillsBoth, IsBatchCall, IsPoolWork, IsFresh, IsNameWork, Works}
+use Rattle.name_history.specs.Entries.{NameEntry, NameKnown}
+use Rattle.turns.specs.Entries.{MakesEntries}
+use Rattle.cell_workers.specs.Work.{Adds, AllCall, AreFillTurns, PoolWorks, FilledFrom, Fills, FillsBoth, IsPoolWork, IsFresh, IsNameWork, Works}
 
 pub in_right : (k : ℕ) (ms ns : List ℕ) → IsIn k ns → IsIn k (ms ++ ns)
 in_right k [] ns i = i
@@ -124,12 +121,7 @@ module _ {Q R S : Type 0} where
             (λ j. subst (AllCall work) (sym (met.that_own k (subst (λ l. IsIn k (u.number ∷ l)) (sym ended) j))) (works_of work t u theirs fresh n k j)) i;
       }
 
--- ---- turns
-
-module _ {D W : Type 0} (state : D → DiskState) (to_come : W → ℕ → ℕ) where
-  pub serve_works : (v w : KmsKnown D W) (batch : BatchNote) (came : ReplyState) → ServesTurn state to_come v batch came w → Works IsBatchCall v [] w
-  serve_works v w batch came (inl served) = works_entry IsBatchCall v w _ _ served.makes (batch, refl)
-  serve_works v w batch came (inr lacks) = works_same IsBatchCall v v w [] lacks.same (works_none IsBatchCall v)
+-- ---- fillers
 
 module _ {D W : Type 0} where
   turns_then : (n m : ℕ) (words rest words' : ℕ → ℕ) (made more : List (KmsEntry D W)) → AreFillTurns n words made rest → AreFillTurns m rest more words'
@@ -184,41 +176,30 @@ module _ {D W : Type 0} where
 
   -- ---- all workers
 
-  -- the fillers' pass is met into that of the batch workers
-  pub pool_works : (first second : ℕ → ℕ) (keys keys' w t u x : KmsKnown D W) (names asked n : NameKnown D) (others others' : List ℕ) → keys' ≡ keys → Splits keys t → FillsBoth first second t u
-      → Works IsNameWork names [] asked → Works IsBatchCall keys' others w → Works IsNameWork asked others' n → Meets w u x → PoolWorks first second keys names x n
-  pool_works first second keys keys' w t u x names asked n others others' same splits b asks calls works met fresh fresh' =
-      let begun : IsFresh t = (splits.no_own, splits.ended) in
-      let called : Works IsBatchCall keys others w = works_from IsBatchCall keys keys' w others same calls in
-      let worked : Works IsNameWork names others' n = works_then IsNameWork names asked n others' asks works in
-      let fillers : u.ended ≡ b.other ∷ [] = ended_others t u b.made (b.other ∷ []) begun b.adds in
-      let callers : w.ended ≡ others = ended_others keys w called.made others fresh called.adds in
+  pub pool_works : (first second : ℕ → ℕ) (keys x : KmsKnown D W) (names asked n : NameKnown D W) (others : List ℕ) → FillsBoth first second keys x
+      → Works IsNameWork names [] asked → Works IsNameWork asked others n → PoolWorks first second keys names x n
+  pool_works first second keys x names asked n others b asks works fresh fresh' =
+      let worked : Works IsNameWork names others n = works_then IsNameWork names asked n others asks works in
       record {
-        callers = x.number ∷ others;
-        filler = u.number;
+        filler = x.number;
         other_filler = b.other;
-        numbers = ap (λ l. x.number ∷ l) (met.ended ∙ (ap (λ l. l ++ u.number ∷ u.ended) callers ∙ ap (λ l. others ++ u.number ∷ l) fillers));
-        calls = λ k i.
-            (let at : IsIn k (w.number ∷ others) = subst (λ (m : ℕ). IsIn k (m ∷ others)) met.number i in
-            subst (AllCall IsBatchCall) (sym (met.this_own k (subst (λ l. IsIn k (w.number ∷ l)) (sym callers) at))) (works_of IsBatchCall keys w others fresh called k at));
-        fills = subst (FilledFrom first) (sym (met.that_own u.number (inl refl) ∙ own_made t u b.made (b.other ∷ []) u.number begun b.adds refl)) b.fills;
-        other_fills = subst (FilledFrom second) (sym (met.that_own b.other (inr (subst (IsIn b.other) (sym fillers) (inl refl))))) b.other_fills;
+        numbers = ap (λ l. x.number ∷ l) (ended_others keys x b.made (b.other ∷ []) fresh b.adds);
+        fills = subst (FilledFrom first) (sym (own_made keys x b.made (b.other ∷ []) x.number fresh b.adds refl)) b.fills;
+        other_fills = b.other_fills;
         works = λ k i.
-            works_of IsNameWork names n others' fresh' worked k (subst (λ l. IsIn k (n.number ∷ l)) (ended_others names n worked.made others' fresh' worked.adds) i);
+            works_of IsNameWork names n others fresh' worked k (subst (λ l. IsIn k (n.number ∷ l)) (ended_others names n worked.made others fresh' worked.adds) i);
       }
 
   -- work is seen by whoever has seen its entries
-  pub work_seen : (first second : ℕ → ℕ) (keys keys' : List (KmsEntry D W)) (names names' : List (NameEntry D)) (of_keys of_names : List ℕ)
+  pub work_seen : (first second : ℕ → ℕ) (keys keys' : List (KmsEntry D W)) (names names' : List (NameEntry D W)) (of_keys of_names : List ℕ)
       → ((k : ℕ) → IsIn k of_keys → own k keys' ≡ own k keys) → ((k : ℕ) → IsIn k of_names → own k names' ≡ own k names)
       → IsPoolWork first second keys names of_keys of_names → IsPoolWork first second keys' names' of_keys of_names
   work_seen first second keys keys' names names' of_keys of_names same same' d =
-      let there : (k : ℕ) → IsIn k (d.filler ∷ d.other_filler ∷ []) → IsIn k of_keys = λ k i. subst (IsIn k) (sym d.numbers) (in_right k d.callers (d.filler ∷ d.other_filler ∷ []) i) in
+      let there : (k : ℕ) → IsIn k (d.filler ∷ d.other_filler ∷ []) → IsIn k of_keys = λ k i. subst (IsIn k) (sym d.numbers) i in
       record {
-        callers = d.callers;
         filler = d.filler;
         other_filler = d.other_filler;
         numbers = d.numbers;
-        calls = λ k i. subst (AllCall IsBatchCall) (sym (same k (subst (IsIn k) (sym d.numbers) (in_left k d.callers (d.filler ∷ d.other_filler ∷ []) i)))) (d.calls k i);
         fills = subst (FilledFrom first) (sym (same d.filler (there d.filler (inl refl)))) d.fills;
         other_fills = subst (FilledFrom second) (sym (same d.other_filler (there d.other_filler (inr (inl refl))))) d.other_fills;
         works = λ k i. subst (AllCall IsNameWork) (sym (same' k i)) (d.works k i);

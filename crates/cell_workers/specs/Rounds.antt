@@ -1,9 +1,5 @@
 -- The last round: after all connections, each zone whose re-encryption goes on is walked through, and its batches are served and delivered.
-use Rattle.std.specs.Prelude.{◌≡◌, ℕ, Bool, true, false, cond, List, [], ◌∷◌, ◌++◌, Option, Some, None, Result, Ok, Err}
-use Rattle.hk_base.specs.Disk.{DiskState}
-use Rattle.kms_calls.specs.declared.calls.KmsReply.{KmsReply}
-use Rattle.kms_calls.specs.declared.calls.KmsReply.TheVariants as key_reply
-use Rattle.kms_calls.specs.declared.calls.KmsRefusal.TheVariants as key_refusal
+use Rattle.std.specs.Prelude.{◌≡◌, ℕ, Bool, true, false, cond, List, [], ◌∷◌, ◌++◌, length, Option, Some, None, Result, Ok, Err}
 use Rattle.name_calls.specs.declared.calls.NameCall.{NameCall}
 use Rattle.name_calls.specs.declared.calls.NameCall.TheVariants as call
 use Rattle.name_calls.specs.declared.calls.NameRefusal.{NameRefusal}
@@ -17,17 +13,14 @@ use Rattle.name_calls.specs.declared.status.State.TheVariants as state_is
 use Rattle.name_calls.specs.declared.zone_list.ZonePath.{ZonePath}
 use Rattle.reenc_walk.specs.declared.sent.BatchNote.{BatchNote}
 use Rattle.reenc_update.specs.Replies.{ReplyState}
-use Rattle.batch_calls.specs.Batches.{batch_call, reply_for}
 use Rattle.name_core.specs.Calls.{superuser}
 use Rattle.name_core.specs.declared.walks.Walked.{Walked}
 use Rattle.name_core.specs.declared.walks.Walked.TheVariants as walk
-use Rattle.kms_cell.specs.Entries.{KmsEntry, KmsKnown}
-use Rattle.kms_cell.specs.declared.acts.KmsAct.TheVariants as key_act
-use Rattle.kms_cell.specs.declared.acts.KmsActed.TheVariants as key_acted
-use Rattle.name_cell.specs.Entries.{NameEntry, NameKnown}
-use Rattle.name_cell.specs.declared.acts.NameAct.TheVariants as act
-use Rattle.name_cell.specs.declared.acts.NameActed.TheVariants as acted
-use Rattle.cell_desk.specs.Entries.{KeysMake, NamesMake}
+use Rattle.hist_cell.specs.History.{IsIn}
+use Rattle.name_history.specs.Entries.{NameEntry}
+use Rattle.name_history.specs.Served.{Got, IfServed}
+use Rattle.name_history.specs.declared.acts.NameAct.TheVariants as act
+use Rattle.name_history.specs.declared.acts.NameActed.TheVariants as acted
 
 -- ---- what replies say
 
@@ -63,99 +56,88 @@ After (Err why) more ends = ends
 
 -- ---- entries
 
-module _ {D : Type 0} where
+module _ {D W : Type 0} where
   -- a call of the superuser, with its reply
-  pub record IsCall (c : NameCall) (answer : NameReply) (e : NameEntry D) : Type 0 where
+  pub record IsCall (c : NameCall) (answer : NameReply) (e : NameEntry D W) : Type 0 where
     pub call_is : e.call ≡ act.Call superuser c
     pub reply_is : e.reply ≡ acted.Call answer
 
   -- a walk through the zone at a path, with its answer
-  pub record IsWalk (path : NPath) (answer : Result Walked NameRefusal) (e : NameEntry D) : Type 0 where
+  pub record IsWalk (path : NPath) (answer : Result Walked NameRefusal) (e : NameEntry D W) : Type 0 where
     pub call_is : e.call ≡ act.Walk path
     pub reply_is : e.reply ≡ acted.Walk answer
 
-  -- the delivery of a reply, with its answer
-  pub record IsDelivery (came : ReplyState) (answer : Result Delivered NameRefusal) (e : NameEntry D) : Type 0 where
-    pub call_is : e.call ≡ act.Deliver came
+  -- the delivery of a reply with the front of its batch, with its answer
+  pub record IsDelivery (front : ℕ) (came : ReplyState) (answer : Result Delivered NameRefusal) (e : NameEntry D W) : Type 0 where
+    pub call_is : e.call ≡ act.Deliver front came
     pub reply_is : e.reply ≡ acted.Deliver answer
 
   -- a walk gave no batch
-  pub record GivesNone (path : NPath) (walked : NameEntry D) : Type 0 where
+  pub record GivesNone (path : NPath) (walked : NameEntry D W) : Type 0 where
     pub gave : Result Walked NameRefusal
     pub walk_is : IsWalk path gave walked
     pub none : batch_of gave ≡ None
 
   -- one entry lists the zones
-  abbrev pub ListsZones : List ZonePath → List (NameEntry D) → Type 0
-  ListsZones zones made = (e : NameEntry D) × (answer : NameReply) × (made ≡ e ∷ []) × IsCall call.Zones answer e × HadMemory answer × (zones ≡ zones_in answer)
+  abbrev pub ListsZones : List ZonePath → List (NameEntry D W) → Type 0
+  ListsZones zones made = (e : NameEntry D W) × (answer : NameReply) × (made ≡ e ∷ []) × IsCall call.Zones answer e × HadMemory answer × (zones ≡ zones_in answer)
 
   -- one entry asks for the status of a zone, and shows whether its re-encryption goes on
-  abbrev pub ShowsStatus : NPath → Bool → List (NameEntry D) → Type 0
-  ShowsStatus path going made = (e : NameEntry D) × (answer : NameReply) × (made ≡ e ∷ []) × IsCall (call.Status path) answer e × HadMemory answer × (going ≡ goes_on answer)
+  abbrev pub ShowsStatus : NPath → Bool → List (NameEntry D W) → Type 0
+  ShowsStatus path going made = (e : NameEntry D W) × (answer : NameReply) × (made ≡ e ∷ []) × IsCall (call.Status path) answer e × HadMemory answer × (going ≡ goes_on answer)
 
   -- the status of each zone was asked for, in order; `going` are the paths of those whose re-encryption has not ended
-  abbrev pub AsksAbout : List ZonePath → List (NameEntry D) → List NPath → Type 0
+  abbrev pub AsksAbout : List ZonePath → List (NameEntry D W) → List NPath → Type 0
   AsksAbout [] [] going = going ≡ []
   AsksAbout (zone ∷ zones) (e ∷ es) going =
       (answer : NameReply) × (more : List NPath) × IsCall (call.Status zone.path) answer e × HadMemory answer
       × (going ≡ cond (goes_on answer) (zone.path ∷ more) more) × AsksAbout zones es more
   AsksAbout _ _ going = ⊥
 
-module _ {D W : Type 0} where
-  -- What came of a batch: an entry of the key management service is the call for it, and its reply says so; or there was no memory for the call.
-  abbrev pub CameOf : BatchNote → List (KmsEntry D W) → ReplyState → Type 0
-  CameOf batch [] came = came ≡ reply_for batch (key_reply.Refused key_refusal.NoMemory)
-  CameOf batch (e ∷ []) came =
-      (answer : KmsReply) × (e.call ≡ key_act.Call superuser (batch_call batch)) × (e.reply ≡ key_acted.Call answer) × (came ≡ reply_for batch answer)
-  CameOf batch _ came = ⊥
+  -- What came of a batch: by a number that was met into the kept pass of the keys, an entry after the front is the call for the batch, and its
+  -- reply says so; or nothing came back.
+  abbrev pub CameOf : ℕ → NameEntry D W → ReplyState → Type 0
+  CameOf front delivered came = IfServed (λ q r. (by : ℕ) × IsIn by delivered.after.keys.ended × Got front q r by delivered.after.keys.seen) came
 
-  -- a walk gave a batch, and what came of it by these entries was delivered
-  pub record DeliversBatch (path : NPath) (walked delivered : NameEntry D) (called : List (KmsEntry D W)) (answer : Result Delivered NameRefusal) : Type 0 where
+  -- A walk gave a batch, and what came of it was delivered. The front is what the kept pass of the keys had seen at the walk.
+  pub record DeliversBatch (path : NPath) (walked delivered : NameEntry D W) (answer : Result Delivered NameRefusal) : Type 0 where
     pub gave : Result Walked NameRefusal
     pub batch : BatchNote
+    pub front : ℕ
     pub came : ReplyState
     pub walk_is : IsWalk path gave walked
     pub gave_batch : batch_of gave ≡ Some batch
-    pub served : CameOf batch called came
-    pub delivery_is : IsDelivery came answer delivered
+    pub front_is : front ≡ length walked.after.keys.seen
+    pub for_batch : came.note ≡ batch
+    pub served : CameOf front delivered came
+    pub delivery_is : IsDelivery front came answer delivered
 
   -- The walks through the zone at a path: each batch is served and delivered before the next walk. The last walk is the first that gives no
   -- batch, or the first whose delivery is refused.
-  abbrev pub Walks : NPath → List (NameEntry D) → List (KmsEntry D W) → Type 0
-  Walks path [] called = ⊥
-  Walks path (walked ∷ []) called = GivesNone path walked × (called ≡ [])
-  Walks path (walked ∷ delivered ∷ es) called =
-      (first : List (KmsEntry D W)) × (more : List (KmsEntry D W)) × (answer : Result Delivered NameRefusal) × (called ≡ first ++ more)
-      × DeliversBatch path walked delivered first answer × After answer (Walks path es more) ((es ≡ []) × (more ≡ []))
+  abbrev pub Walks : NPath → List (NameEntry D W) → Type 0
+  Walks path [] = ⊥
+  Walks path (walked ∷ []) = GivesNone path walked
+  Walks path (walked ∷ delivered ∷ es) = (answer : Result Delivered NameRefusal) × DeliversBatch path walked delivered answer × After answer (Walks path es) (es ≡ [])
 
   -- entries after which the walks of a zone go on, whatever comes; or they were the last
-  abbrev pub WalkedOn : Bool → NPath → List (NameEntry D) → List (KmsEntry D W) → Type 0
-  WalkedOn true path made called = (es : List (NameEntry D)) (more : List (KmsEntry D W)) → Walks path es more → Walks path (made ++ es) (called ++ more)
-  WalkedOn false path made called = Walks path made called
+  abbrev pub WalkedOn : Bool → NPath → List (NameEntry D W) → Type 0
+  WalkedOn true path made = (es : List (NameEntry D W)) → Walks path es → Walks path (made ++ es)
+  WalkedOn false path made = Walks path made
 
   -- the walks through the zones at these paths, one zone after another
-  abbrev pub WalksAll : List NPath → List (NameEntry D) → List (KmsEntry D W) → Type 0
-  WalksAll [] es called = (es ≡ []) × (called ≡ [])
-  WalksAll (path ∷ paths) es called =
-      (here : List (NameEntry D)) × (there : List (NameEntry D)) × (es ≡ here ++ there)
-      × (first : List (KmsEntry D W)) × (more : List (KmsEntry D W)) × (called ≡ first ++ more)
-      × Walks path here first × WalksAll paths there more
+  abbrev pub WalksAll : List NPath → List (NameEntry D W) → Type 0
+  WalksAll [] es = es ≡ []
+  WalksAll (path ∷ paths) es = (here : List (NameEntry D W)) × (there : List (NameEntry D W)) × (es ≡ here ++ there) × Walks path here × WalksAll paths there
 
   -- The last round: the zones are listed, the status of each is asked for, and those whose re-encryption has not ended are walked through.
-  pub record IsLastRound (made : List (NameEntry D)) (called : List (KmsEntry D W)) : Type 0 where
+  pub record IsLastRound (made : List (NameEntry D W)) : Type 0 where
     pub listed : NameReply
-    pub asked : NameEntry D
-    pub statuses : List (NameEntry D)
+    pub asked : NameEntry D W
+    pub statuses : List (NameEntry D W)
     pub going : List NPath
-    pub walks : List (NameEntry D)
+    pub walks : List (NameEntry D W)
     pub made_is : made ≡ asked ∷ (statuses ++ walks)
     pub zones : IsCall call.Zones listed asked
     pub had_memory : HadMemory listed
     pub asks : AsksAbout (zones_in listed) statuses going
-    pub walked : WalksAll going walks called
-
--- two passes, one of each service, made these entries and no others
-pub record MakesBoth {D W : Type 0} (state : D → DiskState) (to_come : W → ℕ → ℕ) (names : NameKnown D) (keys : KmsKnown D W) (made : List (NameEntry D)) (called : List (KmsEntry D W))
-    (names' : NameKnown D) (keys' : KmsKnown D W) : Type 0 where
-  pub of_names : NamesMake state names made names'
-  pub of_keys : KeysMake state to_come keys called keys'
+    pub walked : WalksAll going walks

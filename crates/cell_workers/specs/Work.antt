@@ -3,27 +3,20 @@ use Rattle.std.specs.Prelude.{◌≡◌, ◌⊎◌, ℕ, zero, suc, List, [], �
 use Rattle.eek_seal.specs.declared.tickets.Ticket.{Ticket}
 use Rattle.name_calls.specs.declared.calls.NameCall.{NameCall}
 use Rattle.name_calls.specs.declared.calls.NameCall.TheVariants as call
-use Rattle.reenc_walk.specs.declared.sent.BatchNote.{BatchNote}
-use Rattle.batch_calls.specs.Batches.{batch_call}
 use Rattle.name_core.specs.Calls.{superuser}
 use Rattle.hist_cell.specs.declared.views.Entry.{Entry}
 use Rattle.hist_cell.specs.declared.views.Known.{Known}
 use Rattle.hist_cell.specs.History.{IsIn, own}
 use Rattle.kms_cell.specs.Entries.{KmsEntry, KmsKnown}
 use Rattle.kms_cell.specs.Fills.{FillsBy}
-use Rattle.kms_cell.specs.declared.acts.KmsAct.{KmsAct}
 use Rattle.kms_cell.specs.declared.acts.KmsAct.TheVariants as key_act
 use Rattle.kms_cell.specs.declared.acts.KmsActed.TheVariants as key_acted
 use Rattle.kms_cell.specs.declared.filling.FillTurn.{FillTurn}
-use Rattle.name_cell.specs.Entries.{NameEntry, NameKnown}
-use Rattle.name_cell.specs.declared.acts.NameAct.{NameAct}
-use Rattle.name_cell.specs.declared.acts.NameAct.TheVariants as act
+use Rattle.name_history.specs.Entries.{NameEntry, NameKnown}
+use Rattle.name_history.specs.declared.acts.NameAct.{NameAct}
+use Rattle.name_history.specs.declared.acts.NameAct.TheVariants as act
 
 -- ---- the calls of workers
-
--- the call for a batch, by the superuser
-abbrev pub IsBatchCall : KmsAct → Type 0
-IsBatchCall q = (batch : BatchNote) × (q ≡ key_act.Call superuser (batch_call batch))
 
 -- the call asks for the zones, or for the status of one
 abbrev pub AsksForZones : NameCall → Type 0
@@ -35,7 +28,7 @@ AsksForZones _ = ⊥
 abbrev pub IsNameWork : NameAct → Type 0
 IsNameWork (act.Call user c) = (user ≡ superuser) × AsksForZones c
 IsNameWork (act.Walk path) = ⊤
-IsNameWork (act.Deliver reply) = ⊤
+IsNameWork (act.Deliver front reply) = ⊤
 IsNameWork _ = ⊥
 
 -- ---- passes
@@ -106,22 +99,21 @@ module _ {D W : Type 0} where
 -- ---- all workers
 
 module _ {D W : Type 0} where
-  -- All entries of these numbers are the work of two fillers, each with words of its own, of batch workers, and of workers of the namesystem.
-  pub record IsPoolWork (first second : ℕ → ℕ) (keys : List (KmsEntry D W)) (names : List (NameEntry D)) (of_keys of_names : List ℕ) : Type 0 where
-    pub callers : List ℕ
+  -- All entries of these numbers are the work of two fillers, each with words of its own, and of workers of the namesystem. The passes of the
+  -- keys that serve batches are not among them: each delivery meets its pass into the one that the namesystem keeps, and its entry shows that.
+  pub record IsPoolWork (first second : ℕ → ℕ) (keys : List (KmsEntry D W)) (names : List (NameEntry D W)) (of_keys of_names : List ℕ) : Type 0 where
     pub filler : ℕ
     pub other_filler : ℕ
-    pub numbers : of_keys ≡ callers ++ filler ∷ other_filler ∷ []
-    pub calls : (k : ℕ) → IsIn k callers → AllCall IsBatchCall (own k keys)
+    pub numbers : of_keys ≡ filler ∷ other_filler ∷ []
     pub fills : FilledFrom first (own filler keys)
     pub other_fills : FilledFrom second (own other_filler keys)
     pub works : (k : ℕ) → IsIn k of_names → AllCall IsNameWork (own k names)
 
   -- There were no workers, or all entries of these numbers are their work.
-  abbrev pub IsWork : (ℕ → ℕ) → (ℕ → ℕ) → List (KmsEntry D W) → List (NameEntry D) → List ℕ → List ℕ → Type 0
+  abbrev pub IsWork : (ℕ → ℕ) → (ℕ → ℕ) → List (KmsEntry D W) → List (NameEntry D W) → List ℕ → List ℕ → Type 0
   IsWork first second keys names of_keys of_names = ((of_keys ≡ []) × (of_names ≡ [])) ⊎ IsPoolWork first second keys names of_keys of_names
 
   -- Workers that began with these passes, if the passes had made no entry, did all work that both passes and those met into them have made.
-  abbrev pub PoolWorks : (ℕ → ℕ) → (ℕ → ℕ) → KmsKnown D W → NameKnown D → KmsKnown D W → NameKnown D → Type 0
+  abbrev pub PoolWorks : (ℕ → ℕ) → (ℕ → ℕ) → KmsKnown D W → NameKnown D W → KmsKnown D W → NameKnown D W → Type 0
   PoolWorks first second keys0 names0 keys names =
       IsFresh keys0 → IsFresh names0 → IsPoolWork first second keys.seen names.seen (keys.number ∷ keys.ended) (names.number ∷ names.ended)

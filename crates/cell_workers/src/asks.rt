@@ -1,9 +1,9 @@
 //! Asking which zones are being re-encrypted.
 ghost use Rattle.std.specs.Prelude.{◌≡◌, ◌∷◌, ◌++◌, [], cond, IfOk, OnOk, List};
-ghost use Rattle.name_cell.specs.Entries.{NameEntry};
+ghost use Rattle.name_history.specs.Entries.{NameEntry};
 ghost use Rattle.cell_workers.specs.Rounds.{AsksAbout, HadMemory, ListsZones, ShowsStatus, goes_on, is_open, zones_in};
 ghost use Rattle.cell_workers.specs.Work.{AllCall, IsNameWork};
-ghost use Rattle.cell_desk.specs.Entries.{NamesMake};
+ghost use Rattle.turns.specs.Entries.{NamesMake};
 
 use crate::paths::copy_of;
 use hk_base::{Listing, NoMemory};
@@ -51,7 +51,7 @@ pub fn list_zones<S: Turns, R: Wait>(
     shared: &S,
     names: &mut S::Names,
 ) -> Result<ZoneList, NoMemory>
-    ensures { (made : List (NameEntry S.D)) × NamesMake S.state (S.names_seen names.old) made (S.names_seen names.new)
+    ensures { (made : List (NameEntry S.D S.W)) × NamesMake S.state S.to_come (S.names_seen names.old) made (S.names_seen names.new)
         × AllCall IsNameWork made × IfOk result (λ zones. ListsZones zones made) }
 {
     // The history that the pass has seen is legal.
@@ -70,7 +70,7 @@ fn is_going<S: Turns, R: Wait>(
     names: &mut S::Names,
     zone: &NPath,
 ) -> Result<bool, NoMemory>
-    ensures { (made : List (NameEntry S.D)) × NamesMake S.state (S.names_seen names.old) made (S.names_seen names.new)
+    ensures { (made : List (NameEntry S.D S.W)) × NamesMake S.state S.to_come (S.names_seen names.old) made (S.names_seen names.new)
         × AllCall IsNameWork made × IfOk result (λ going. ShowsStatus zone.now going made) }
 {
     // The history that the pass has seen is legal.
@@ -78,7 +78,9 @@ fn is_going<S: Turns, R: Wait>(
     let user = superuser(alloc)?;
     let path = copy_of(alloc, zone)?;
     let reply = shared.call_names(rt, names, user, NameCall::Status { path });
-    goes_on(&reply)
+    let going = goes_on(&reply);
+    drop(reply);
+    going
 }
 
 /// Adds a copy of a path at the end, if `wanted`.
@@ -106,7 +108,7 @@ pub fn going_zones<S: Turns, R: Wait>(
     names: &mut S::Names,
     zones: &[ZonePath],
 ) -> Result<Listing<NPath>, NoMemory>
-    ensures { (made : List (NameEntry S.D)) × NamesMake S.state (S.names_seen names.old) made (S.names_seen names.new)
+    ensures { (made : List (NameEntry S.D S.W)) × NamesMake S.state S.to_come (S.names_seen names.old) made (S.names_seen names.new)
         × AllCall IsNameWork made × IfOk result (λ going. AsksAbout zones.now made going) }
 {
     // The history that the pass has seen is legal.

@@ -1,11 +1,11 @@
 //! The channels to the workers.
-use cell_desk::Notices;
+use crate::updates::Update;
 use crossbeam_channel::{Receiver, SendError, Sender, unbounded};
 use hk_base::NoMemory;
 use name_calls::NPath;
-use reenc_update::BatchReply;
 use std::alloc::Global;
 use std::sync::{Mutex, Wait};
+use turns::{Notices, Turns};
 
 /// How many threads fill queues.
 const FILLERS: usize = 2;
@@ -54,37 +54,29 @@ impl<T: Drop> SharedSender<T> {
     }
 }
 
-/// The reply for a batch of a zone, and a pass that has seen the call for it.
-#[derive(Drop)]
-pub struct Update<K> {
-    pub zone: NPath,
-    pub reply: BatchReply,
-    pub keys: K,
-}
-
 /// The sending ends of the channels to the workers. Connections and workers send the workers' tasks.
 #[derive(Drop)]
-pub struct WorkSenders<K: Drop> {
+pub struct WorkSenders<D, W, K: Drop, N: Drop, S: Turns<D = D, W = W, Keys = K, Names = N>> {
     /// A queue of ready keys may be low.
     pub low: SharedSender<()>,
     /// The path of a zone to walk through.
     pub tasks: SharedSender<NPath>,
     /// The reply for a batch, to deliver.
-    pub updates: SharedSender<Update<K>>,
+    pub updates: SharedSender<Update<D, W, K, N, S>>,
 }
 
 /// The receiving ends, which the workers share.
 #[derive(Drop)]
-pub struct WorkReceivers<K: Drop> {
+pub struct WorkReceivers<D, W, K: Drop, N: Drop, S: Turns<D = D, W = W, Keys = K, Names = N>> {
     pub low: Receiver<()>,
     pub tasks: Receiver<NPath>,
-    pub updates: Receiver<Update<K>>,
+    pub updates: Receiver<Update<D, W, K, N, S>>,
 }
 
 /// Opens the channels to the workers.
-pub fn open_channels<K: Drop>(
+pub fn open_channels<D, W, K: Drop, N: Drop, S: Turns<D = D, W = W, Keys = K, Names = N>>(
     alloc: Global,
-) -> Result<(WorkSenders<K>, WorkReceivers<K>), NoMemory> {
+) -> Result<(WorkSenders<D, W, K, N, S>, WorkReceivers<D, W, K, N, S>), NoMemory> {
     let (low, lows) = SharedSender::open(alloc)?;
     let (tasks, zones) = SharedSender::open(alloc)?;
     let (updates, replies) = SharedSender::open(alloc)?;
@@ -101,7 +93,13 @@ pub fn open_channels<K: Drop>(
     Ok((senders, receivers))
 }
 
-impl<K: Drop> WorkSenders<K> {
+impl<D, W, K: Drop, N: Drop, S: Turns<D = D, W = W, Keys = K, Names = N>> WorkSenders<
+    D,
+    W,
+    K,
+    N,
+    S,
+> {
     /// Closes all channels, so that the workers end.
     pub fn close<R: Wait>(&self, rt: &R) {
         self.low.close(rt);
@@ -110,7 +108,8 @@ impl<K: Drop> WorkSenders<K> {
     }
 }
 
-impl<K: Drop> Notices for WorkSenders<K> {
+impl<D, W, K: Drop, N: Drop, S: Turns<D = D, W = W, Keys = K, Names = N>> Notices
+    for WorkSenders<D, W, K, N, S> {
     // A notice that waits already serves for later ones too.
     fn low<R: Wait>(&self, rt: &R) {
         if self.low.has_fewer(rt, FILLERS) {

@@ -8,6 +8,7 @@ mod must_join;
 mod paths;
 mod round;
 mod starting;
+mod updates;
 mod walks;
 mod workers;
 

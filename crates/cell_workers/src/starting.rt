@@ -47,11 +47,13 @@ impl<V: Words, S: Turns> Promise<(S::Keys, S::Names)> for PoolStart<V, S> {
 impl<
     's,
     R: Threads + Wait + Sync + 's,
+    D: 's,
+    W: 's,
     K: Drop + Send + 's,
     N: Drop + Send + 's,
-    S: Turns<Keys = K, Names = N> + Sync + 's,
+    S: Turns<D = D, W = W, Keys = K, Names = N> + Sync + 's,
     G: Gate + Sync + 's,
-> WorkerPool<'s, R, S, G, K> {
+> WorkerPool<'s, R, D, W, K, N, S, G> {
     /// Starts the workers in a thread of their own. If none can be made, the channels are closed, so
     /// that nothing is sent which no worker would receive, and the workers find nothing to do.
     pub fn start<E, V: Words + Send + Drop + 's>(

@@ -1,33 +1,67 @@
 //! The workers beside the connections: two fillers, two batch workers and an updater. Each ends once the
 //! channels are closed and what was sent before is done.
-ghost use Rattle.std.specs.Prelude.{◌≡◌, ℕ, List, []};
+ghost use Rattle.std.specs.Prelude.{◌≡◌, ℕ, List, [], length, IfSome};
 ghost use Rattle.std.specs.Thread.{IsSend, IsSync};
-ghost use Rattle.cell_workers.specs.Work.{Fills, FillsBoth, IsBatchCall, IsNameWork, PoolWorks, Works};
+ghost use Rattle.cell_workers.specs.Work.{Fills, FillsBoth, IsNameWork, PoolWorks, Works};
 
 use crate::asks::{going_zones, list_zones};
-use crate::channels::{Update, WorkReceivers, WorkSenders};
+use crate::channels::{WorkReceivers, WorkSenders};
 use crate::paths::copy_of;
+use crate::updates::Update;
 use crate::walks::batch_of;
 use hk_base::{Gate, NoMemory, Words};
 use kms_cell::FillTurn;
-use name_calls::NPath;
+use name_calls::{NPath, NameRefusal};
+use reenc_walk::BatchNote;
 use std::alloc::Global;
 use std::sync::Wait;
 use std::thread::{Threads, join};
-use turns::Turns;
+use turns::{Lent, Turns};
+
+/// How often a walk is tried if memory runs out.
+const WALK_TRIES: u32 = 3;
 
 /// What workers share.
 #[derive(Drop)]
-pub struct WorkerPool<'a, R, S, G, K: Drop> {
+pub struct WorkerPool<
+    'a,
+    R,
+    D,
+    W,
+    K: Drop,
+    N: Drop,
+    S: Turns<D = D, W = W, Keys = K, Names = N>,
+    G,
+> {
     pub rt: &'a R,
     pub alloc: Global,
     pub shared: &'a S,
     pub gate: &'a G,
-    pub senders: &'a WorkSenders<K>,
-    pub receivers: &'a WorkReceivers<K>,
+    pub senders: &'a WorkSenders<D, W, K, N, S>,
+    pub receivers: &'a WorkReceivers<D, W, K, N, S>,
 }
 
-impl<'a, R: Wait, K: Drop, S: Turns<Keys = K>, G: Gate> WorkerPool<'a, R, S, G, K> {
+/// Returns what was lent, unless memory ran out at the walk.
+fn if_walked<K: Drop>(lent: Lent<K>) -> Option<Lent<K>>
+    ensures { IfSome result (λ given. given ≡ lent) }
+{
+    if matches!(&lent.walked, Err(NameRefusal::NoMemory)) {
+        drop(lent);
+        return None;
+    }
+    Some(lent)
+}
+
+impl<
+    'a,
+    R: Wait,
+    D,
+    W,
+    K: Drop,
+    N: Drop,
+    S: Turns<D = D, W = W, Keys = K, Names = N>,
+    G: Gate,
+> WorkerPool<'a, R, D, W, K, N, S, G> {
     /// Fills queues until none is low.
     fn fill_all<V: Words>(&self, keys: &mut K, words: &mut V)
         ensures { Fills (V.to_come words.old) (V.to_come words.new) (S.keys_seen keys.old) (S.keys_seen keys.new) }
@@ -60,42 +94,78 @@ impl<'a, R: Wait, K: Drop, S: Turns<Keys = K>, G: Gate> WorkerPool<'a, R, S, G, 
 
     /// Delivers the reply for a batch, and then sends the path of its zone again. If the delivery is
     /// refused, it is not tried again, and the batch stays outstanding.
-    fn deliver(&self, names: &mut S::Names, update: Update<K>)
+    fn deliver(&self, names: &mut N, update: Update<D, W, K, N, S>)
         ensures { Works IsNameWork (S.names_seen names.old) [] (S.names_seen names.new) }
     {
-        let Update { zone, reply, keys } = update;
+        let (zone, front, keys, reply) = update.into_parts();
         match self
             .shared
-            .update_turn(self.rt, names, keys, reply, self.gate)
+            .update_turn(self.rt, names, keys, front, reply, self.gate)
         {
             Ok(_) => drop(self.senders.tasks.send(self.rt, zone)),
             Err(_) => drop(zone),
         }
     }
 
-    /// Walks through a zone once. If there is a batch, it is served and sent to the updater, or
-    /// delivered here if that fails.
-    fn walk(&self, keys: &mut K, names: &mut S::Names, zone: NPath)
-        ensures { Works IsBatchCall (S.keys_seen keys.old) [] (S.keys_seen keys.new) × Works IsNameWork (S.names_seen names.old) [] (S.names_seen names.new) }
+    /// Has a batch served with the pass that its walk lent.
+    fn serve(&self, zone: NPath, batch: BatchNote, front: u64, keys: K) -> Update<D, W, K, N, S>
+        requires { front ≡ length (S.keys_seen keys).seen }
     {
-        let Ok(path) = copy_of(self.alloc, &zone) else {
-            drop(zone);
-            return;
-        };
-        let gave = self.shared.walk_turn(self.rt, names, path);
-        let Some(batch) = batch_of(gave) else {
-            drop(zone);
-            return;
-        };
+        let mut keys = keys;
         let reply = self
             .shared
-            .serve_turn(self.rt, self.alloc, keys, batch, self.gate);
-        let lent = self.shared.split_keys(self.rt, keys);
-        let update = Update {
-            zone,
-            reply,
-            keys: lent,
+            .serve_turn(self.rt, self.alloc, &mut keys, batch, self.gate);
+        Update::new(zone, front, keys, reply)
+    }
+
+    /// Walks through a zone once. Returns `None` if memory runs out.
+    fn walk_once(&self, names: &mut N, zone: &NPath) -> Option<Lent<K>>
+        ensures works { Works IsNameWork (S.names_seen names.old) [] (S.names_seen names.new) }
+        ensures front { IfSome result (λ lent. lent.front ≡ length (S.keys_seen lent.keys).seen) }
+    {
+        let Ok(path) = copy_of(self.alloc, zone) else {
+            return None;
         };
+        match self.shared.walk_turn(self.rt, names, path) {
+            Ok(lent) => if_walked(lent),
+            Err(_) => None,
+        }
+    }
+
+    /// Walks through a zone once. If memory runs out, it is tried again, `WALK_TRIES` times in all.
+    fn try_walk(&self, names: &mut N, zone: &NPath) -> Option<Lent<K>>
+        ensures works { Works IsNameWork (S.names_seen names.old) [] (S.names_seen names.new) }
+        ensures front { IfSome result (λ lent. lent.front ≡ length (S.keys_seen lent.keys).seen) }
+    {
+        for _ in 0..WALK_TRIES {
+            match self.walk_once(names, zone) {
+                Some(lent) => return Some(lent),
+                None => {}
+            }
+        }
+        None
+    }
+
+    /// Walks through a zone once. If there is a batch, it is served and sent to the updater, or
+    /// delivered here if that fails.
+    fn walk(&self, names: &mut N, zone: NPath)
+        ensures { Works IsNameWork (S.names_seen names.old) [] (S.names_seen names.new) }
+    {
+        let Some(lent) = self.try_walk(names, &zone) else {
+            drop(zone);
+            return;
+        };
+        let Lent {
+            walked,
+            front,
+            keys,
+        } = lent;
+        let Some(batch) = batch_of(walked) else {
+            drop(keys);
+            drop(zone);
+            return;
+        };
+        let update = self.serve(zone, batch, front, keys);
         match self.senders.updates.send(self.rt, update) {
             Ok(()) => {}
             Err(update) => self.deliver(names, update),
@@ -103,22 +173,21 @@ impl<'a, R: Wait, K: Drop, S: Turns<Keys = K>, G: Gate> WorkerPool<'a, R, S, G, 
     }
 
     /// Walks through the zones that it is sent.
-    fn walk_all(&self, keys: K, names: S::Names) -> (K, S::Names)
-        ensures { Works IsBatchCall (S.keys_seen keys) [] (S.keys_seen result.0) × Works IsNameWork (S.names_seen names) [] (S.names_seen result.1) }
+    fn walk_all(&self, names: N) -> N
+        ensures { Works IsNameWork (S.names_seen names) [] (S.names_seen result) }
     {
-        let mut keys = keys;
         let mut names = names;
         for _ in self.rt.forever() {
             match self.receivers.tasks.recv(self.rt) {
-                Ok(zone) => self.walk(&mut keys, &mut names, zone),
-                Err(_) => return (keys, names),
+                Ok(zone) => self.walk(&mut names, zone),
+                Err(_) => return names,
             }
         }
         unreachable!()
     }
 
     /// Delivers what it is sent.
-    fn update_all(&self, names: S::Names) -> S::Names
+    fn update_all(&self, names: N) -> N
         ensures { Works IsNameWork (S.names_seen names) [] (S.names_seen result) }
     {
         let mut names = names;
@@ -132,7 +201,7 @@ impl<'a, R: Wait, K: Drop, S: Turns<Keys = K>, G: Gate> WorkerPool<'a, R, S, G, 
     }
 
     /// Sends the path of each zone that is still being re-encrypted, as far as there is memory.
-    fn send_going(&self, names: &mut S::Names) -> Result<(), NoMemory>
+    fn send_going(&self, names: &mut N) -> Result<(), NoMemory>
         ensures { Works IsNameWork (S.names_seen names.old) [] (S.names_seen names.new) }
     {
         let zones = list_zones(self.rt, self.alloc, self.shared, names)?;
@@ -161,11 +230,13 @@ impl<'a, R: Wait, K: Drop, S: Turns<Keys = K>, G: Gate> WorkerPool<'a, R, S, G, 
 impl<
     'a,
     R: Threads + Wait + Sync,
+    D,
+    W,
     K: Drop + Send,
     N: Drop + Send,
-    S: Turns<Keys = K, Names = N> + Sync,
+    S: Turns<D = D, W = W, Keys = K, Names = N> + Sync,
     G: Gate + Sync,
-> WorkerPool<'a, R, S, G, K> {
+> WorkerPool<'a, R, D, W, K, N, S, G> {
     /// Two fillers, each with words of its own.
     fn fillers<V: Words + Send + Drop>(&self, keys: K, first: V, second: V) -> K
         ensures { FillsBoth (V.to_come first) (V.to_come second) (S.keys_seen keys) (S.keys_seen result) }
@@ -187,47 +258,44 @@ impl<
     }
 
     /// Two batch workers.
-    fn batch_workers(&self, keys: K, names: N) -> (K, N)
-        ensures { (others : List ℕ) × (more : List ℕ) × Works IsBatchCall (S.keys_seen keys) others (S.keys_seen result.0) × Works IsNameWork (S.names_seen names) more (S.names_seen result.1) }
-    {
-        let mut keys = keys;
-        let mut names = names;
-        let other_keys = self.shared.split_keys(self.rt, &mut keys);
-        let other_names = self.shared.split_names(self.rt, &mut names);
-        let (one, other) = join(
-            self.rt,
-            move || -> (K, N)
-                ensures { Works IsBatchCall (S.keys_seen keys) [] (S.keys_seen result.0) × Works IsNameWork (S.names_seen names) [] (S.names_seen result.1) }
-            { self.walk_all(keys, names) },
-            move || -> (K, N)
-                ensures { Works IsBatchCall (S.keys_seen other_keys) [] (S.keys_seen result.0) × Works IsNameWork (S.names_seen other_names) [] (S.names_seen result.1) }
-            { self.walk_all(other_keys, other_names) },
-        );
-        let (mut keys, mut names) = one;
-        self.shared.meet_keys(self.rt, &mut keys, other.0);
-        self.shared.meet_names(self.rt, &mut names, other.1);
-        (keys, names)
-    }
-
-    /// The updater and the batch workers.
-    fn reencrypt(&self, keys: K, names: N) -> (K, N)
-        ensures { (others : List ℕ) × (more : List ℕ) × Works IsBatchCall (S.keys_seen keys) others (S.keys_seen result.0) × Works IsNameWork (S.names_seen names) more (S.names_seen result.1) }
+    fn batch_workers(&self, names: N) -> N
+        ensures { (others : List ℕ) × Works IsNameWork (S.names_seen names) others (S.names_seen result) }
     {
         let mut names = names;
         let other = self.shared.split_names(self.rt, &mut names);
-        let (other, passes) = join(
+        let (names, other) = join(
+            self.rt,
+            move || -> N
+                ensures { Works IsNameWork (S.names_seen names) [] (S.names_seen result) }
+            { self.walk_all(names) },
+            move || -> N
+                ensures { Works IsNameWork (S.names_seen other) [] (S.names_seen result) }
+            { self.walk_all(other) },
+        );
+        let mut names = names;
+        self.shared.meet_names(self.rt, &mut names, other);
+        names
+    }
+
+    /// The updater and the batch workers.
+    fn reencrypt(&self, names: N) -> N
+        ensures { (others : List ℕ) × Works IsNameWork (S.names_seen names) others (S.names_seen result) }
+    {
+        let mut names = names;
+        let other = self.shared.split_names(self.rt, &mut names);
+        let (other, names) = join(
             self.rt,
             move || -> N
                 ensures { Works IsNameWork (S.names_seen other) [] (S.names_seen result) }
             { self.update_all(other) },
-            move || -> (K, N)
+            move || -> N
                 requires { IsSync R.row × IsSend K.row × IsSend N.row × IsSync S.row × IsSync G.row }
-                ensures { (others : List ℕ) × (more : List ℕ) × Works IsBatchCall (S.keys_seen keys) others (S.keys_seen result.0) × Works IsNameWork (S.names_seen names) more (S.names_seen result.1) }
-            { self.batch_workers(keys, names) },
+                ensures { (others : List ℕ) × Works IsNameWork (S.names_seen names) others (S.names_seen result) }
+            { self.batch_workers(names) },
         );
-        let (keys, mut names) = passes;
+        let mut names = names;
         self.shared.meet_names(self.rt, &mut names, other);
-        (keys, names)
+        names
     }
 
     /// Runs all workers until the channels are closed. First the zones that are still being
@@ -235,23 +303,18 @@ impl<
     pub fn run<V: Words + Send + Drop>(&self, keys: K, names: N, first: V, second: V) -> (K, N)
         ensures { PoolWorks (V.to_come first) (V.to_come second) (S.keys_seen keys) (S.names_seen names) (S.keys_seen result.0) (S.names_seen result.1) }
     {
-        let mut keys = keys;
         let mut names = names;
         let _ = self.send_going(&mut names);
-        let other = self.shared.split_keys(self.rt, &mut keys);
-        let (other, passes) = join(
+        join(
             self.rt,
             move || -> K
                 requires { IsSync R.row × IsSend K.row × IsSend N.row × IsSync S.row × IsSync G.row × IsSend V.row }
-                ensures { FillsBoth (V.to_come first) (V.to_come second) (S.keys_seen other) (S.keys_seen result) }
-            { self.fillers(other, first, second) },
-            move || -> (K, N)
+                ensures { FillsBoth (V.to_come first) (V.to_come second) (S.keys_seen keys) (S.keys_seen result) }
+            { self.fillers(keys, first, second) },
+            move || -> N
                 requires { IsSync R.row × IsSend K.row × IsSend N.row × IsSync S.row × IsSync G.row }
-                ensures { (others : List ℕ) × (more : List ℕ) × Works IsBatchCall (S.keys_seen keys) others (S.keys_seen result.0) × Works IsNameWork (S.names_seen names) more (S.names_seen result.1) }
-            { self.reencrypt(keys, names) },
-        );
-        let (mut keys, names) = passes;
-        self.shared.meet_keys(self.rt, &mut keys, other);
-        (keys, names)
+                ensures { (others : List ℕ) × Works IsNameWork (S.names_seen names) others (S.names_seen result) }
+            { self.reencrypt(names) },
+        )
     }
 }

@@ -33,7 +33,7 @@ module _ {D W : Type 0} (state : D → DiskState) (to_come : W → ℕ → ℕ) 
   batch_is_answered : (v w : KmsKnown D W) (user : Text) (batch : BatchNote) (reply : KmsReply) → Makes state to_come v (act.Call user (batch_call batch)) (acted.Call reply) w → ReplyFits batch reply
   batch_is_answered v w user batch reply a =
       let made = made_step state to_come v w (act.Call user (batch_call batch)) (acted.Call reply) a in
-      step_fits made.0 made.1 user batch reply made.2
+      step_fits made.0 made.1 user batch reply made.2.does
 
   pub batch_is_served : (v w : KmsKnown D W) (user : Text) (batch : BatchNote) (call : KmsCall) (reply : KmsReply) (result : ReplyState) → user ≡ superuser → call ≡ batch_call batch
       → Makes state to_come v (act.Call user call) (acted.Call reply) w → (ReplyFits batch reply → result ≡ reply_for batch reply) → ServesTurn state to_come v batch result w

@@ -1,51 +1,54 @@
 //! Both cells as threads share them.
+use crate::batches::serve_batch;
 use crate::changes::{changes_keys, changes_names, lock_if};
+use crate::keys::KeyService;
 use crate::shared::Shared;
 use hist_cell::Naming;
-use hk_base::{Clock, Disk, Gate, Text, Words};
+use hk_base::{Gate, NoMemory, Point, Text, Words};
 use kms_calls::{KmsCall, KmsReply};
-use kms_cell::{FillTurn, KmsPass, call_keys};
+use kms_cell::FillTurn;
 use name_calls::{Answered, Ask, AskNote, Delivered, NPath, NameCall, NameRefusal, NameReply};
-use name_cell::{NamePass, ask_names, call_names, finish_names};
-use name_core::Walked;
+use name_cell::{
+    NamePass, ask_names, call_names, deliver_names, finish_meeting, finish_names, walk_names,
+};
 use reenc_update::BatchReply;
 use reenc_walk::BatchNote;
 use std::alloc::Global;
 use std::sync::Wait;
-use turns::Turns;
+use turns::{Lent, Turns};
 
-impl<D: Disk, W: Words, C: Clock, M: Naming, N: Naming> Turns for Shared<D, W, C, M, N> {
-    type D = D;
+impl<K: KeyService, N: Naming> Turns for Shared<K, N> {
+    type D = K::D;
 
-    type W = W;
+    type W = K::W;
 
-    type Keys = KmsPass<D, W, C, M>;
+    type Keys = K::Pass;
 
-    type Names = NamePass<D, N>;
+    type Names = NamePass<K, N>;
 
-    ghost state = { D.state };
+    ghost state = { K.D.state };
 
-    ghost to_come = { W.to_come };
+    ghost to_come = { K.to_come };
 
-    ghost keys_seen = { λ v. v };
+    ghost keys_seen = { K.seen };
 
     ghost names_seen = { λ v. v };
 
     fn call_keys<R: Wait>(
         &self,
         rt: &R,
-        pass: &mut KmsPass<D, W, C, M>,
+        pass: &mut K::Pass,
         user: Text,
         call: KmsCall,
     ) -> KmsReply {
         let _alone = lock_if(rt, &self.key_changes, changes_keys(&call));
-        call_keys(rt, &self.keys, pass, user, call)
+        self.keys.call(rt, pass, user, call)
     }
 
     fn call_names<R: Wait>(
         &self,
         rt: &R,
-        pass: &mut NamePass<D, N>,
+        pass: &mut NamePass<K, N>,
         user: Text,
         call: NameCall,
     ) -> NameReply {
@@ -56,7 +59,7 @@ impl<D: Disk, W: Words, C: Clock, M: Naming, N: Naming> Turns for Shared<D, W, C
     fn ask_names<R: Wait>(
         &self,
         rt: &R,
-        pass: &mut NamePass<D, N>,
+        pass: &mut NamePass<K, N>,
         user: Text,
         ask: Ask,
     ) -> Result<AskNote, NameRefusal> {
@@ -66,80 +69,96 @@ impl<D: Disk, W: Words, C: Clock, M: Naming, N: Naming> Turns for Shared<D, W, C
     fn finish_names<R: Wait>(
         &self,
         rt: &R,
-        pass: &mut NamePass<D, N>,
+        pass: &mut NamePass<K, N>,
         answered: Answered,
     ) -> Result<(), NameRefusal> {
         let _alone = lock_if(rt, &self.name_changes, true);
         finish_names(rt, &self.names, pass, answered)
     }
 
+    fn finish_meeting<R: Wait>(
+        &self,
+        rt: &R,
+        pass: &mut NamePass<K, N>,
+        keys: K::Pass,
+        answered: Answered,
+    ) -> Result<(), NameRefusal> {
+        let _alone = lock_if(rt, &self.name_changes, true);
+        finish_meeting(rt, &self.names, pass, &self.keys, keys, answered)
+    }
+
     fn fill_turn<R: Wait, V: Words, G: Gate>(
         &self,
         rt: &R,
-        pass: &mut KmsPass<D, W, C, M>,
+        pass: &mut K::Pass,
         words: &mut V,
         gate: &G,
     ) -> FillTurn {
-        Shared::fill_turn(self, rt, pass, words, gate)
+        self.keys.fill(rt, pass, words, gate)
     }
 
     fn walk_turn<R: Wait>(
         &self,
         rt: &R,
-        pass: &mut NamePass<D, N>,
+        pass: &mut NamePass<K, N>,
         zone: NPath,
-    ) -> Result<Walked, NameRefusal> {
-        Shared::walk_turn(self, rt, pass, zone)
+    ) -> Result<Lent<K::Pass>, NoMemory> {
+        let (walked, keys) = walk_names(rt, &self.names, pass, &self.keys, zone)?;
+        let front = K::count(&keys);
+        Ok(Lent {
+            walked,
+            front,
+            keys,
+        })
     }
 
     fn serve_turn<R: Wait, G: Gate>(
         &self,
         rt: &R,
         alloc: Global,
-        pass: &mut KmsPass<D, W, C, M>,
+        pass: &mut K::Pass,
         note: BatchNote,
         gate: &G,
     ) -> BatchReply {
-        Shared::serve_turn(self, rt, alloc, pass, note, gate)
+        gate.pass(rt, Point::BeforeServe);
+        serve_batch(rt, alloc, &self.keys, pass, note)
     }
 
     fn update_turn<R: Wait, G: Gate>(
         &self,
         rt: &R,
-        names: &mut NamePass<D, N>,
-        keys: KmsPass<D, W, C, M>,
+        names: &mut NamePass<K, N>,
+        keys: K::Pass,
+        front: u64,
         reply: BatchReply,
         gate: &G,
     ) -> Result<Delivered, NameRefusal> {
-        Shared::update_turn(self, rt, names, keys, reply, gate)
+        gate.pass(rt, Point::BeforeDeliver);
+        let _alone = lock_if(rt, &self.name_changes, true);
+        deliver_names(rt, &self.names, names, &self.keys, keys, front, reply)
     }
 
-    fn count_keys(&self, pass: &KmsPass<D, W, C, M>) -> u64 {
+    fn count_keys(&self, pass: &K::Pass) -> u64 {
+        K::count(pass)
+    }
+
+    fn count_names(&self, pass: &NamePass<K, N>) -> u64 {
         pass.count()
     }
 
-    fn count_names(&self, pass: &NamePass<D, N>) -> u64 {
-        pass.count()
-    }
-
-    fn split_keys<R: Wait>(&self, rt: &R, pass: &mut KmsPass<D, W, C, M>) -> KmsPass<D, W, C, M> {
+    fn split_keys<R: Wait>(&self, rt: &R, pass: &mut K::Pass) -> K::Pass {
         self.keys.split(rt, pass)
     }
 
-    fn split_names<R: Wait>(&self, rt: &R, pass: &mut NamePass<D, N>) -> NamePass<D, N> {
+    fn split_names<R: Wait>(&self, rt: &R, pass: &mut NamePass<K, N>) -> NamePass<K, N> {
         self.names.split(rt, pass)
     }
 
-    fn meet_keys<R: Wait>(
-        &self,
-        rt: &R,
-        into: &mut KmsPass<D, W, C, M>,
-        from: KmsPass<D, W, C, M>,
-    ) {
+    fn meet_keys<R: Wait>(&self, rt: &R, into: &mut K::Pass, from: K::Pass) {
         self.keys.meet(rt, into, from)
     }
 
-    fn meet_names<R: Wait>(&self, rt: &R, into: &mut NamePass<D, N>, from: NamePass<D, N>) {
+    fn meet_names<R: Wait>(&self, rt: &R, into: &mut NamePass<K, N>, from: NamePass<K, N>) {
         self.names.meet(rt, into, from)
     }
 }

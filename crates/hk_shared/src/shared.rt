@@ -1,27 +1,29 @@
 //! Both cells.
 ghost use Rattle.std.specs.Prelude.{◌≡◌};
-ghost use Rattle.hist_cell.specs.History.{Closes};
+ghost use Rattle.hist_cell.specs.History.{Closes, Meets};
+ghost use Rattle.kms_cell.specs.Entries.{KmsKnown};
 ghost use Rattle.kms_cell.specs.Steps.{KmsSteps};
 ghost use Rattle.kms_cell.specs.Tickets.{KmsAllows};
 ghost use Rattle.kms_cell.specs.Views.{KmsView, RunsOn};
-ghost use Rattle.name_cell.specs.Asked.{NameAllows};
-ghost use Rattle.name_cell.specs.Steps.{NameSteps};
-ghost use Rattle.name_cell.specs.Views.{NameView, NamesRunOn};
+ghost use Rattle.name_history.specs.Asked.{NameAllows};
+ghost use Rattle.name_history.specs.Steps.{NameSteps};
+ghost use Rattle.name_history.specs.Views.{NameView, NamesRunOn};
 
 use hist_cell::Naming;
 use hk_base::{Clock, Disk, Words};
 use kms_cell::{KmsCell, KmsPass, close_keys};
 use kms_core::Kms;
-use name_cell::{NameCell, NamePass, close_names};
+use name_cell::{KeysCell, NameCell, NamePass, close_names};
 use name_core::Name;
-use std::sync::Mutex;
+use std::sync::{Mutex, Wait};
 
-/// Both services, each in a cell of its own. Both disks are of one type. Calls that change a service
-/// wait for each other first, so that calls that read get to its cell between two changes.
+/// Both services, each in a cell of its own. The namesystem keeps a pass of the other cell. Both disks
+/// are of one type. Calls that change a service wait for each other first, so that calls that read get
+/// to its cell between two changes.
 #[derive(Drop)]
-pub struct Shared<D: Disk, W: Words, C: Clock, M: Naming, N: Naming> {
-    pub keys: KmsCell<D, W, C, M>,
-    pub names: NameCell<D, N>,
+pub struct Shared<K: KeysCell, N: Naming> {
+    pub keys: K,
+    pub names: NameCell<K, N>,
     /// Held by the call that changes the key management service.
     pub(crate) key_changes: Mutex<()>,
     /// Held by the call that changes the namesystem.
@@ -49,22 +51,30 @@ impl<D> Closed<D> {
             names,
             names_disk,
         } = self;
-        drop(kms);
+        drop(kms.stop());
         drop(names);
         (keys_disk, names_disk)
     }
 }
 
-impl<D: Disk, W: Words, C: Clock, M: Naming, N: Naming> Shared<D, W, C, M, N> {
+impl<D: Disk + Drop, W: Words + Drop, C: Clock + Drop, M: Naming, N: Naming> Shared<
+    KmsCell<D, W, C, M>,
+    N,
+> {
     /// Ends both cells and returns the services and their disks, each after its whole history. Other passes
-    /// may have been dropped.
-    pub fn close(self, keys: KmsPass<D, W, C, M>, names: NamePass<D, N>) -> Closed<D>
-    where
-        W: Drop,
-        C: Drop,
-        ensures keys { (last : KmsView D W) × Closes (KmsSteps D.state W.to_come) KmsAllows keys last × (result.kms ≡ last.kms) × (result.keys_disk ≡ last.disk) }
+    /// may have been dropped. The namesystem's cell ends first, and the pass that it kept is joined to
+    /// `keys` before the other one ends: all that the namesystem has seen of the key management service
+    /// is in that service's history. It may wait.
+    pub fn close<R: Wait>(
+        self,
+        rt: &R,
+        mut keys: KmsPass<D, W, C, M>,
+        names: NamePass<KmsCell<D, W, C, M>, N>,
+    ) -> Closed<D>
+        ensures closes { (last_n : NameView D W) × (met : KmsKnown D W) × (last_k : KmsView D W)
+            × Closes (NameSteps D.state W.to_come) NameAllows names last_n × Meets keys last_n.keys met × Closes (KmsSteps D.state W.to_come) KmsAllows met last_k
+            × (result.kms ≡ last_k.kms) × (result.keys_disk ≡ last_k.disk) × (result.names ≡ last_n.names) × (result.names_disk ≡ last_n.disk) }
         ensures keys_run { RunsOn (D.state result.keys_disk) result.kms }
-        ensures names { (last : NameView D) × Closes (NameSteps D.state) NameAllows names last × (result.names ≡ last.names) × (result.names_disk ≡ last.disk) }
         ensures names_run { NamesRunOn (D.state result.names_disk) result.names }
     {
         let Shared {
@@ -73,8 +83,9 @@ impl<D: Disk, W: Words, C: Clock, M: Naming, N: Naming> Shared<D, W, C, M, N> {
             key_changes: _,
             name_changes: _,
         } = self;
+        let (names, names_disk, kept) = close_names(second, names);
+        first.meet(rt, &mut keys, kept);
         let (kms, keys_disk) = close_keys(first, keys);
-        let (names, names_disk) = close_names(second, names);
         Closed {
             kms,
             keys_disk,

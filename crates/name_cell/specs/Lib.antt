@@ -1,4 +1,3 @@
-pub mod Asked
-pub mod Entries
-pub mod Steps
-pub mod Views
+pub mod FaultLemmas
+pub mod StepLemmas
+pub mod WantLemmas

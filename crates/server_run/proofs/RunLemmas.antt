@@ -3,18 +3,18 @@ use Rattle.std.proofs.Common.{◌≡◌, ◌⊎◌, ◌+◌, ◌-◌, ◌^◌, �
 use Rattle.std.specs.Prelude.{◌↔◌, ◌||◌, min}
 use Rattle.hk_base.specs.Disk.{DiskState}
 use Rattle.hk_base.specs.Faults.{Rose}
-use Rattle.hist_cell.specs.History.{Closes}
+use Rattle.hist_cell.specs.History.{Closes, Meets}
 use Rattle.kms_cell.specs.Entries.{KmsKnown}
 use Rattle.kms_cell.specs.Steps.{KmsSteps}
 use Rattle.kms_cell.specs.Tickets.{KmsAllows}
 use Rattle.kms_cell.specs.Views.{KmsView, RunsOn}
 use Rattle.kms_core.specs.State.{IsService, service_of}
 use Rattle.kms_core.specs.Users.{RunningKms, running}
-use Rattle.name_core.specs.State.{RunningNames}
-use Rattle.name_cell.specs.Asked.{NameAllows}
-use Rattle.name_cell.specs.Entries.{NameKnown}
-use Rattle.name_cell.specs.Steps.{NameSteps}
-use Rattle.name_cell.specs.Views.{NameView, NamesRunOn}
+use Rattle.name_core.specs.State.{IsNames, RunningNames, service_of as names_service}
+use Rattle.name_history.specs.Asked.{NameAllows}
+use Rattle.name_history.specs.Entries.{NameKnown}
+use Rattle.name_history.specs.Steps.{NameSteps}
+use Rattle.name_history.specs.Views.{NameView, NamesRunOn}
 use Rattle.prop_text.specs.declared.props.Props.{Props}
 use Rattle.server_parts.specs.Doors.{DoorState}
 use Rattle.server_parts.specs.Yards.{Given, YardState}
@@ -25,7 +25,7 @@ use Rattle.cell_server.specs.declared.ends.ServeEnd.TheVariants as serve_end
 use Rattle.server_run.specs.Opening.{BothOpened}
 use Rattle.server_run.specs.declared.run.RunEnd.{RunEnd}
 use Rattle.server_run.specs.declared.run.RunEnd.TheVariants as run_end
-use Rattle.server_run.specs.Runs.{DisksFailed, EndsAs, RanInCells, RanServer, end_of}
+use Rattle.server_run.specs.Runs.{BeginsWith, DisksFailed, EndsAs, RanServer, RanTo, end_of}
 
 -- a fault of the door is one of the serving
 pub faults_so : (end : ServeEnd) (failed : Bool) (rose : Type 0) → (end ≡ serve_end.DoorFault → rose) → end_of end failed ≡ run_end.DoorFault → rose
@@ -53,59 +53,69 @@ then_rose : (a b c : ℕ) → a ≤ b → Rose b c → Rose a c
 then_rose a b c later rose = let r : min (b + 1) (2 ^ 64 - 1) ≤ c = rose in omega (arith, r, later)
 
 module _ {D W I O : Type 0} (state : D → DiskState) (to_come : W → ℕ → ℕ) (serves : Serving I O D W) (first second : ℕ → ℕ) where
-  -- the services ran in their cells, and these are what the cells left
-  abbrev pub RanTo : ℕ → ℕ → DoorState I O → DoorState I O → ServeEnd → KmsView D W → NameView D → D → D → Type 0
-  RanTo port conns door door' end k n keys_disk names_disk =
-      (last_k : KmsView D W) × (last_n : NameView D) × RanInCells state to_come serves first second port conns door door' end k n last_k last_n
-      × (keys_disk ≡ last_k.disk) × (names_disk ≡ last_n.disk) × RunsOn (state last_k.disk) last_k.kms × NamesRunOn (state last_n.disk) last_n.names
-      × IsService (service_of (running last_k.kms)) × (last_k.kms.store.log.file ≡ 0) × (last_n.names.store.log.log.file ≡ 1)
-
-  pub ran : (port conns : ℕ) (door door' : DoorState I O) (end : ServeEnd) (k : KmsView D W) (n : NameView D) (keys : KmsKnown D W) (names : NameKnown D) (keys' : KmsKnown D W) (names' : NameKnown D)
+  -- the cells were closed after a run in them
+  pub ran : (port conns : ℕ) (door door' : DoorState I O) (end : ServeEnd) (k : KmsView D W) (n : NameView D W) (keys : KmsKnown D W) (names : NameKnown D W) (keys' : KmsKnown D W) (names' : NameKnown D W)
       (kms : RunningKms) (keys_disk : D) (service : RunningNames) (names_disk : D)
-      → (keys.start ≡ Some k) × (keys.seen ≡ []) × (keys.ended ≡ []) → (names.start ≡ Some n) × (names.seen ≡ []) × (names.ended ≡ [])
+      → BeginsWith k keys n → (names.start ≡ Some n) × (names.seen ≡ []) × (names.ended ≡ [])
       → ServesAll serves first second state to_come door keys names port conns end door' keys' names'
-      → (last : KmsView D W) × Closes (KmsSteps state to_come) KmsAllows keys' last × (kms ≡ last.kms) × (keys_disk ≡ last.disk) → RunsOn (state keys_disk) kms
-      → (last : NameView D) × Closes (NameSteps state) NameAllows names' last × (service ≡ last.names) × (names_disk ≡ last.disk) → NamesRunOn (state names_disk) service
-      → IsService (service_of (running kms)) → kms.store.log.file ≡ 0 → service.store.log.log.file ≡ 1
-      → RanTo port conns door door' end k n keys_disk names_disk
-  ran port conns door door' end k n keys names keys' names' kms keys_disk service names_disk keys_begin names_begin served (last_k, closes_k, kms_is, disk_is) runs (last_n, closes_n, names_are, names_disk_is) names_run rules keys_file names_file = (
-    last_k,
-    last_n,
-    record { keys = keys; names = names; keys' = keys'; names' = names'; keys_begin = keys_begin; names_begin = names_begin; served = served; keys_closed = closes_k; names_closed = closes_n },
-    disk_is,
-    names_disk_is,
-    subst (λ d. RunsOn (state d) last_k.kms) disk_is (subst (λ s. RunsOn (state keys_disk) s) kms_is runs),
-    subst (λ d. NamesRunOn (state d) last_n.names) names_disk_is (subst (λ s. NamesRunOn (state names_disk) s) names_are names_run),
-    subst (λ (s : RunningKms). IsService (service_of (running s))) kms_is rules,
-    subst (λ (s : RunningKms). s.store.log.file ≡ 0) kms_is keys_file,
-    subst (λ (s : RunningNames). s.store.log.log.file ≡ 1) names_are names_file,
-  )
+      → (last_n : NameView D W) × (met : KmsKnown D W) × (last_k : KmsView D W)
+      × Closes (NameSteps state to_come) NameAllows names' last_n × Meets keys' last_n.keys met × Closes (KmsSteps state to_come) KmsAllows met last_k
+      × (kms ≡ last_k.kms) × (keys_disk ≡ last_k.disk) × (service ≡ last_n.names) × (names_disk ≡ last_n.disk)
+      → RunsOn (state keys_disk) kms → NamesRunOn (state names_disk) service → IsService (service_of (running kms)) → IsNames (names_service service) → kms.store.log.file ≡ 0 → service.store.log.log.file ≡ 1
+      → RanTo state to_come serves first second port conns door door' end k n keys_disk names_disk
+  ran port conns door door' end k n keys names keys' names' kms keys_disk service names_disk begins names_begin served (last_n, met, last_k, closes_n, meets, closes_k, kms_is, disk_is, names_are, names_disk_is) runs names_run rules names_rules keys_file names_file = record {
+    last_k = last_k;
+    last_n = last_n;
+    ran = record {
+      keys = keys;
+      names = names;
+      keys' = keys';
+      names' = names';
+      begins = begins;
+      names_begin = names_begin;
+      served = served;
+      names_closed = closes_n;
+      met = met;
+      kept_met = meets;
+      keys_closed = closes_k;
+      keys_run = subst (λ d. RunsOn (state d) last_k.kms) disk_is (subst (λ s. RunsOn (state keys_disk) s) kms_is runs);
+      names_run = subst (λ d. NamesRunOn (state d) last_n.names) names_disk_is (subst (λ s. NamesRunOn (state names_disk) s) names_are names_run);
+      keys_rules = subst (λ (s : RunningKms). IsService (service_of (running s))) kms_is rules;
+      names_rules = subst (λ (s : RunningNames). IsNames (names_service s)) names_are names_rules;
+      keys_file = subst (λ (s : RunningKms). s.store.log.file ≡ 0) kms_is keys_file;
+      names_file = subst (λ (s : RunningNames). s.store.log.log.file ≡ 1) names_are names_file;
+    };
+    keys_disk_is = disk_is;
+    names_disk_is = names_disk_is;
+  }
 
   -- both disks were given back
-  pub ran_server : (props : Props) (words : W) (port conns : ℕ) (old begun new : YardState) (door door' : DoorState I O) (end : ServeEnd) (failed : Bool) (k : KmsView D W) (n : NameView D) (keys_disk names_disk keys_back names_back : D)
-      → BothOpened state props old begun words k n → RanTo port conns door door' end k n keys_disk names_disk
+  pub ran_server : (props : Props) (words : W) (port conns : ℕ) (old begun new : YardState) (door door' : DoorState I O) (end : ServeEnd) (failed : Bool) (k : KmsView D W) (service : RunningNames) (disk keys_disk names_disk keys_back names_back : D)
+      → BothOpened state props old begun words k service disk
+      → (n : NameView D W) × (n.names ≡ service) × (n.disk ≡ disk) × RanTo state to_come serves first second port conns door door' end k n keys_disk names_disk
       → keys_back ≡ keys_disk → names_back ≡ names_disk → (mid : YardState) × Given 0 begun mid (state keys_back) × Given 1 mid new (state names_back)
       → DisksFailed failed (state keys_back).faults (state names_back).faults
       → RanServer state to_come serves first second props words port conns old new door door' end failed
-  ran_server props words port conns old begun new door door' end failed k n keys_disk names_disk keys_back names_back opened (last_k, last_n, did, keys_is, names_is, runs, names_run, rules, keys_file, names_file) keys_same names_same (mid, keys_given, names_given) disks = record {
+  ran_server props words port conns old begun new door door' end failed k service disk keys_disk names_disk keys_back names_back opened (n, service_is, disk_is, to) keys_same names_same (mid, keys_given, names_given) disks = record {
     begun = begun;
     k = k;
     n = n;
-    opened = opened;
-    last_k = last_k;
-    last_n = last_n;
-    ran = did;
-    keys_run = runs;
-    names_run = names_run;
-    keys_rules = rules;
-    keys_file = keys_file;
-    names_file = names_file;
+    opened = subst (λ (s : RunningNames). BothOpened state props old begun words k s n.disk) (sym service_is) (subst (λ (d : D). BothOpened state props old begun words k service d) (sym disk_is) opened);
+    last_k = to.last_k;
+    last_n = to.last_n;
+    ran = to.ran;
     mid = mid;
-    keys_given = subst (λ d. Given 0 begun mid (state d)) (keys_same ∙ keys_is) keys_given;
-    names_given = subst (λ d. Given 1 mid new (state d)) (names_same ∙ names_is) names_given;
-    disks = subst (λ d. DisksFailed failed (state last_k.disk).faults (state d).faults) (names_same ∙ names_is)
-        (subst (λ d. DisksFailed failed (state d).faults (state names_back).faults) (keys_same ∙ keys_is) disks);
+    keys_given = subst (λ d. Given 0 begun mid (state d)) (keys_same ∙ to.keys_disk_is) keys_given;
+    names_given = subst (λ d. Given 1 mid new (state d)) (names_same ∙ to.names_disk_is) names_given;
+    disks = subst (λ d. DisksFailed failed (state to.last_k.disk).faults (state d).faults) (names_same ∙ to.names_disk_is)
+        (subst (λ d. DisksFailed failed (state d).faults (state names_back).faults) (keys_same ∙ to.keys_disk_is) disks);
   }
+
+  -- both services were started, and the second cell could not be made
+  pub opened_in_vain : (props : Props) (words : W) (port conns : ℕ) (old new : YardState) (door door' : DoorState I O) (k : KmsView D W) (service : RunningNames) (disk : D) → BothOpened state props old new words k service disk → door' ≡ door
+      → EndsAs state to_come serves first second props words port conns old new door door' run_end.NoMemory
+  opened_in_vain props words port conns old new door door' k service disk opened unserved =
+      inr (inr (record { lists = k.kms.acls; lists_are = opened.lists; keys_disk = k.disk; kms = k.kms; names_disk = disk; running_names = service; logs = opened.logs }), unserved)
 
   so_ends : (props : Props) (words : W) (port conns : ℕ) (old new : YardState) (door door' : DoorState I O) (end : ServeEnd) (failed : Bool) → RanServer state to_come serves first second props words port conns old new door door' end failed
       → EndsAs state to_come serves first second props words port conns old new door door' (end_of end failed)
@@ -126,13 +136,13 @@ module _ {D W I O : Type 0} (state : D → DiskState) (to_come : W → ℕ → �
   -- ---- the count of faults of the yard
 
   -- opening the logs left it as it was
-  opened_so : (props : Props) (words : W) (old begun : YardState) (k : KmsView D W) (n : NameView D) → BothOpened state props old begun words k n → begun.faults ≡ old.faults
-  opened_so props words old begun k n o = o.logs.names_opened.taken.faults ∙ o.logs.keys_opened.taken.faults
+  opened_so : (props : Props) (words : W) (old begun : YardState) (k : KmsView D W) (service : RunningNames) (disk : D) → BothOpened state props old begun words k service disk → begun.faults ≡ old.faults
+  opened_so props words old begun k service disk o = o.logs.names_opened.taken.faults ∙ o.logs.keys_opened.taken.faults
 
   -- it rose if a disk failed
   pub yard_rose : (props : Props) (words : W) (port conns : ℕ) (old new : YardState) (door door' : DoorState I O) (end : ServeEnd) → RanServer state to_come serves first second props words port conns old new door door' end true
       → Rose old.faults new.faults
-  yard_rose props words port conns old new door door' end r = subst (λ (f : ℕ). Rose f new.faults) (opened_so props words old r.begun r.k r.n r.opened) (by r.disks)
+  yard_rose props words port conns old new door door' end r = subst (λ (f : ℕ). Rose f new.faults) (opened_so props words old r.begun r.k r.n.names r.n.disk r.opened) (by r.disks)
     where
       by : DisksFailed true (state r.last_k.disk).faults (state r.last_n.disk).faults → Rose r.begun.faults new.faults
       by (inl keys) = rose_then r.begun.faults r.mid.faults new.faults (r.keys_given.rose keys) r.names_given.later
@@ -141,7 +151,7 @@ module _ {D W I O : Type 0} (state : D → DiskState) (to_come : W → ℕ → �
   -- it stayed as it was if none failed
   yard_stays : (props : Props) (words : W) (port conns : ℕ) (old new : YardState) (door door' : DoorState I O) (end : ServeEnd) → RanServer state to_come serves first second props words port conns old new door door' end false
       → new.faults ≡ old.faults
-  yard_stays props words port conns old new door door' end r = r.names_given.same r.disks.1 ∙ (r.keys_given.same r.disks.0 ∙ opened_so props words old r.begun r.k r.n r.opened)
+  yard_stays props words port conns old new door door' end r = r.names_given.same r.disks.1 ∙ (r.keys_given.same r.disks.0 ∙ opened_so props words old r.begun r.k r.n.names r.n.disk r.opened)
 
   pub store_rose : (props : Props) (words : W) (port conns : ℕ) (old new : YardState) (door door' : DoorState I O) (result : RunEnd) → EndsAs state to_come serves first second props words port conns old new door door' result
       → result ≡ run_end.StoreFault → Rose old.faults new.faults

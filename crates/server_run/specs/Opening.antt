@@ -21,7 +21,6 @@ use Rattle.kms_acls.specs.Lists.{Lists}
 use Rattle.server_run.specs.declared.opening.OpenFault.{OpenFault}
 use Rattle.server_run.specs.declared.opening.OpenFault.TheVariants as open_fault
 use Rattle.kms_cell.specs.Views.{KmsView}
-use Rattle.name_cell.specs.Views.{NameView}
 
 -- The disk of the key log was taken, and the service was started on it.
 pub record KeysOpened {D : Type 0} (state : D → DiskState) (old new : YardState) (disk : D) (kms : RunningKms) : Type 0 where
@@ -100,9 +99,9 @@ pub record LogsOpened {D : Type 0} (state : D → DiskState) (lists : Lists) (si
   pub names_opened : NamesOpened state sizes.batch mid new names_disk names
 
 -- The same, with the lists and the sizes of properties. The key management service draws from these words.
-pub record BothOpened {D W : Type 0} (state : D → DiskState) (props : Props) (old new : YardState) (words : W) (k : KmsView D W) (n : NameView D) : Type 0 where
+pub record BothOpened {D W : Type 0} (state : D → DiskState) (props : Props) (old new : YardState) (words : W) (k : KmsView D W) (names : RunningNames) (names_disk : D) : Type 0 where
   pub lists : AreListsOf k.kms.acls props.lines
-  pub logs : LogsOpened state k.kms.acls props.sizes old new k.disk k.kms n.disk n.names
+  pub logs : LogsOpened state k.kms.acls props.sizes old new k.disk k.kms names_disk names
   pub words_are : k.words ≡ words
 
 -- Both services were started, but the disks are gone with them.

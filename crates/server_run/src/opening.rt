@@ -1,10 +1,10 @@
 //! Opening both logs, each on a disk of its own.
-ghost use Rattle.std.specs.Prelude.{◌≡◌, ◌≤◌, IfErr, IfOk, IsTrue, List};
+ghost use Rattle.std.specs.Prelude.{◌≡◌, ◌≤◌, [], IfErr, IfOk, IsTrue, List};
 ghost use Rattle.kms_acls.specs.Agreement.{AreListsOf};
 ghost use Rattle.prop_text.specs.declared.lines.PropLine.{PropLine};
 ghost use Rattle.kms_cell.specs.Views.{RunsOn};
 ghost use Rattle.kms_core.specs.State.{no_queues};
-ghost use Rattle.name_cell.specs.Views.{NamesRunOn};
+ghost use Rattle.name_history.specs.Views.{NamesRunOn};
 ghost use Rattle.server_run.specs.Opening.{BothOpened, KeysNotOpened, KeysOpened, LacksMemory, LogFails, LogsOpened, NamesNotOpened, NamesOpened};
 
 use frame_log::StartFault;
@@ -13,7 +13,6 @@ use hk_shared::Opening;
 use kms_acls::Acls;
 use kms_cell::KmsSide;
 use kms_core::Kms;
-use name_cell::NameSide;
 use name_core::Name;
 use prop_text::{Props, Sizes};
 use server_parts::Yard;
@@ -110,7 +109,7 @@ struct OnDisks<D> {
 
 /// Opens both logs, the key log first. If one can't be opened, both disks lie in the yard again. If that
 /// is the edit log, the key log has the record of its new opening.
-#[tactic(auto, using(crate::proofs::OpeningLemmas::keys_run, crate::proofs::OpeningLemmas::names_run))]
+#[tactic(auto, using(crate::proofs::OpeningLemmas::keys_run, crate::proofs::OpeningLemmas::names_run, crate::proofs::OpeningLemmas::no_walks))]
 fn open_logs<Y: Yard>(
     alloc: Global,
     yard: &mut Y,
@@ -122,6 +121,7 @@ fn open_logs<Y: Yard>(
     requires lists { (lines : List PropLine) × AreListsOf acls lines }
     ensures keys_run { IfOk result (λ on. RunsOn (Y.Own.state on.keys_disk) on.kms) }
     ensures names_run { IfOk result (λ on. NamesRunOn (Y.Own.state on.names_disk) on.names) }
+    ensures no_walks { IfOk result (λ on. on.names.walks ≡ []) }
     ensures opened { IfOk result (λ on. LogsOpened Y.Own.state acls sizes.now (Y.state yard.old) (Y.state yard.new) on.keys_disk on.kms on.names_disk on.names) }
     ensures failed { IfErr result (λ fault. LogFails ⊥ (Y.state yard.old) (Y.state yard.new) fault) }
 {
@@ -144,7 +144,8 @@ fn open_logs<Y: Yard>(
     }
 }
 
-/// Opens both services, each on the disk that the yard gives for it, and makes their cells.
+/// Opens both services, each on the disk that the yard gives for it, and makes the cell of the key
+/// management service.
 pub(crate) fn open_services<Y: Yard, W: Words + Drop, C: Clock + Drop>(
     alloc: Global,
     yard: &mut Y,
@@ -154,7 +155,7 @@ pub(crate) fn open_services<Y: Yard, W: Words + Drop, C: Clock + Drop>(
 ) -> Result<Opening<Y::Own, W, C>, OpenFault>
     requires keys { IsTrue ((Y.state yard.old).lies 0) }
     requires names { IsTrue ((Y.state yard.old).lies 1) }
-    ensures opened { IfOk result (λ opening. BothOpened Y.Own.state props.now (Y.state yard.old) (Y.state yard.new) words opening.keys.core opening.names.core) }
+    ensures opened { IfOk result (λ opening. BothOpened Y.Own.state props.now (Y.state yard.old) (Y.state yard.new) words opening.keys.core opening.names opening.disk) }
     ensures failed { IfErr result (λ fault. LogFails (LacksMemory Y.Own.state props.now (Y.state yard.old) (Y.state yard.new)) (Y.state yard.old) (Y.state yard.new) fault) }
 {
     let Ok(acls) = Acls::from_props(alloc, props) else {
@@ -167,8 +168,7 @@ pub(crate) fn open_services<Y: Yard, W: Words + Drop, C: Clock + Drop>(
         names_disk,
     } = open_logs(alloc, yard, acls, &props.sizes)?;
     let keys = KmsSide::new(kms, keys_disk, words, clock);
-    let names = NameSide::new(names, names_disk);
-    match Opening::new(alloc, keys, names) {
+    match Opening::new(alloc, keys, names, names_disk) {
         Ok(opening) => Ok(opening),
         Err(_) => Err(OpenFault::NoMemory),
     }

@@ -1,21 +1,20 @@
 //! A run of the server.
-ghost use Rattle.std.specs.Prelude.{◌≡◌, ◌⊎◌, IsFalse, IsTrue};
+ghost use Rattle.std.specs.Prelude.{◌≡◌, ◌⊎◌, IfErr, IfOk, IsFalse, IsTrue};
 ghost use Rattle.hk_base.specs.Faults.{Rose};
-ghost use Rattle.kms_core.specs.State.{IsService, service_of};
-ghost use Rattle.kms_core.specs.Users.{running};
-ghost use Rattle.kms_cell.specs.Views.{KmsView, RunsOn};
-ghost use Rattle.name_cell.specs.Views.{NameView, NamesRunOn};
+ghost use Rattle.kms_cell.specs.Views.{KmsView};
+ghost use Rattle.name_history.specs.Views.{NameView};
 ghost use Rattle.cell_server.specs.Connections.{ServesEnds};
 ghost use Rattle.server_parts.specs.Yards.{Given, YardState};
 ghost use Rattle.server_run.specs.Opening.{BothOpened};
-ghost use Rattle.server_run.specs.Runs.{DisksFailed, EndsAs, RanInCells, end_of};
+ghost use Rattle.server_run.specs.Runs.{BeginsWith, DisksFailed, EndsAs, RanTo, end_of};
 
 use crate::opening::{KEYS, NAMES, OpenFault, open_services};
 use cell_server::{ServeEnd, serve_all};
 use frame_log::StartFault;
 use hist_cell::Naming;
-use hk_base::{Clock, Disk, Gate, Point, Words};
-use hk_shared::{Closed, Opening};
+use hk_base::{Clock, Disk, Gate, NoMemory, Point, Words};
+use hk_shared::{Closed, NamesOpening, Opening};
+use kms_cell::{KmsCell, KmsPass};
 use prop_text::Props;
 use server_parts::{Door, Yard};
 use std::alloc::Global;
@@ -60,7 +59,7 @@ impl Gate for OpenGate {
     fn pass<R: Wait>(&self, _rt: &R, _point: Point) {}
 }
 
-/// Names both cells, serves with them, and closes them.
+/// Names the cell of the namesystem, serves with both cells, and closes them.
 fn serve_named<
     M: Naming + Send + Sync,
     N: Naming + Send + Sync,
@@ -73,20 +72,18 @@ fn serve_named<
 >(
     rt: &R,
     alloc: Global,
-    opening: Opening<D, W, C>,
+    cells: NamesOpening<KmsCell<D, W, C, M>>,
+    mut keys: KmsPass<D, W, C, M>,
     door: &mut A,
     plan: ServerPlan<V>,
 ) -> (Closed<D>, ServeEnd)
-    requires keys { opening.keys.table ≡ M.table }
-    requires names { opening.names.table ≡ N.table }
-    ensures ran { (last_k : KmsView D W) × (last_n : NameView D)
-        × RanInCells D.state W.to_come (ServesEnds A.In.left A.In.faults A.Out.written A.Out.faults) (V.to_come plan.first) (V.to_come plan.second) plan.port plan.conns (A.state door.old) (A.state door.new) result.1
-        opening.keys.core opening.names.core last_k last_n
-        × (result.0.keys_disk ≡ last_k.disk) × (result.0.names_disk ≡ last_n.disk) × RunsOn (D.state last_k.disk) last_k.kms × NamesRunOn (D.state last_n.disk) last_n.names
-        × IsService (service_of (running last_k.kms)) × (last_k.kms.store.log.file ≡ 0) × (last_n.names.store.log.log.file ≡ 1) }
+    requires name { cells.names.table ≡ N.table }
+    ensures ran { (k : KmsView D W) → BeginsWith k keys cells.names.core
+        → RanTo D.state W.to_come (ServesEnds A.In.left A.In.faults A.Out.written A.Out.faults) (V.to_come plan.first) (V.to_come plan.second) plan.port plan.conns (A.state door.old) (A.state door.new) result.1
+        k cells.names.core result.0.keys_disk result.0.names_disk }
     ensures cause { result.1 ≡ ServeEnd.DoorFault → Rose (A.faults door.old) (A.faults door.new) }
 {
-    let (shared, mut keys, mut names) = opening.named::<M, N>();
+    let (shared, mut names) = cells.named::<N>();
     let ServerPlan {
         port,
         conns,
@@ -98,11 +95,47 @@ fn serve_named<
         rt, alloc, &shared, &mut keys, &mut names, door, port, conns, places, first, second,
         &OpenGate,
     );
-    let closed = shared.close(keys, names);
+    let closed = shared.close(rt, keys, names);
     // Each service keeps its rules, and its log is on its own file.
     let _ = closed.kms.count();
     closed.names.invariants();
     (closed, end)
+}
+
+/// Names the cell of the key management service, makes and names that of the namesystem, serves with both
+/// cells, and closes them. Returns `NoMemory` if the cell of the namesystem can't be made; both services
+/// and their disks are then dropped, and the door is unchanged.
+fn serve_opened<
+    M: Naming + Send + Sync,
+    R: Threads + Wait + Sync,
+    D: Disk + Send + Drop,
+    W: Words + Send + Drop,
+    C: Clock + Send + Drop,
+    V: Words + Send + Drop,
+    A: Door,
+>(
+    rt: &R,
+    alloc: Global,
+    opening: Opening<D, W, C>,
+    door: &mut A,
+    plan: ServerPlan<V>,
+) -> Result<(Closed<D>, ServeEnd), NoMemory>
+    requires name { opening.keys.table ≡ M.table }
+    ensures ran { IfOk result (λ served. (n : NameView D W) × (n.names ≡ opening.names) × (n.disk ≡ opening.disk)
+        × RanTo D.state W.to_come (ServesEnds A.In.left A.In.faults A.Out.written A.Out.faults) (V.to_come plan.first) (V.to_come plan.second) plan.port plan.conns (A.state door.old) (A.state door.new) served.1
+        opening.keys.core n served.0.keys_disk served.0.names_disk) }
+    ensures cause { IfOk result (λ served. served.1 ≡ ServeEnd.DoorFault → Rose (A.faults door.old) (A.faults door.new)) }
+    ensures unserved { IfErr result (λ _. door.new ≡ door.old) }
+{
+    match opening.named::<M, R>(rt, alloc) {
+        Ok((cells, keys)) => Ok(serve_named::<M, Brand, R, D, W, C, V, A>(
+            rt, alloc, cells, keys, door, plan,
+        )),
+        Err(_) => {
+            drop(plan);
+            Err(NoMemory)
+        }
+    }
 }
 
 /// Gives both disks back. Returns whether either has counted a fault.
@@ -183,9 +216,11 @@ pub fn run_server<
             return RunEnd::NoMemory;
         }
     };
-    let (closed, end) = serve_named::<Brand, Brand, R, Y::Own, W, C, V, A>(
-        rt, alloc, opening, door, plan,
-    );
+    let served = serve_opened::<Brand, R, Y::Own, W, C, V, A>(rt, alloc, opening, door, plan);
+    let (closed, end) = match served {
+        Ok(served) => served,
+        Err(_) => return RunEnd::NoMemory,
+    };
     let (keys, names) = closed.into_disks();
     let failed = give_both(yard, keys, names);
     run_end(end, failed)

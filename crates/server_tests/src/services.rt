@@ -1,5 +1,7 @@
 //! Both services in cells, with a key.
-ghost use Rattle.std.specs.Prelude.{◌≡◌};
+ghost use Rattle.std.specs.Prelude.{◌≡◌, []};
+ghost use Rattle.disk_kinds.specs.Plain.{state_of};
+ghost use Rattle.name_history.specs.Views.{NamesRunOn};
 
 use crate::gates::{HeldGate, Hold, Tally};
 use crate::runs::{PROPERTIES, Ticks, check_left, door};
@@ -9,12 +11,11 @@ use disk_kinds::{ChaWords, PlainDisk};
 use door_kinds::MemDoor;
 use hist_cell::{Core, Naming};
 use hk_base::{Gate, KeyName, Text, Words};
-use hk_shared::Opening;
+use hk_shared::{NamesOpening, Opening};
 use kms_acls::Acls;
 use kms_calls::{Description, KmsCall, KmsReply};
-use kms_cell::{KmsAct, KmsActed, KmsSide};
+use kms_cell::{KmsAct, KmsActed, KmsCell, KmsPass, KmsSide};
 use kms_core::Kms;
-use name_cell::NameSide;
 use name_core::Name;
 use prop_text::read_props;
 use std::marker::Brand;
@@ -63,13 +64,17 @@ fn keys<W: Words + Drop>(rt: &(impl Abort + AllocGlobal), words: W) -> TestSide<
 }
 
 /// Starts the namesystem on an empty disk.
-fn names(rt: &(impl Abort + AllocGlobal)) -> NameSide<PlainDisk> {
+fn names(rt: &(impl Abort + AllocGlobal)) -> (Name, PlainDisk)
+    ensures runs { NamesRunOn (state_of result.1) result.0 }
+    ensures no_walks { result.0.walks ≡ [] }
+{
     let mut disk = PlainDisk::new(rt.alloc());
     let names = Name::start(rt.alloc(), &mut disk, 3).expect(rt, "a start");
-    NameSide::new(names, disk)
+    (names, disk)
 }
 
-/// Serves the clients of a door with both services, and closes them.
+/// Serves the clients of a door with both services once the cell of the namesystem is named, and closes
+/// them.
 fn serve_named<
     M: Naming + Send + Sync,
     N: Naming + Send + Sync,
@@ -78,15 +83,15 @@ fn serve_named<
     G: Gate + Sync,
 >(
     rt: &R,
-    opening: Opening<PlainDisk, W, Ticks>,
+    cells: NamesOpening<KmsCell<PlainDisk, W, Ticks, M>>,
+    mut keys: KmsPass<PlainDisk, W, Ticks, M>,
     door: &mut MemDoor,
     conns: u32,
     gate: &G,
 ) -> ServeEnd
-    requires keys { opening.keys.table ≡ M.table }
-    requires names { opening.names.table ≡ N.table }
+    requires name { cells.names.table ≡ N.table }
 {
-    let (shared, mut keys, mut names) = opening.named::<M, N>();
+    let (shared, mut names) = cells.named::<N>();
     let first = ChaWords::from_seed([2; 32]);
     let second = ChaWords::from_seed([3; 32]);
     let end = serve_all(
@@ -103,8 +108,27 @@ fn serve_named<
         second,
         gate,
     );
-    let _ = shared.close(keys, names);
+    drop(shared.close(rt, keys, names));
     end
+}
+
+/// Names both cells, the one of the keys first, and serves the clients of a door.
+fn serve_opened<
+    M: Naming + Send + Sync,
+    R: Threads + Wait + Abort + AllocGlobal + Sync,
+    W: Words + Send + Drop,
+    G: Gate + Sync,
+>(
+    rt: &R,
+    opening: Opening<PlainDisk, W, Ticks>,
+    door: &mut MemDoor,
+    conns: u32,
+    gate: &G,
+) -> ServeEnd
+    requires name { opening.keys.table ≡ M.table }
+{
+    let (cells, keys) = opening.named::<M, R>(rt, rt.alloc()).expect(rt, "memory");
+    serve_named::<M, Brand, R, W, G>(rt, cells, keys, door, conns, gate)
 }
 
 /// Serves the clients of these scripts with both services and the key `k`, through a gate that holds
@@ -114,11 +138,12 @@ pub fn serve_held<
     W: Words + Send + Drop,
     C: time::Clock + Sync + Drop,
 >(rt: &R, words: W, scripts: &[Script], tally: &Tally<C>, holds: &[Hold]) {
-    let opening = Opening::new(rt.alloc(), keys(rt, words), names(rt)).expect(rt, "memory");
+    let (names, disk) = names(rt);
+    let opening = Opening::new(rt.alloc(), keys(rt, words), names, disk).expect(rt, "memory");
     let mut door = door(rt, scripts, &[]);
     let conns = u32::try_from(scripts.len()).expect(rt, "a number");
     let gate = HeldGate { tally, holds };
-    let end = serve_named::<Brand, Brand, R, W, HeldGate<C>>(rt, opening, &mut door, conns, &gate);
+    let end = serve_opened::<Brand, R, W, HeldGate<C>>(rt, opening, &mut door, conns, &gate);
     assert_eq!(rt; end, ServeEnd::Served);
     check_left(rt, &door, scripts);
 }

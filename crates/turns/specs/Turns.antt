@@ -1,12 +1,11 @@
 -- The turns of the workers of a re-encryption: each is one entry, or none.
-use Rattle.std.specs.Prelude.{◌≡◌, ◌⊎◌, ℕ, Result}
+use Rattle.std.specs.Prelude.{◌≡◌, ◌⊎◌, ℕ, length, Result}
 use Rattle.hk_base.specs.Disk.{DiskState}
 use Rattle.kms_calls.specs.declared.calls.KmsRefusal.TheVariants as refusal
 use Rattle.kms_calls.specs.declared.calls.KmsReply.{KmsReply}
 use Rattle.kms_calls.specs.declared.calls.KmsReply.TheVariants as reply
 use Rattle.name_calls.specs.declared.calls.NameRefusal.{NameRefusal}
 use Rattle.name_calls.specs.declared.paths.NPath.{NPath}
-use Rattle.name_calls.specs.declared.status.Delivered.{Delivered}
 use Rattle.reenc_walk.specs.declared.sent.BatchNote.{BatchNote}
 use Rattle.reenc_update.specs.Replies.{ReplyState}
 use Rattle.batch_calls.specs.Batches.{batch_call, reply_for}
@@ -15,13 +14,15 @@ use Rattle.name_core.specs.declared.walks.Walked.{Walked}
 use Rattle.kms_cell.specs.Entries as keys
 use Rattle.kms_cell.specs.declared.acts.KmsAct.TheVariants as key_act
 use Rattle.kms_cell.specs.declared.acts.KmsActed.TheVariants as key_acted
-use Rattle.name_cell.specs.Entries as names
-use Rattle.name_cell.specs.declared.acts.NameAct.TheVariants as act
-use Rattle.name_cell.specs.declared.acts.NameActed.TheVariants as acted
+use Rattle.name_history.specs.Entries as names
+use Rattle.name_history.specs.declared.acts.NameAct.TheVariants as act
+use Rattle.name_history.specs.declared.acts.NameActed.TheVariants as acted
 
--- A turn of a walk: the pass made one entry, a walk through the zone, which got this answer.
-abbrev pub WalksTurn : {D : Type 0} → (D → DiskState) → names.NameKnown D → NPath → Result Walked NameRefusal → names.NameKnown D → Type 0
-WalksTurn state v zone answer w = names.Makes state v (act.Walk zone) (acted.Walk answer) w
+-- A turn of a walk: the pass made one entry, a walk through the zone, which got this answer. A pass of the keys was split from the kept one,
+-- and the front is how many entries it has seen.
+pub record LendsTurn {D W : Type 0} (state : D → DiskState) (to_come : W → ℕ → ℕ) (v : names.NameKnown D W) (zone : NPath) (answer : Result Walked NameRefusal) (front : ℕ) (w : names.NameKnown D W) (lent : keys.KmsKnown D W) : Type 0 where
+  pub makes : names.MakesLending state to_come v (act.Walk zone) (acted.Walk answer) w lent
+  pub front_is : front ≡ length lent.seen
 
 -- the call for the batch, which the superuser made, and what its reply means for the batch
 pub record ServesBatch {D W : Type 0} (state : D → DiskState) (to_come : W → ℕ → ℕ) (v : keys.KmsKnown D W) (batch : BatchNote) (result : ReplyState) (w : keys.KmsKnown D W) : Type 0 where
@@ -38,7 +39,3 @@ pub record LacksMemory {D W : Type 0} (v : keys.KmsKnown D W) (batch : BatchNote
 -- memory for the call, and the pass made no entry.
 abbrev pub ServesTurn : {D W : Type 0} → (D → DiskState) → (W → ℕ → ℕ) → keys.KmsKnown D W → BatchNote → ReplyState → keys.KmsKnown D W → Type 0
 ServesTurn state to_come v batch result w = ServesBatch state to_come v batch result w ⊎ LacksMemory v batch result w
-
--- A turn of an update: the pass made one entry, the delivery of the reply, which got this answer.
-abbrev pub UpdatesTurn : {D : Type 0} → (D → DiskState) → names.NameKnown D → ReplyState → Result Delivered NameRefusal → names.NameKnown D → Type 0
-UpdatesTurn state v reply answer w = names.Makes state v (act.Deliver reply) (acted.Deliver answer) w

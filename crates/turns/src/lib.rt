@@ -3,7 +3,11 @@
 #![tactic(auto)]
 
 mod caller;
+mod lent;
+mod notices;
 mod services;
 
 pub use caller::superuser;
+pub use lent::Lent;
+pub use notices::{NoNotices, Notices};
 pub use services::Turns;

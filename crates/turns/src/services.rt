@@ -1,5 +1,5 @@
 //! Both services.
-ghost use Rattle.std.specs.Prelude.{◌≡◌, ℕ, length};
+ghost use Rattle.std.specs.Prelude.{◌≡◌, ℕ, length, IfErr, IfOk, None};
 ghost use Rattle.hk_base.specs.Disk.{DiskState};
 ghost use Rattle.hist_cell.specs.History.{LegalOf, Meets, Splits};
 ghost use Rattle.kms_cell.specs.Entries.{KmsKnown, Makes as KeysMakeOne};
@@ -9,18 +9,19 @@ ghost use Rattle.kms_cell.specs.Tickets.{KmsAllows};
 ghost use Rattle.kms_cell.specs.declared.acts.KmsAct.TheVariants as key_act;
 ghost use Rattle.kms_cell.specs.declared.acts.KmsActed.TheVariants as key_acted;
 ghost use Rattle.name_calls.specs.declared.calls.AskNote.{AskNote as ANote};
-ghost use Rattle.name_cell.specs.Asked.{HasNote, IsAnswered, NameAllows};
-ghost use Rattle.name_cell.specs.Entries.{Makes, NameKnown};
-ghost use Rattle.name_cell.specs.Steps.{NameSteps};
-ghost use Rattle.name_cell.specs.declared.acts.NameAct.TheVariants as act;
-ghost use Rattle.name_cell.specs.declared.acts.NameActed.TheVariants as acted;
-ghost use Rattle.turns.specs.Turns.{ServesTurn, UpdatesTurn, WalksTurn};
+ghost use Rattle.name_history.specs.Asked.{HasNote, IsAnswered, NameAllows};
+ghost use Rattle.name_history.specs.Entries.{Makes, MakesMeeting, NameKnown};
+ghost use Rattle.name_history.specs.Served.{GotForBatch, GotForNote};
+ghost use Rattle.name_history.specs.Steps.{NameSteps};
+ghost use Rattle.name_history.specs.declared.acts.NameAct.TheVariants as act;
+ghost use Rattle.name_history.specs.declared.acts.NameActed.TheVariants as acted;
+ghost use Rattle.turns.specs.Turns.{LendsTurn, ServesTurn};
 
-use hk_base::{Gate, Text, Words};
+use crate::lent::Lent;
+use hk_base::{Gate, NoMemory, Text, Words};
 use kms_calls::{KmsCall, KmsReply};
 use kms_cell::FillTurn;
 use name_calls::{Answered, Ask, AskNote, Delivered, NPath, NameCall, NameRefusal, NameReply};
-use name_core::Walked;
 use reenc_update::BatchReply;
 use reenc_walk::BatchNote;
 use std::alloc::Global;
@@ -51,7 +52,7 @@ pub trait Turns {
     ghost keys_seen: { Self.Keys → KmsKnown Self.D Self.W };
 
     /// What a pass has seen of the namesystem.
-    ghost names_seen: { Self.Names → NameKnown Self.D };
+    ghost names_seen: { Self.Names → NameKnown Self.D Self.W };
 
     /// Makes a call of a user to the key management service.
     fn call_keys<R: Wait>(
@@ -71,7 +72,7 @@ pub trait Turns {
         user: Text,
         call: NameCall,
     ) -> NameReply
-        ensures { Makes state (names_seen pass.old) (act.Call user call) (acted.Call result) (names_seen pass.new) };
+        ensures { Makes state to_come (names_seen pass.old) (act.Call user call) (acted.Call result) (names_seen pass.new) };
 
     /// Opens an ask of a user.
     fn ask_names<R: Wait>(
@@ -81,9 +82,9 @@ pub trait Turns {
         user: Text,
         ask: Ask,
     ) -> Result<AskNote, NameRefusal>
-        ensures { Makes state (names_seen pass.old) (act.Ask user ask) (acted.Ask result) (names_seen pass.new) };
+        ensures { Makes state to_come (names_seen pass.old) (act.Ask user ask) (acted.Ask result) (names_seen pass.new) };
 
-    /// Finishes an ask. The pass must have seen its note, and the reply must answer the call that the note wants.
+    /// Finishes an ask that wanted no call. The pass must have seen its note.
     fn finish_names<R: Wait>(
         &self,
         rt: &R,
@@ -91,7 +92,21 @@ pub trait Turns {
         answered: Answered,
     ) -> Result<(), NameRefusal>
         requires seen { (note : ANote) × HasNote note (names_seen pass.old).seen × IsAnswered note answered }
-        ensures { Makes state (names_seen pass.old) (act.Finish answered) (acted.Finish result) (names_seen pass.new) };
+        requires alone { answered.reply ≡ None }
+        ensures { Makes state to_come (names_seen pass.old) (act.Finish answered) (acted.Finish result) (names_seen pass.new) };
+
+    /// Finishes an ask with the reply to the call that its note wants. The pass must have seen the note, and `keys` must
+    /// have got the reply. `keys` is met into the pass that the namesystem keeps.
+    fn finish_meeting<R: Wait>(
+        &self,
+        rt: &R,
+        pass: &mut Self::Names,
+        keys: Self::Keys,
+        answered: Answered,
+    ) -> Result<(), NameRefusal>
+        requires seen { (note : ANote) × HasNote note (names_seen pass.old).seen × IsAnswered note answered }
+        requires got { (note : ANote) × HasNote note (names_seen pass.old).seen × GotForNote note answered (keys_seen keys) }
+        ensures { MakesMeeting state to_come (names_seen pass.old) (keys_seen keys) (act.Finish answered) (acted.Finish result) (names_seen pass.new) };
 
     /// Fills a low queue of ready keys, if there is one: takes a ticket, passes the gate, and then deposits keys that
     /// are drawn from `words` and sealed with the ticket.
@@ -104,14 +119,16 @@ pub trait Turns {
     ) -> FillTurn
         ensures { FillsTurn state to_come (V.to_come words.old) (V.to_come words.new) (keys_seen pass.old) result (keys_seen pass.new) };
 
-    /// Takes the next batch of a zone that is being re-encrypted.
+    /// Takes the next batch of a zone that is being re-encrypted, and lends a pass with which it is served. If there is
+    /// no memory for the pass, nothing is walked.
     fn walk_turn<R: Wait>(
         &self,
         rt: &R,
         pass: &mut Self::Names,
         zone: NPath,
-    ) -> Result<Walked, NameRefusal>
-        ensures { WalksTurn state (names_seen pass.old) zone result (names_seen pass.new) };
+    ) -> Result<Lent<Self::Keys>, NoMemory>
+        ensures lent { IfOk result (λ lent. LendsTurn state to_come (names_seen pass.old) zone lent.walked lent.front (names_seen pass.new) (keys_seen lent.keys)) }
+        ensures none { IfErr result (λ _. names_seen pass.new ≡ names_seen pass.old) };
 
     /// Passes the gate, and has a batch re-encrypted: calls the key management service as `hdfs`. If there is no memory
     /// for the call, nothing is called, and the batch is refused.
@@ -125,16 +142,19 @@ pub trait Turns {
     ) -> BatchReply
         ensures { ServesTurn state to_come (keys_seen pass.old) note result (keys_seen pass.new) };
 
-    /// Passes the gate, and delivers the reply to the call for a batch. The pass that made the call is dropped.
+    /// Passes the gate, and delivers the reply to the call for a batch, with the front of its walk. `keys` must have got
+    /// the reply, with at least as many entries before it. It is met into the pass that the namesystem keeps.
     fn update_turn<R: Wait, G: Gate>(
         &self,
         rt: &R,
         names: &mut Self::Names,
         keys: Self::Keys,
+        front: u64,
         reply: BatchReply,
         gate: &G,
     ) -> Result<Delivered, NameRefusal>
-        ensures { UpdatesTurn state (names_seen names.old) reply result (names_seen names.new) };
+        requires got { GotForBatch front reply (keys_seen keys) }
+        ensures { MakesMeeting state to_come (names_seen names.old) (keys_seen keys) (act.Deliver front reply) (acted.Deliver result) (names_seen names.new) };
 
     /// Returns the number of entries that a pass of the key management service has seen. They are a legal history.
     fn count_keys(&self, pass: &Self::Keys) -> u64
@@ -144,7 +164,7 @@ pub trait Turns {
     /// Returns the number of entries that a pass of the namesystem has seen. They are a legal history.
     fn count_names(&self, pass: &Self::Names) -> u64
         ensures count { result ≡ length (names_seen pass.now).seen }
-        ensures legal { LegalOf (NameSteps state) NameAllows (names_seen pass.now).start (names_seen pass.now).seen };
+        ensures legal { LegalOf (NameSteps state to_come) NameAllows (names_seen pass.now).start (names_seen pass.now).seen };
 
     /// Creates a pass of the key management service with a new number, which has seen what the old one has.
     fn split_keys<R: Wait>(&self, rt: &R, pass: &mut Self::Keys) -> Self::Keys

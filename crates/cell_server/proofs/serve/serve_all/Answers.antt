@@ -19,4 +19,4 @@ returns-in-Ok-clause-serves g c =
 pub returns-in-Err-clause-serves : goal.returns-in-Err-clause-serves
 returns-in-Err-clause-serves g c =
     serves_none (ServesEnds g.A.In.Source.left g.A.In.Source.faults g.A.Out.Sink.written g.A.Out.Sink.faults) (g.V.Words.to_come c.args.first) (g.V.Words.to_come c.args.second) g.S.Turns.state g.S.Turns.to_come
-    (g.A.Door.state c.args.door.now) (g.S.Turns.keys_seen c.args.keys.now) (g.S.Turns.names_seen c.args.names.now) c.args.port c.args.conns (g.A.Door.state c.open.new.self) c.in-Err.ensures.same c.count_names.ensures.legal c.count_keys.ensures.legal
+    (g.A.Door.state c.args.door.now) (g.S.Turns.keys_seen c.args.keys.now) (g.S.Turns.names_seen c.args.names.now) c.args.port c.args.conns (g.A.Door.state c.open.new.self) c.in-Err.ensures.same c.count_keys.ensures.legal c.count_names.ensures.legal

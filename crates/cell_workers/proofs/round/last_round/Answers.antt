@@ -6,16 +6,16 @@ use Rattle.cell_workers.proofs.round.last_round.Goals as goal
 pub returns-in_err-zones : goal.returns-in_err-zones
 returns-in_err-zones g c =
     let listed = c.list_zones.ensures in
-    round_stops g.S.Turns.state g.S.Turns.to_come (g.S.Turns.names_seen c.args.names.now) (g.S.Turns.names_seen c.list_zones.new.names) (g.S.Turns.keys_seen c.args.keys.now) listed.0 c.from_residual.result c.count_keys.ensures.legal listed.1 c.from_residual.ensures.0
+    round_stops g.S.Turns.state g.S.Turns.to_come (g.S.Turns.names_seen c.args.names.now) (g.S.Turns.names_seen c.list_zones.new.names) listed.0 c.from_residual.result listed.1 c.from_residual.ensures.0
 
 pub returns-in_err-going : goal.returns-in_err-going
 returns-in_err-going g c =
     let listed = c.list_zones.ensures in
-    let statuses = c.going_zones.ensures in
-    round_stops g.S.Turns.state g.S.Turns.to_come (g.S.Turns.names_seen c.args.names.now) (g.S.Turns.names_seen c.going_zones.new.names) (g.S.Turns.keys_seen c.args.keys.now) (listed.0 ++ statuses.0) c.from_residual-in_err-going.result c.count_keys.ensures.legal
-    (names_then g.S.Turns.state (g.S.Turns.names_seen c.args.names.now) (g.S.Turns.names_seen c.list_zones.new.names) (g.S.Turns.names_seen c.going_zones.new.names) listed.0 statuses.0 listed.1 statuses.1) c.from_residual-in_err-going.ensures.0
+    let statuses = c.going_zones-going.ensures in
+    round_stops g.S.Turns.state g.S.Turns.to_come (g.S.Turns.names_seen c.args.names.now) (g.S.Turns.names_seen c.going_zones-going.new.names) (listed.0 ++ statuses.0) c.from_residual-in_err-going.result
+    (names_then g.S.Turns.state g.S.Turns.to_come (g.S.Turns.names_seen c.args.names.now) (g.S.Turns.names_seen c.list_zones.new.names) (g.S.Turns.names_seen c.going_zones-going.new.names) listed.0 statuses.0 listed.1 statuses.1) c.from_residual-in_err-going.ensures.0
 
 pub returns : goal.returns
 returns g c =
-    round_whole g.S.Turns.state g.S.Turns.to_come (g.S.Turns.names_seen c.args.names.now) (g.S.Turns.names_seen c.list_zones.new.names) (g.S.Turns.names_seen c.going_zones.new.names) (g.S.Turns.names_seen c.walk_through_all.new.names) (g.S.Turns.keys_seen c.args.keys.now) (g.S.Turns.keys_seen c.walk_through_all.new.keys) c.in_ok-zones.zones c.as_slice.result.now
-    c.in_ok-going.going c.as_slice-2.result.now c.walk_through_all.result c.count_keys.ensures.legal c.in_ok-zones.ensures c.as_slice.ensures c.in_ok-going.ensures c.as_slice-2.ensures c.walk_through_all.ensures
+    round_whole g.S.Turns.state g.S.Turns.to_come (g.S.Turns.names_seen c.args.names.now) (g.S.Turns.names_seen c.list_zones.new.names) (g.S.Turns.names_seen c.going_zones-going.new.names) (g.S.Turns.names_seen c.walk_through_all-walked.new.names) c.in_ok-zones.zones c.as_slice.result.now
+    c.in_ok-going.going c.as_slice-2.result.now c.walk_through_all-walked.result c.in_ok-zones.ensures c.as_slice.ensures c.in_ok-going.ensures c.as_slice-2.ensures c.walk_through_all-walked.ensures

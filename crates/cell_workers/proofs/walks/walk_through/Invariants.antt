@@ -3,4 +3,4 @@ use Rattle.cell_workers.proofs.RoundLemmas.{WalksOnce}
 use Rattle.cell_workers.proofs.walks.walk_through.Given as goal
 
 abbrev pub invariant-loop : goal.invariant-loop
-invariant-loop g l = WalksOnce g.S.Turns.state g.S.Turns.to_come (g.S.Turns.names_seen l.fn.names) (g.S.Turns.keys_seen l.fn.keys) l.zone true (g.S.Turns.names_seen l.names) (g.S.Turns.keys_seen l.keys)
+invariant-loop g l = WalksOnce g.S.Turns.state g.S.Turns.to_come (g.S.Turns.names_seen l.fn.names) l.zone true (g.S.Turns.names_seen l.names)

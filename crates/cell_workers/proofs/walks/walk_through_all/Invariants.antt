@@ -3,4 +3,4 @@ use Rattle.cell_workers.proofs.RoundLemmas.{WalkingAll}
 use Rattle.cell_workers.proofs.walks.walk_through_all.Given as goal
 
 abbrev pub invariant-loop-zone : goal.invariant-loop-zone
-invariant-loop-zone g l = WalkingAll g.S.Turns.state g.S.Turns.to_come (g.S.Turns.names_seen l.fn.names) (g.S.Turns.keys_seen l.fn.keys) (take l.zone-index l.fn.zones) (g.S.Turns.names_seen l.names) (g.S.Turns.keys_seen l.keys)
+invariant-loop-zone g l = WalkingAll g.S.Turns.state g.S.Turns.to_come (g.S.Turns.names_seen l.fn.names) (take l.zone-index l.fn.zones) (g.S.Turns.names_seen l.names)

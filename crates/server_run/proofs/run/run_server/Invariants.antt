@@ -1,9 +1,5 @@
 use Rattle.server_run.proofs.run.run_server.Given as goal
 
--- each name is that of one of the cells that were just made
-
-abbrev pub ghosts-serve_named-M-Naming : goal.ghosts-serve_named-M-Naming
-ghosts-serve_named-M-Naming g a = record { table = a.opening.keys.table }
-
-abbrev pub ghosts-serve_named-N-Naming : goal.ghosts-serve_named-N-Naming
-ghosts-serve_named-N-Naming g a = record { table = a.opening.names.table }
+-- the name is that of the cell that was just made
+abbrev pub ghosts-serve_opened : goal.ghosts-serve_opened
+ghosts-serve_opened g a = record { table = a.opening.keys.table }

@@ -2,4 +2,4 @@ use Rattle.name_cell.proofs.RunLemmas.{runs_after_logs}
 use Rattle.name_cell.proofs.side.NameSide.finish.Goals as goal
 
 pub invariant_of-self : goal.invariant_of-self
-invariant_of-self g c = runs_after_logs (g.D.Disk.state c.self.inside.disk) (g.D.Disk.state c.finish.new.disk) c.self.inside.names c.finish.new.self _ _ c.finish.ensures.disk c.self.invariant
+invariant_of-self g c = runs_after_logs _ _ c.self.inside.names c.finish.new.self _ _ c.finish.ensures.disk c.self.invariant

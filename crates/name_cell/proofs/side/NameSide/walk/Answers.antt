@@ -1,5 +1,5 @@
 use Rattle.name_cell.proofs.RunLemmas.{runs_after_logs}
 use Rattle.name_cell.proofs.side.NameSide.walk.Goals as goal
 
-pub invariant_of-self : goal.invariant_of-self
-invariant_of-self g c = runs_after_logs (g.D.Disk.state c.self.inside.disk) (g.D.Disk.state c.walk.new.disk) c.self.inside.names c.walk.new.self _ _ c.walk.ensures.disk c.self.invariant
+pub invariant_of-self-2 : goal.invariant_of-self-2
+invariant_of-self-2 g c = runs_after_logs _ _ c.self.inside.names c.walk-walked.new.self _ _ c.walk-walked.ensures.disk c.self.invariant

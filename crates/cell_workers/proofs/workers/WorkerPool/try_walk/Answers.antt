@@ -1,0 +1,14 @@
+use Rattle.std.proofs.Common.{[]}
+use Rattle.cell_workers.specs.Work.{IsNameWork}
+use Rattle.cell_workers.proofs.WorkLemmas.{works_none, works_then}
+use Rattle.cell_workers.proofs.workers.WorkerPool.try_walk.Goals as goal
+
+pub loop-init : goal.loop-init
+loop-init g c = works_none IsNameWork (g.S.Turns.names_seen c.args.names.now)
+
+pub returns-in-Some-clause-works : goal.returns-in-Some-clause-works
+returns-in-Some-clause-works g c =
+    works_then IsNameWork (g.S.Turns.names_seen c.args.names.now) (g.S.Turns.names_seen c.loop.names) (g.S.Turns.names_seen c.walk_once.new.names) [] c.loop.invariant c.walk_once.ensures.works
+
+pub loop-preserved : goal.loop-preserved
+loop-preserved g c = works_then IsNameWork (g.S.Turns.names_seen c.args.names.now) (g.S.Turns.names_seen c.loop.names) (g.S.Turns.names_seen c.walk_once.new.names) [] c.loop.invariant c.walk_once.ensures.works
