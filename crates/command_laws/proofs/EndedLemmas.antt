@@ -1,6 +1,6 @@
 -- What a server that has ended leaves, entry by entry.
-use Rattle.std.proofs.Common.{◌≡◌, ℕ, Bool, true, IsTrue, List, [], ◌∷◌, ◌++◌, Option, Some, None, refl, sym, ap, ◌∙◌, subst, append-nil, append_assoc}
-use Rattle.std.specs.Prelude.{IfSome}
+use Rattle.std.proofs.Common.{◌≡◌, inl, inr, ℕ, Bool, true, IsTrue, List, [], ◌∷◌, ◌++◌, Option, Some, None, refl, sym, ap, ◌∙◌, subst, append-nil, append_assoc}
+use Rattle.std.specs.Prelude.{IfSome, Result}
 use Rattle.hk_base.specs.Disk.{DiskState, Tells}
 use Rattle.key_rows.specs.Table.{Table, applies}
 use Rattle.key_rows.specs.declared.rows.KeyCommand.{KeyCommand}
@@ -22,19 +22,22 @@ use Rattle.kms_cell.specs.declared.acts.KmsAct.{KmsAct}
 use Rattle.kms_cell.specs.declared.acts.KmsAct.TheVariants as key_act
 use Rattle.kms_cell.specs.declared.acts.KmsActed.{KmsActed}
 use Rattle.kms_cell.specs.declared.acts.KmsActed.TheVariants as key_acted
+use Rattle.name_calls.specs.declared.calls.NameRefusal.{NameRefusal}
+use Rattle.name_calls.specs.declared.paths.NPath.{NPath}
 use Rattle.name_store.specs.Store as names
 use Rattle.name_store.specs.Table.{next_opening}
 use Rattle.name_store.proofs.Layers.{log_of_store as log_of_name_store}
 use Rattle.name_core.specs.Service.{Logs}
 use Rattle.name_core.specs.State.{IsNamesystemOf, RunningNames}
-use Rattle.name_cell.specs.Asked.{NameAllows}
-use Rattle.name_cell.specs.Entries.{NameEntry}
-use Rattle.name_cell.specs.Steps.{NameSteps}
-use Rattle.name_cell.specs.Views.{NameView}
-use Rattle.name_cell.specs.declared.acts.NameAct.{NameAct}
-use Rattle.name_cell.specs.declared.acts.NameAct.TheVariants as name_act
-use Rattle.name_cell.specs.declared.acts.NameActed.{NameActed}
-use Rattle.name_cell.specs.declared.acts.NameActed.TheVariants as name_acted
+use Rattle.name_core.specs.declared.walks.Walked.{Walked}
+use Rattle.name_history.specs.Asked.{NameAllows}
+use Rattle.name_history.specs.Entries.{NameEntry}
+use Rattle.name_history.specs.Steps.{NameSteps, WalkSteps}
+use Rattle.name_history.specs.Views.{NameView}
+use Rattle.name_history.specs.declared.acts.NameAct.{NameAct}
+use Rattle.name_history.specs.declared.acts.NameAct.TheVariants as name_act
+use Rattle.name_history.specs.declared.acts.NameActed.{NameActed}
+use Rattle.name_history.specs.declared.acts.NameActed.TheVariants as name_acted
 use Rattle.name_cell.proofs.AskLemmas.{ask-stands}
 use Rattle.server_parts.specs.Doors.{DoorState}
 use Rattle.server_parts.specs.Yards.{YardState}
@@ -69,10 +72,10 @@ module _ {D W : Type 0} (state : D → DiskState) (to_come : W → ℕ → ℕ) 
 
   key_step : (v : KmsView D W) (a : KmsAct) (r : KmsActed) (v' : KmsView D W) → AreListsOf v.kms.acls lines → KmsSteps state to_come v a r v' → KeyStep v a r v'
   key_step v (key_act.Call user c) (key_acted.Call reply) v' are s =
-      let acts = s.acts lines are in
+      let acts = s.does.acts lines are in
       record {
         logged = acts.logged;
-        acknowledges = record { now = s.now; drawn = acts.drawn; serves = acts.serves };
+        acknowledges = record { now = s.does.now; drawn = acts.drawn; serves = acts.serves };
         lists = acts.lists;
         tells = acts.disk.run.tells;
         stands = acts.disk.stands;
@@ -81,25 +84,25 @@ module _ {D W : Type 0} (state : D → DiskState) (to_come : W → ℕ → ℕ) 
   key_step v key_act.Ticket (key_acted.Ticket ticket) v' are s = record {
     logged = [];
     acknowledges = refl;
-    lists = ap (λ (x : KmsView D W). x.kms.acls) s.same;
-    tells = ap (λ (x : KmsView D W). (state x.disk).tells) s.same;
-    stands = λ telling commands h. still_holds v v' (ap (λ (x : KmsView D W). x.disk) s.same) (ap (λ (x : KmsView D W). x.kms.store) s.same) commands h;
+    lists = ap (λ (x : KmsView D W). x.kms.acls) s.does.same;
+    tells = ap (λ (x : KmsView D W). (state x.disk).tells) s.does.same;
+    stands = λ telling commands h. still_holds v v' (ap (λ (x : KmsView D W). x.disk) s.does.same) (ap (λ (x : KmsView D W). x.kms.store) s.does.same) commands h;
     verdict = tt;
   }
   key_step v (key_act.Deposit x) (key_acted.Deposit answer) v' are s = record {
     logged = [];
     acknowledges = refl;
-    lists = ap (λ (x : KmsView D W). x.kms.acls) s.left;
-    tells = ap (λ (x : KmsView D W). (state x.disk).tells) s.left;
-    stands = λ telling commands h. still_holds v v' (ap (λ (x : KmsView D W). x.disk) s.left) (ap (λ (x : KmsView D W). x.kms.store) s.left) commands h;
+    lists = ap (λ (x : KmsView D W). x.kms.acls) s.does.left;
+    tells = ap (λ (x : KmsView D W). (state x.disk).tells) s.does.left;
+    stands = λ telling commands h. still_holds v v' (ap (λ (x : KmsView D W). x.disk) s.does.left) (ap (λ (x : KmsView D W). x.kms.store) s.does.left) commands h;
     verdict = tt;
   }
-  key_step v (key_act.Call user c) (key_acted.Ticket ticket) v' are s = absurd s
-  key_step v (key_act.Call user c) (key_acted.Deposit answer) v' are s = absurd s
-  key_step v key_act.Ticket (key_acted.Call reply) v' are s = absurd s
-  key_step v key_act.Ticket (key_acted.Deposit answer) v' are s = absurd s
-  key_step v (key_act.Deposit x) (key_acted.Call reply) v' are s = absurd s
-  key_step v (key_act.Deposit x) (key_acted.Ticket ticket) v' are s = absurd s
+  key_step v (key_act.Call user c) (key_acted.Ticket ticket) v' are s = absurd s.does
+  key_step v (key_act.Call user c) (key_acted.Deposit answer) v' are s = absurd s.does
+  key_step v key_act.Ticket (key_acted.Call reply) v' are s = absurd s.does
+  key_step v key_act.Ticket (key_acted.Deposit answer) v' are s = absurd s.does
+  key_step v (key_act.Deposit x) (key_acted.Call reply) v' are s = absurd s.does
+  key_step v (key_act.Deposit x) (key_acted.Ticket ticket) v' are s = absurd s.does
 
   -- what the entries of a legal history do
   record KeyHistory (v : KmsView D W) (es : List (KmsEntry D W)) : Type 0 where
@@ -147,62 +150,71 @@ keys_read d kms commands rules of_file s = record {
 
 -- ---- the namesystem
 
-module _ {D : Type 0} (state : D → DiskState) where
-  abbrev HoldsOps : NameView D → List EditOp → Type 0
+module _ {D W : Type 0} (state : D → DiskState) (to_come : W → ℕ → ℕ) where
+  abbrev HoldsOps : NameView D W → List EditOp → Type 0
   HoldsOps v ops = IsNamesystemOf (state v.disk) v.names ops
 
-  record NameStep (v : NameView D) (a : NameAct) (r : NameActed) (v' : NameView D) : Type 0 where
+  record NameStep (v : NameView D W) (a : NameAct) (r : NameActed) (v' : NameView D W) : Type 0 where
     logged : List EditOp
     acknowledges : NameAcknowledges state v a r v' logged
     tells : (state v'.disk).tells ≡ (state v.disk).tells
     stands : Tells (state v.disk) → (ops : List EditOp) → HoldsOps v ops → HoldsOps v' (ops ++ logged)
 
   -- an entry that works on the log
-  by_logs : (v : NameView D) (a : NameAct) (r : NameActed) (v' : NameView D) (own : Bool → EditOp → Type 0) (logged : List EditOp) → NameAcknowledges state v a r v' logged → Logs (state v.disk) (state v'.disk) v.names v'.names own logged
+  by_logs : (v : NameView D W) (a : NameAct) (r : NameActed) (v' : NameView D W) (own : Bool → EditOp → Type 0) (logged : List EditOp) → NameAcknowledges state v a r v' logged → Logs (state v.disk) (state v'.disk) v.names v'.names own logged
       → NameStep v a r v'
   by_logs v a r v' own logged acknowledges disk = record { logged = logged; acknowledges = acknowledges; tells = disk.run.tells; stands = disk.stands }
 
-  name_step : (v : NameView D) (a : NameAct) (r : NameActed) (v' : NameView D) → NameSteps state v a r v' → NameStep v a r v'
-  name_step v (name_act.Call user c) (name_acted.Call reply) v' s = by_logs v (name_act.Call user c) (name_acted.Call reply) v' _ s.logged s.serves s.disk
+  walk_step : (v : NameView D W) (zone : NPath) (answer : Result Walked NameRefusal) (v' : NameView D W) → WalkSteps state v zone answer v' → NameStep v (name_act.Walk zone) (name_acted.Walk answer) v'
+  walk_step v zone answer v' (inl done) = by_logs v (name_act.Walk zone) (name_acted.Walk answer) v' _ done.acts.logged (inl done.acts.serves) done.acts.disk
+  walk_step v zone answer v' (inr lacks) = record {
+    logged = [];
+    acknowledges = inr (lacks, refl);
+    tells = ap (λ (x : NameView D W). (state x.disk).tells) lacks.same;
+    stands = λ telling ops h. subst (λ (x : NameView D W). HoldsOps x (ops ++ [])) (sym lacks.same) (subst (HoldsOps v) (sym (append-nil ops)) h);
+  }
+
+  name_step : (v : NameView D W) (a : NameAct) (r : NameActed) (v' : NameView D W) → NameSteps state to_come v a r v' → NameStep v a r v'
+  name_step v (name_act.Call user c) (name_acted.Call reply) v' s = by_logs v (name_act.Call user c) (name_acted.Call reply) v' _ s.does.acts.logged s.does.acts.serves s.does.acts.disk
   name_step v (name_act.Ask user a) (name_acted.Ask answer) v' s = record {
     logged = [];
     acknowledges = refl;
-    tells = ap (λ (d : D). (state d).tells) s.disk;
+    tells = ap (λ (d : D). (state d).tells) s.does.disk;
     stands = λ telling ops h.
-        subst (λ (d : D). IsNamesystemOf (state d) v'.names (ops ++ [])) (sym s.disk)
-        (subst (IsNamesystemOf (state v.disk) v'.names) (sym (append-nil ops)) (ask-stands (state v.disk) v.names v'.names user a answer ops s.store s.asks h));
+        subst (λ (d : D). IsNamesystemOf (state d) v'.names (ops ++ [])) (sym s.does.disk)
+        (subst (IsNamesystemOf (state v.disk) v'.names) (sym (append-nil ops)) (ask-stands (state v.disk) v.names v'.names user a answer ops s.does.store s.does.asks h));
   }
-  name_step v (name_act.Finish answered) (name_acted.Finish answer) v' s = by_logs v (name_act.Finish answered) (name_acted.Finish answer) v' _ s.logged s.serves s.disk
-  name_step v (name_act.Walk zone) (name_acted.Walk answer) v' s = by_logs v (name_act.Walk zone) (name_acted.Walk answer) v' _ s.logged s.serves s.disk
-  name_step v (name_act.Deliver reply) (name_acted.Deliver answer) v' s = by_logs v (name_act.Deliver reply) (name_acted.Deliver answer) v' _ s.logged s.serves s.disk
-  name_step v (name_act.Call user c) (name_acted.Ask answer) v' s = absurd s
-  name_step v (name_act.Call user c) (name_acted.Finish answer) v' s = absurd s
-  name_step v (name_act.Call user c) (name_acted.Walk answer) v' s = absurd s
-  name_step v (name_act.Call user c) (name_acted.Deliver answer) v' s = absurd s
-  name_step v (name_act.Ask user q) (name_acted.Call answer) v' s = absurd s
-  name_step v (name_act.Ask user q) (name_acted.Finish answer) v' s = absurd s
-  name_step v (name_act.Ask user q) (name_acted.Walk answer) v' s = absurd s
-  name_step v (name_act.Ask user q) (name_acted.Deliver answer) v' s = absurd s
-  name_step v (name_act.Finish answered) (name_acted.Call answer) v' s = absurd s
-  name_step v (name_act.Finish answered) (name_acted.Ask answer) v' s = absurd s
-  name_step v (name_act.Finish answered) (name_acted.Walk answer) v' s = absurd s
-  name_step v (name_act.Finish answered) (name_acted.Deliver answer) v' s = absurd s
-  name_step v (name_act.Walk zone) (name_acted.Call answer) v' s = absurd s
-  name_step v (name_act.Walk zone) (name_acted.Ask answer) v' s = absurd s
-  name_step v (name_act.Walk zone) (name_acted.Finish answer) v' s = absurd s
-  name_step v (name_act.Walk zone) (name_acted.Deliver answer) v' s = absurd s
-  name_step v (name_act.Deliver reply) (name_acted.Call answer) v' s = absurd s
-  name_step v (name_act.Deliver reply) (name_acted.Ask answer) v' s = absurd s
-  name_step v (name_act.Deliver reply) (name_acted.Finish answer) v' s = absurd s
-  name_step v (name_act.Deliver reply) (name_acted.Walk answer) v' s = absurd s
+  name_step v (name_act.Finish answered) (name_acted.Finish answer) v' s = by_logs v (name_act.Finish answered) (name_acted.Finish answer) v' _ s.does.acts.logged s.does.acts.serves s.does.acts.disk
+  name_step v (name_act.Walk zone) (name_acted.Walk answer) v' s = walk_step v zone answer v' s.does
+  name_step v (name_act.Deliver front reply) (name_acted.Deliver answer) v' s = by_logs v (name_act.Deliver front reply) (name_acted.Deliver answer) v' _ s.does.acts.logged s.does.acts.serves s.does.acts.disk
+  name_step v (name_act.Call user c) (name_acted.Ask answer) v' s = absurd s.does
+  name_step v (name_act.Call user c) (name_acted.Finish answer) v' s = absurd s.does
+  name_step v (name_act.Call user c) (name_acted.Walk answer) v' s = absurd s.does
+  name_step v (name_act.Call user c) (name_acted.Deliver answer) v' s = absurd s.does
+  name_step v (name_act.Ask user q) (name_acted.Call answer) v' s = absurd s.does
+  name_step v (name_act.Ask user q) (name_acted.Finish answer) v' s = absurd s.does
+  name_step v (name_act.Ask user q) (name_acted.Walk answer) v' s = absurd s.does
+  name_step v (name_act.Ask user q) (name_acted.Deliver answer) v' s = absurd s.does
+  name_step v (name_act.Finish answered) (name_acted.Call answer) v' s = absurd s.does
+  name_step v (name_act.Finish answered) (name_acted.Ask answer) v' s = absurd s.does
+  name_step v (name_act.Finish answered) (name_acted.Walk answer) v' s = absurd s.does
+  name_step v (name_act.Finish answered) (name_acted.Deliver answer) v' s = absurd s.does
+  name_step v (name_act.Walk zone) (name_acted.Call answer) v' s = absurd s.does
+  name_step v (name_act.Walk zone) (name_acted.Ask answer) v' s = absurd s.does
+  name_step v (name_act.Walk zone) (name_acted.Finish answer) v' s = absurd s.does
+  name_step v (name_act.Walk zone) (name_acted.Deliver answer) v' s = absurd s.does
+  name_step v (name_act.Deliver front reply) (name_acted.Call answer) v' s = absurd s.does
+  name_step v (name_act.Deliver front reply) (name_acted.Ask answer) v' s = absurd s.does
+  name_step v (name_act.Deliver front reply) (name_acted.Finish answer) v' s = absurd s.does
+  name_step v (name_act.Deliver front reply) (name_acted.Walk answer) v' s = absurd s.does
 
-  record NameHistory (v : NameView D) (es : List (NameEntry D)) : Type 0 where
+  record NameHistory (v : NameView D W) (es : List (NameEntry D W)) : Type 0 where
     logged : List EditOp
     acknowledge : AllNamesAcknowledge state v es logged
     tells : (state (state_after v es).disk).tells ≡ (state v.disk).tells
     stands : Tells (state v.disk) → (ops : List EditOp) → HoldsOps v ops → HoldsOps (state_after v es) (ops ++ logged)
 
-  name_history : (before : List (NameEntry D)) (v : NameView D) (es : List (NameEntry D)) → LegalAfter (NameSteps state) NameAllows before v es → NameHistory v es
+  name_history : (before : List (NameEntry D W)) (v : NameView D W) (es : List (NameEntry D W)) → LegalAfter (NameSteps state to_come) NameAllows before v es → NameHistory v es
   name_history before v [] legal = record {
     logged = [];
     acknowledge = refl;
@@ -237,10 +249,10 @@ module _ {D W I O : Type 0} (state : D → DiskState) (to_come : W → ℕ → �
   abbrev calls : List (KmsEntry D W)
   calls = r.ran.keys_closed.all
 
-  first_call : r.ran.keys'.start ≡ Some r.k
-  first_call = r.ran.served.makes.of_keys.same.2 ∙ r.ran.served.connections.met_keys.start ∙ r.ran.keys_begin.0
+  pub first_call : r.ran.met.start ≡ Some r.k
+  first_call = r.ran.kept_met.start ∙ r.ran.served.connections.met_keys.start ∙ r.ran.begins.keys_begin.0
 
-  last_call : r.last_k ≡ state_after r.k calls
+  pub last_call : r.last_k ≡ state_after r.k calls
   last_call = let is : Some r.last_k ≡ Some (state_after r.k calls) = r.ran.keys_closed.core_is ∙ ap (λ (s : Option (KmsView D W)). state_of s calls) first_call in cc is
 
   key_log : KeyHistory state to_come props.lines r.k calls
@@ -248,19 +260,19 @@ module _ {D W I O : Type 0} (state : D → DiskState) (to_come : W → ℕ → �
       key_history state to_come props.lines [] r.k calls r.opened.lists
       (subst (λ (s : Option (KmsView D W)). LegalOf (KmsSteps state to_come) KmsAllows s calls) first_call r.ran.keys_closed.legal)
 
-  abbrev acts : List (NameEntry D)
+  abbrev acts : List (NameEntry D W)
   acts = r.ran.names_closed.all
 
-  first_act : r.ran.names'.start ≡ Some r.n
-  first_act = r.ran.served.makes.of_names.same.2 ∙ r.ran.served.connections.met_names.start ∙ r.ran.names_begin.0
+  pub first_act : r.ran.names'.start ≡ Some r.n
+  first_act = r.ran.served.makes.same.2 ∙ r.ran.served.connections.met_names.start ∙ r.ran.names_begin.0
 
-  last_act : r.last_n ≡ state_after r.n acts
-  last_act = let is : Some r.last_n ≡ Some (state_after r.n acts) = r.ran.names_closed.core_is ∙ ap (λ (s : Option (NameView D)). state_of s acts) first_act in cc is
+  pub last_act : r.last_n ≡ state_after r.n acts
+  last_act = let is : Some r.last_n ≡ Some (state_after r.n acts) = r.ran.names_closed.core_is ∙ ap (λ (s : Option (NameView D W)). state_of s acts) first_act in cc is
 
-  name_log : NameHistory state r.n acts
-  name_log = name_history state [] r.n acts (subst (λ (s : Option (NameView D)). LegalOf (NameSteps state) NameAllows s acts) first_act r.ran.names_closed.legal)
+  name_log : NameHistory state to_come r.n acts
+  name_log = name_history state to_come [] r.n acts (subst (λ (s : Option (NameView D W)). LegalOf (NameSteps state to_come) NameAllows s acts) first_act r.ran.names_closed.legal)
 
-  opened_tells : r.opened.logs.mid.tells ≡ old.tells
+  pub opened_tells : r.opened.logs.mid.tells ≡ old.tells
   opened_tells = r.opened.logs.keys_opened.taken.tells
 
   keys_tell : (state r.k.disk).tells ≡ old.tells
@@ -269,13 +281,13 @@ module _ {D W I O : Type 0} (state : D → DiskState) (to_come : W → ℕ → �
   names_tell : (state r.n.disk).tells ≡ old.tells
   names_tell = r.opened.logs.names_opened.tells ∙ r.opened.logs.names_opened.taken.own_tells ∙ opened_tells
 
-  mid_tells : r.mid.tells ≡ old.tells
+  pub mid_tells : r.mid.tells ≡ old.tells
   mid_tells =
       r.keys_given.tells
       ∙ both_tell r.begun.tells (state r.last_k.disk).tells old.tells (r.opened.logs.names_opened.taken.tells ∙ opened_tells) (ap (λ (v : KmsView D W). (state v.disk).tells) last_call ∙ key_log.tells ∙ keys_tell)
 
-  new_tells : new.tells ≡ old.tells
-  new_tells = r.names_given.tells ∙ both_tell r.mid.tells (state r.last_n.disk).tells old.tells mid_tells (ap (λ (v : NameView D). (state v.disk).tells) last_act ∙ name_log.tells ∙ names_tell)
+  pub new_tells : new.tells ≡ old.tells
+  new_tells = r.names_given.tells ∙ both_tell r.mid.tells (state r.last_n.disk).tells old.tells mid_tells (ap (λ (v : NameView D W). (state v.disk).tells) last_act ∙ name_log.tells ∙ names_tell)
 
   holds_keys : IsTrue old.tells → HoldsKeys (old.reads 0) (new.reads 0) key_log.logged r.last_k.kms.store
   holds_keys telling =
@@ -291,7 +303,7 @@ module _ {D W I O : Type 0} (state : D → DiskState) (to_come : W → ℕ → �
         table = k.starts.table;
         log = subst (λ (b : List ℕ). keys.IsKeyLog b log.0 k.starts.table) (k.taken.own_reads telling) log.1;
         left = subst (λ (b : List ℕ). keys.IsSoundLog b commands r.last_k.kms.store.pending r.last_k.kms.store.table.keys) (sym bytes)
-            (keys_read (state r.last_k.disk) r.last_k.kms commands r.keys_rules r.keys_file (subst (λ (v : KmsView D W). Holds state to_come props.lines v commands) (sym last_call) stands));
+            (keys_read (state r.last_k.disk) r.last_k.kms commands r.ran.keys_rules r.ran.keys_file (subst (λ (v : KmsView D W). Holds state to_come props.lines v commands) (sym last_call) stands));
       }
 
   holds_names : IsTrue old.tells → HoldsNames (old.reads 1) (new.reads 1) name_log.logged r.last_n.names.store
@@ -301,15 +313,15 @@ module _ {D W I O : Type 0} (state : D → DiskState) (to_come : W → ℕ → �
       let log = n.starts.log (n.taken.own_tells ∙ opened_tells ∙ telling) in
       let next : EditOp = next_opening n.starts.found in
       let ops : List EditOp = log.0 ++ next ∷ name_log.logged in
-      let stands : HoldsOps state (state_after r.n acts) ops = subst (HoldsOps state (state_after r.n acts)) (append_assoc log.0 (next ∷ []) name_log.logged) (name_log.stands (names_tell ∙ telling) (log.0 ++ next ∷ []) log.3) in
-      let ended : HoldsOps state r.last_n ops = subst (λ (v : NameView D). HoldsOps state v ops) (sym last_act) stands in
+      let stands : HoldsOps state to_come (state_after r.n acts) ops = subst (HoldsOps state to_come (state_after r.n acts)) (append_assoc log.0 (next ∷ []) name_log.logged) (name_log.stands (names_tell ∙ telling) (log.0 ++ next ∷ []) log.3) in
+      let ended : HoldsOps state to_come r.last_n ops = subst (λ (v : NameView D W). HoldsOps state to_come v ops) (sym last_act) stands in
       record {
         ops = log.0;
         made = record { table = n.starts.found; used = log.1 };
         log = subst (λ (b : List ℕ). names.IsNameLog b log.0 (record { table = n.starts.found; used = log.1 })) (n.taken.own_reads (opened_tells ∙ telling) ∙ k.taken.other_reads telling) log.2;
         used = ended.used;
         left = subst (λ (b : List ℕ). names.IsSoundLog b ops r.last_n.names.store.log.pending (names.made_with r.last_n.names.store ended.used)) (sym (r.names_given.reads (new_tells ∙ telling)))
-            (names_read (state r.last_n.disk) r.last_n.names ops r.names_file ended);
+            (names_read (state r.last_n.disk) r.last_n.names ops r.ran.names_file ended);
       }
 
 module _ {D W I O : Type 0} (state : D → DiskState) (to_come : W → ℕ → ℕ) (serves : Serving I O D W) (conns : ℕ) (old new : YardState) (door door' : DoorState I O) where

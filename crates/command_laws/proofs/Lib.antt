@@ -4,3 +4,4 @@ pub mod LogLemmas
 pub mod PipeLemmas
 pub mod ReplayLemmas
 pub mod ServeLemmas
+pub mod ServerFileLemmas

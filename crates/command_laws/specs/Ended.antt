@@ -1,5 +1,5 @@
 -- What a server that has ended leaves: each log holds what the entries of its history acknowledged.
-use Rattle.std.specs.Prelude.{◌≡◌, ℕ, ⊤, IsTrue, List, [], ◌∷◌, ◌++◌, Bool}
+use Rattle.std.specs.Prelude.{◌≡◌, ◌⊎◌, ℕ, ⊤, IsTrue, List, [], ◌∷◌, ◌++◌, Bool, Result}
 use Rattle.std.specs.List.{AllByRecursion}
 use Rattle.hk_base.specs.Disk.{DiskState}
 use Rattle.hk_base.specs.Faults.{Rose}
@@ -21,19 +21,23 @@ use Rattle.kms_cell.specs.declared.acts.KmsAct.TheVariants as key_act
 use Rattle.kms_cell.specs.declared.acts.KmsActed.{KmsActed}
 use Rattle.kms_cell.specs.declared.acts.KmsActed.TheVariants as key_acted
 use Rattle.name_calls.specs.Answers.{answer_of}
+use Rattle.name_calls.specs.declared.calls.NameRefusal.{NameRefusal}
+use Rattle.name_calls.specs.declared.paths.NPath.{NPath}
 use Rattle.name_store.specs.Store as names
 use Rattle.name_store.specs.Table.{Replayed, next_opening}
 use Rattle.name_core.specs.Service.{FinishServes, NameServes}
 use Rattle.name_core.specs.State.{service_of as name_service_of}
-use Rattle.name_core.specs.Updates.{deliver_deed}
 use Rattle.name_core.specs.Updating.{UpdateServes}
 use Rattle.name_core.specs.Walking.{WalkServes}
-use Rattle.name_cell.specs.Entries.{NameEntry}
-use Rattle.name_cell.specs.Views.{NameView}
-use Rattle.name_cell.specs.declared.acts.NameAct.{NameAct}
-use Rattle.name_cell.specs.declared.acts.NameAct.TheVariants as name_act
-use Rattle.name_cell.specs.declared.acts.NameActed.{NameActed}
-use Rattle.name_cell.specs.declared.acts.NameActed.TheVariants as name_acted
+use Rattle.name_core.specs.declared.walks.Walked.{Walked}
+use Rattle.name_history.specs.Entries.{NameEntry}
+use Rattle.name_history.specs.Fronts.{has_front}
+use Rattle.name_history.specs.Steps.{WalkLacksMemory, front_deed}
+use Rattle.name_history.specs.Views.{NameView}
+use Rattle.name_history.specs.declared.acts.NameAct.{NameAct}
+use Rattle.name_history.specs.declared.acts.NameAct.TheVariants as name_act
+use Rattle.name_history.specs.declared.acts.NameActed.{NameActed}
+use Rattle.name_history.specs.declared.acts.NameActed.TheVariants as name_acted
 use Rattle.server_parts.specs.Doors.{DoorState}
 use Rattle.server_parts.specs.Yards.{YardState}
 use Rattle.cell_server.specs.Connections.{Serving}
@@ -78,23 +82,28 @@ pub record HoldsKeys (found bytes : List ℕ) (logged : List KeyCommand) (store 
 
 -- ---- the history of the namesystem
 
-module _ {D : Type 0} (state : D → DiskState) where
+module _ {D W : Type 0} (state : D → DiskState) where
   -- whether the disk failed
-  abbrev pub Failed : NameView D → NameView D → Type 0
+  abbrev pub Failed : NameView D W → NameView D W → Type 0
   Failed v v' = Rose (state v.disk).faults (state v'.disk).faults
 
+  -- A walk acknowledged these operations, by the definition of the namesystem. Or there was no memory for its front, and nothing was done.
+  abbrev pub WalkAcknowledges : NameView D W → NPath → Result Walked NameRefusal → NameView D W → List EditOp → Type 0
+  WalkAcknowledges v zone answer v' logged =
+      WalkServes (name_service_of v.names) zone (Failed v v') answer logged (name_service_of v'.names) ⊎ (WalkLacksMemory v answer v' × (logged ≡ []))
+
   -- an entry acknowledged these operations, by the definition of the namesystem; an ask acknowledges none
-  abbrev pub NameAcknowledges : NameView D → NameAct → NameActed → NameView D → List EditOp → Type 0
+  abbrev pub NameAcknowledges : NameView D W → NameAct → NameActed → NameView D W → List EditOp → Type 0
   NameAcknowledges v (name_act.Call user c) (name_acted.Call reply) v' logged = NameServes (name_service_of v.names) user c (Failed v v') reply logged (name_service_of v'.names)
   NameAcknowledges v (name_act.Finish answered) (name_acted.Finish answer) v' logged =
       FinishServes (name_service_of v.names) answered.id (answer_of answered.reply) (Failed v v') answer logged (name_service_of v'.names)
-  NameAcknowledges v (name_act.Walk zone) (name_acted.Walk answer) v' logged = WalkServes (name_service_of v.names) zone (Failed v v') answer logged (name_service_of v'.names)
-  NameAcknowledges v (name_act.Deliver reply) (name_acted.Deliver answer) v' logged =
-      UpdateServes (name_service_of v.names) (deliver_deed reply) (Failed v v') answer logged (name_service_of v'.names)
+  NameAcknowledges v (name_act.Walk zone) (name_acted.Walk answer) v' logged = WalkAcknowledges v zone answer v' logged
+  NameAcknowledges v (name_act.Deliver front reply) (name_acted.Deliver answer) v' logged =
+      UpdateServes (name_service_of v.names) (front_deed (has_front v.fronts reply.note front) reply) (Failed v v') answer logged (name_service_of v'.names)
   NameAcknowledges v _ _ v' logged = logged ≡ []
 
   -- entries from this state on acknowledged these operations, in this order
-  abbrev pub AllNamesAcknowledge : NameView D → List (NameEntry D) → List EditOp → Type 0
+  abbrev pub AllNamesAcknowledge : NameView D W → List (NameEntry D W) → List EditOp → Type 0
   AllNamesAcknowledge v [] logged = logged ≡ []
   AllNamesAcknowledge v (e ∷ es) logged =
       (own : List EditOp) × (later : List EditOp) × (logged ≡ own ++ later) × NameAcknowledges v e.call e.reply e.after own × AllNamesAcknowledge e.after es later

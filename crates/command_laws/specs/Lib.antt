@@ -1,3 +1,4 @@
 pub mod Complete
 pub mod Ended
 pub mod Good
+pub mod ServerFiles

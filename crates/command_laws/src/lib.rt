@@ -8,6 +8,7 @@ ghost use Rattle.std.specs.Prelude.{◌≡◌};
 ghost use Rattle.cell_server.specs.Connections.{ServesEnds};
 ghost use Rattle.command_laws.specs.Complete.{PipeIsComplete, ReplayIsComplete, ServeIsComplete};
 ghost use Rattle.command_laws.specs.Ended.{ServersHoldLogs, ServersJudge};
+ghost use Rattle.command_laws.specs.ServerFiles.{ServersKeepFiles, UnopenedKeepFiles};
 
 use disk_kinds::ChaWords;
 use hk_base::{Clock, Disk, Sink, Source, Words};
@@ -134,4 +135,21 @@ pub fn servers_hold_what_they_acknowledged<Y: Yard, P: Door>(
         (Y.state yard.now) (Y.state yard_after.now) (P.state door.now) (P.state door_after.now) }
     ensures verdicts { ServersJudge Y.Own.state ⟦<ChaWords as Words>⟧.to_come (ServesEnds P.In.left P.In.faults P.Out.written P.Out.faults) conns
         (Y.state yard.now) (Y.state yard_after.now) (P.state door.now) (P.state door_after.now) }
+{}
+
+/// What a server keeps of files in encryption zones, if the yard tells and a run could start from its files, with the draws of
+/// earlier runs. `served`: if it ran until it ended, whatever the end, each zone file, live or in a snapshot, opens to the data
+/// encryption key that was drawn for it, no two files share a draw, and a completed re-encryption left no file behind. This holds
+/// in the end and in the files that are left, and the next run may start from them with all draws. `unopened`: if a log could not be
+/// opened, the files keep it as before.
+pub fn servers_keep_files_open<Y: Yard, P: Door>(
+    yard: &Y,
+    yard_after: &Y,
+    door: &P,
+    door_after: &P,
+    conns: u32,
+)
+    ensures served { ServersKeepFiles Y.Own.state ⟦<ChaWords as Words>⟧.to_come (ServesEnds P.In.left P.In.faults P.Out.written P.Out.faults) conns
+        (Y.state yard.now) (Y.state yard_after.now) (P.state door.now) (P.state door_after.now) }
+    ensures unopened { UnopenedKeepFiles (Y.state yard.now) (Y.state yard_after.now) }
 {}
