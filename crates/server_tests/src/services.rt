@@ -10,8 +10,8 @@ use cell_server::{ServeEnd, serve_all};
 use disk_kinds::{ChaWords, PlainDisk};
 use door_kinds::MemDoor;
 use hist_cell::{Core, Naming};
-use hk_base::{Gate, KeyName, Text, Words};
-use hk_shared::{NamesOpening, Opening};
+use hk_base::{Clock, Disk, Gate, KeyName, Text, Words};
+use hk_shared::{Closed, NamesOpening, Opening};
 use kms_acls::Acls;
 use kms_calls::{Description, KmsCall, KmsReply};
 use kms_cell::{KmsAct, KmsActed, KmsCell, KmsPass, KmsSide};
@@ -79,16 +79,18 @@ fn serve_named<
     M: Naming + Send + Sync,
     N: Naming + Send + Sync,
     R: Threads + Wait + AllocGlobal + Sync,
+    D: Disk + Send + Drop,
     W: Words + Send + Drop,
+    C: Clock + Send + Drop,
     G: Gate + Sync,
 >(
     rt: &R,
-    cells: NamesOpening<KmsCell<PlainDisk, W, Ticks, M>>,
-    mut keys: KmsPass<PlainDisk, W, Ticks, M>,
+    cells: NamesOpening<KmsCell<D, W, C, M>>,
+    mut keys: KmsPass<D, W, C, M>,
     door: &mut MemDoor,
     conns: u32,
     gate: &G,
-) -> ServeEnd
+) -> (Closed<D>, ServeEnd)
     requires name { cells.names.table ≡ N.table }
 {
     let (shared, mut names) = cells.named::<N>();
@@ -108,27 +110,28 @@ fn serve_named<
         second,
         gate,
     );
-    drop(shared.close(rt, keys, names));
-    end
+    (shared.close(rt, keys, names), end)
 }
 
-/// Names both cells, the one of the keys first, and serves the clients of a door.
+/// Names both cells, the one of the keys first, serves the clients of a door, and closes both.
 fn serve_opened<
     M: Naming + Send + Sync,
     R: Threads + Wait + Abort + AllocGlobal + Sync,
+    D: Disk + Send + Drop,
     W: Words + Send + Drop,
+    C: Clock + Send + Drop,
     G: Gate + Sync,
 >(
     rt: &R,
-    opening: Opening<PlainDisk, W, Ticks>,
+    opening: Opening<D, W, C>,
     door: &mut MemDoor,
     conns: u32,
     gate: &G,
-) -> ServeEnd
+) -> (Closed<D>, ServeEnd)
     requires name { opening.keys.table ≡ M.table }
 {
     let (cells, keys) = opening.named::<M, R>(rt, rt.alloc()).expect(rt, "memory");
-    serve_named::<M, Brand, R, W, G>(rt, cells, keys, door, conns, gate)
+    serve_named::<M, Brand, R, D, W, C, G>(rt, cells, keys, door, conns, gate)
 }
 
 /// Serves the clients of these scripts with both services and the key `k`, through a gate that holds
@@ -143,7 +146,10 @@ pub fn serve_held<
     let mut door = door(rt, scripts, &[]);
     let conns = u32::try_from(scripts.len()).expect(rt, "a number");
     let gate = HeldGate { tally, holds };
-    let end = serve_opened::<Brand, R, W, HeldGate<C>>(rt, opening, &mut door, conns, &gate);
+    let (closed, end) = serve_opened::<Brand, R, PlainDisk, W, Ticks, HeldGate<C>>(
+        rt, opening, &mut door, conns, &gate,
+    );
+    drop(closed);
     assert_eq!(rt; end, ServeEnd::Served);
     check_left(rt, &door, scripts);
 }
