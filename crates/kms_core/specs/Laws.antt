@@ -19,7 +19,7 @@ use Rattle.key_rows.specs.Sound.{IsTable}
 use Rattle.eek_seal.specs.Seal.{seal, unseal}
 use Rattle.eek_seal.specs.Tickets.{SealedKey}
 use Rattle.eek_seal.specs.declared.tickets.Ticket.{Ticket}
-use Rattle.eek_queues.specs.Queues.{AllQueues, has_queue, ready_in}
+use Rattle.eek_queues.specs.Queues.{AllQueues, ready_in}
 use Rattle.eek_seal.specs.declared.deposit.Deposit.TheVariants.{Kept}
 use Rattle.kms_core.specs.Ready.{deposit_answer, deposited, edek_of_sealed, ticket_of}
 use Rattle.kms_core.specs.Draws.{drawn_dek, drawn_edek, place_of_draw, words_of_draw}

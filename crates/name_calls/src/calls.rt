@@ -69,7 +69,7 @@ pub enum NameRefusal {
     NotAZoneRoot,
     /// A rename would take the entry into or out of an encryption zone.
     CrossZone,
-    /// The entry lies below the directory of a zone that is being re-encrypted.
+    /// A rename would move an entry whose parent lies in a zone that is being re-encrypted.
     UnderReencryption,
     /// There is a snapshot of the directory, or of one below it. It is neither deleted nor renamed,
     /// nor are snapshots of it disallowed.

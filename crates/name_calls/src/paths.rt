@@ -206,6 +206,16 @@ fn texts_of(alloc: Global, names: &[&[u8]]) -> Result<Vec<Text>, NoMemory>
     Ok(texts)
 }
 
+fn copies_of(alloc: Global, names: &[Text]) -> Result<Vec<Text>, NoMemory>
+    ensures { IfOk result (λ copies. copies.items ≡ names.now) }
+{
+    let mut copies = Vec::new(alloc);
+    for name in names {
+        copies.push(Text::of(String::from_str(alloc, name.as_str())?))?;
+    }
+    Ok(copies)
+}
+
 /// Reads the names between slashes.
 pub(crate) fn names_of(alloc: Global, bytes: &[u8]) -> Result<Vec<Text>, NoMemory>
     requires { list_all is_component (slice_split (λ b. b == 47) bytes.now) ≡ true }
@@ -276,6 +286,15 @@ impl NPath {
             Ok(names) => Ok(NPath { names }),
             Err(_) => Err(PathFault::NoMemory),
         }
+    }
+
+    /// Returns a copy of the path.
+    pub fn copy(&self, alloc: Global) -> Result<NPath, NoMemory>
+        ensures { IfOk result (λ copy. copy ≡ self.now) }
+    {
+        Ok(NPath {
+            names: copies_of(alloc, self.names.as_slice())?,
+        })
     }
 
     /// Makes the path of these names.

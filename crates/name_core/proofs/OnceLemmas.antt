@@ -1,6 +1,6 @@
 -- No batch of a walk has a file twice.
 use Rattle.std.proofs.Common.{◌≡◌, ℕ, suc, zero, Bool, true, false, cond, not, ◌&&◌, ◌||◌, List, [], ◌∷◌, ◌++◌, take, Option, Some, None, refl, sym, ap, ◌∙◌, subst, arith}
-use Rattle.std.specs.Prelude.{◌==◌, IsTrue}
+use Rattle.std.specs.Prelude.{◌==◌}
 use Rattle.std.specs.List.{cons_option, filter, list_any}
 use Rattle.std.specs.Option.{option_map, option_map_or}
 use Rattle.std.proofs.lemmas.Bool.Decides.{nat_tests}
@@ -13,14 +13,14 @@ use Rattle.inode_tree.proofs.MovedLaws.{HasIds, has-ids}
 use Rattle.inode_tree.specs.ZoneFiles.{edek_of}
 use Rattle.reenc_walk.specs.declared.batches.WalkedBatch.{WalkedBatch}
 use Rattle.reenc_walk.specs.declared.sent.Sent.{Sent}
-use Rattle.reenc_walk.specs.Files.{is_after, is_file_of, last_in, path_in, same_edek, same_file, same_sent, sent_list, sent_of, walk_list}
+use Rattle.reenc_walk.specs.Files.{is_after, is_file_of, last_in, path_in, same_edek, same_file, same_sent, sent_list, walk_list}
 use Rattle.reenc_walk.specs.Walks.{WalkState, from_outstanding, has_batch, is_of, next_files, retire, retired, walked}
 use Rattle.zone_table.specs.declared.statuses.StatusRow.{StatusRow}
 use Rattle.zone_table.specs.Statuses.{session_goes_on}
 use Rattle.name_store.proofs.CauseLemmas.{both, join}
 use Rattle.name_core.specs.State.{BatchesOnce, WalksOnce, is_walk_of, retired_by, retired_under, sent_once, settled_walks, walk_under, walks_after, with_walk}
 use Rattle.name_core.specs.Steps.{walks_with}
-use Rattle.name_core.specs.Walks.{going_on, new_walk, or_new_walk, walk_of}
+use Rattle.name_core.specs.Walks.{going_on, or_new_walk, walk_of}
 
 equal : (a b : ℕ) → (a == b) ≡ true → a ≡ b
 equal a b h = grind (arith, nat_tests, h)

@@ -21,7 +21,7 @@ use Rattle.inode_tree.specs.Rows.{Entry, IsRows, entry_of, has_children, is_dir,
 use Rattle.inode_tree.proofs.MovedLaws.{free as all-off, off-parent, placed, row-renamed}
 use Rattle.inode_tree.proofs.MovedRows.{IsOff}
 use Rattle.inode_tree.proofs.MovedZones.{zone-elsewhere}
-use Rattle.inode_tree.proofs.Seeks.{same-is, same-itself}
+use Rattle.inode_tree.proofs.Seeks.{same-is}
 use Rattle.inode_tree.proofs.ZoneLemmas.{prefix-itself}
 use Rattle.snap_store.specs.Ordered.{put_by}
 use Rattle.snap_store.specs.Snapshots.{Snapshot, is_among, is_named, rows_in, snapshot_named, with_id, without_id}

@@ -19,7 +19,6 @@ use Rattle.reenc_update.specs.Replies.{Fits, ReplyState}
 use Rattle.reenc_walk.specs.declared.sent.BatchNote.{BatchNote}
 use Rattle.name_core.specs.State.{NameService, NameState, RunningNames, WalksOnce, names_of, service_of, settled}
 use Rattle.name_core.specs.Calls.{NoRoom, Plain, done_with}
-use Rattle.name_core.specs.Service.{Logs}
 use Rattle.name_core.specs.Steps.{Growing, IsUnsettled, MayUpdate, OwnUpdate, Settling, UpdatesSettled, Writes, delivered_answer}
 use Rattle.name_core.specs.Updates.{UpdateDeed, applied, applied_answer, deliver_deed, ignored, is_outstanding, update_deed, update_op}
 use Rattle.name_core.specs.Updating.{NameUpdates, OwnOfUpdate, UpdateActs, UpdateGoes, update_logs}

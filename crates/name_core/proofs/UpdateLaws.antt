@@ -1,12 +1,10 @@
 -- The laws of deliveries, and of batches given up.
-use Rattle.std.proofs.Common.{◌≡◌, ℕ, zero, suc, Bool, true, false, cond, ◌&&◌, ◌||◌, List, [], ◌∷◌, length, Option, Some, None, Ok, Err, is_some, refl, sym, ap, ◌∙◌, subst, arith}
-use Rattle.std.specs.Prelude.{◌==◌, Result}
+use Rattle.std.proofs.Common.{◌≡◌, ℕ, suc, Bool, true, false, cond, ◌&&◌, ◌||◌, List, [], ◌∷◌, length, Option, Some, None, Ok, Err, is_some, refl, sym, ap, ◌∙◌, arith}
+use Rattle.std.specs.Prelude.{◌==◌}
 use Rattle.std.specs.List.{filter}
 use Rattle.std.specs.Option.{option_and_then, option_map_or}
 use Rattle.std.proofs.lemmas.Bool.Decides.{nat_tests}
-use Rattle.edit_ops.specs.declared.ops.EditOp.{EditOp}
 use Rattle.name_calls.specs.declared.calls.NameRefusal.TheVariants as refusal
-use Rattle.name_calls.specs.declared.status.Delivered.{Delivered}
 use Rattle.name_calls.specs.declared.status.Delivered.TheVariants.{Applied, Ignored}
 use Rattle.reenc_update.specs.declared.changes.Changes.{Changes}
 use Rattle.reenc_update.specs.Changes.{all_failed, changes_of}
@@ -19,7 +17,7 @@ use Rattle.zone_table.specs.declared.statuses.StatusRow.{StatusRow}
 use Rattle.zone_table.specs.Statuses.{counted, goes_on_under, is_of as is_status_of, status_of, with_counts}
 use Rattle.name_core.specs.State.{NameService, NameState, is_walk_of, settled, walk_under, with_walk}
 use Rattle.name_core.specs.Calls.{NoRoom, Plain, done_with}
-use Rattle.name_core.specs.Updates.{UpdateDeed, applied, deliver_deed, going_walk, ignored, is_outstanding, last_session, update_deed, update_op, walk_of_status}
+use Rattle.name_core.specs.Updates.{UpdateDeed, applied, ignored, is_outstanding, last_session, update_deed, update_op, walk_of_status}
 use Rattle.name_core.specs.Updating.{NameUpdates}
 use Rattle.name_core.specs.Laws.{Delivery, GivingUp, IsUpdateOf, KeptUpdatesRetire, RetiredIsIgnored, UpdatedOnce, UpdatesRetire, batches_of, batches_of_walk}
 use Rattle.name_core.proofs.UpdateCalls.{deed-applied, deed-ignored}

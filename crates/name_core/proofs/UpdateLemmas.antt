@@ -1,6 +1,6 @@
 -- Batches that are outstanding: their walks, and what their updates may change.
-use Rattle.std.proofs.Common.{◌≡◌, ℕ, ◌+◌, ◌^◌, ◌<◌, ◌≤◌, zero, suc, Bool, true, false, cond, not, ◌&&◌, ◌||◌, List, [], ◌∷◌, length, set, get_or, Option, Some, None, is_some, refl, sym, ap, ◌∙◌, subst, arith}
-use Rattle.std.specs.Prelude.{◌==◌, IsTrue}
+use Rattle.std.proofs.Common.{◌≡◌, ℕ, ◌+◌, ◌^◌, ◌<◌, ◌≤◌, Bool, true, false, cond, not, ◌&&◌, ◌||◌, List, [], ◌∷◌, set, get_or, Option, Some, None, is_some, refl, sym, ap, ◌∙◌, arith}
+use Rattle.std.specs.Prelude.{◌==◌}
 use Rattle.std.specs.List.{list_all, list_any, position}
 use Rattle.std.specs.Option.{option_and_then, option_map_or}
 use Rattle.std.specs.Str.{bytes_eq}
@@ -8,8 +8,6 @@ use Rattle.std.proofs.lemmas.Bool.Decides.{nat_tests}
 use Rattle.std.proofs.lemmas.Slice.Eq.{bytes_eq-Decides}
 use Rattle.hk_base.specs.Names.{Encrypted}
 use Rattle.edit_ops.specs.declared.files.FileKey.{FileKey}
-use Rattle.edit_ops.specs.declared.ops.EditOp.{EditOp}
-use Rattle.edit_ops.specs.declared.ops.EditOp.TheVariants as op
 use Rattle.inode_tree.specs.Rows.{Entry, entry_of, same_id, zone_id}
 use Rattle.inode_tree.specs.ZoneFiles.{edek_of, is_file_of}
 use Rattle.name_calls.specs.declared.calls.NameRefusal.TheVariants as refusal
@@ -26,9 +24,9 @@ use Rattle.zone_table.specs.declared.statuses.StatusRow.{StatusRow}
 use Rattle.zone_table.specs.Statuses.{goes_on, goes_on_under, session_goes_on, status_of}
 use Rattle.zone_table.proofs.StatusLists.{found-at}
 use Rattle.name_store.specs.Causes.{first_cause}
-use Rattle.name_store.specs.Table.{NameTable, allows, fits_key, ids_once, is_of_key, is_under, may_update, op_causes}
+use Rattle.name_store.specs.Table.{NameTable, allows, ids_once, is_of_key, is_under, may_update}
 use Rattle.name_store.proofs.CauseLemmas.{both, join}
-use Rattle.name_core.specs.State.{AreFree, AreRecent, IdsFit, NameState, WalksOnce, is_walk_of, next_id, retired_under, sent_once, walk_under, with_walk}
+use Rattle.name_core.specs.State.{AreRecent, IdsFit, NameState, WalksOnce, is_walk_of, next_id, retired_under, sent_once, walk_under, with_walk}
 use Rattle.name_core.specs.Steps.{IsBehind, MayUpdate, MayWrite}
 use Rattle.name_core.specs.Updates.{UpdateDeed, applied, deliver_deed, give_up_deed, has_note, ignored, is_outstanding, update_deed, update_op, walk_of_status}
 use Rattle.name_core.proofs.AllowedLemmas.{none-taken, plainly-allowed}

@@ -1,17 +1,10 @@
-//! Copies of paths.
+//! Paths that go on as another one does.
 ghost use Rattle.std.specs.Prelude.{◌≡◌, ◌≤◌, ◌++◌, IfOk, length, take, true};
 ghost use Rattle.name_calls.specs.Paths.{is_relative};
 
 use hk_base::{NoMemory, Text};
 use name_calls::NPath;
 use std::alloc::Global;
-
-/// Returns a copy of a path.
-pub fn copy_of(alloc: Global, path: &NPath) -> Result<NPath, NoMemory>
-    ensures { IfOk result (λ copy. copy ≡ path.now) }
-{
-    joined(alloc, NPath::root(alloc), path, path.len())
-}
 
 /// Returns a path followed by the first `count` names of another one.
 pub fn joined(alloc: Global, path: NPath, below: &NPath, count: usize) -> Result<NPath, NoMemory>

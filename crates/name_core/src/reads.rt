@@ -8,7 +8,7 @@ ghost use Rattle.name_core.specs.Reads.{info_causes, info_reply, list_causes, li
 ghost use Rattle.name_core.specs.Steps.{Answers};
 ghost use Rattle.name_core.specs.Walks.{state_shown, status_shown, status_shown_at, walk_of};
 
-use crate::copies::{copy_of, joined};
+use crate::copies::joined;
 use crate::rules::id_at;
 use crate::walks::{copy_of_mark, has_begun};
 use hk_base::NoMemory;
@@ -151,7 +151,7 @@ fn zone_in_snapshot(
     match zone_depth(store, path, part) {
         None => zone_over(tree, path),
         Some(count) => {
-            let zone = joined(alloc, copy_of(alloc, path)?, &part.below, count as usize)?;
+            let zone = joined(alloc, path.copy(alloc)?, &part.below, count as usize)?;
             Ok(Some(zone))
         }
     }

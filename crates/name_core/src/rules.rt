@@ -9,7 +9,6 @@ ghost use Rattle.name_core.specs.Service.{is_change};
 ghost use Rattle.name_core.specs.Steps.{HasWanted};
 
 use crate::asks::OpenAsk;
-use crate::copies::copy_of;
 use edit_ops::EditOp;
 use hk_base::{Edek, KeyName, NoMemory, Text, VersionName};
 use inode_tree::Tree;
@@ -334,16 +333,16 @@ pub fn finish_op(alloc: Global, ask: &OpenAsk, edek: Option<Edek>) -> Result<Edi
     match &ask.ask {
         Ask::Create { path } => Ok(EditOp::File {
             id: ask.id,
-            path: copy_of(alloc, path)?,
+            path: path.copy(alloc)?,
             edek,
         }),
         Ask::Zone { path, key } => Ok(EditOp::Zone {
-            path: copy_of(alloc, path)?,
+            path: path.copy(alloc)?,
             key: *key,
         }),
         Ask::Submit { path } => Ok(EditOp::Submit {
             session: ask.id,
-            path: copy_of(alloc, path)?,
+            path: path.copy(alloc)?,
             noted: noted_of(&edek),
         }),
     }

@@ -5,7 +5,6 @@ ghost use Rattle.zone_table.specs.Statuses.{status_of};
 ghost use Rattle.name_core.specs.Steps.{Begins, TakesBatch, TakesNext, outstanding_under};
 ghost use Rattle.name_core.specs.Walks.{going_on, is_walk_of, walk_of};
 
-use crate::copies::copy_of;
 use hk_base::NoMemory;
 use inode_tree::Tree;
 use name_calls::NPath;
@@ -64,7 +63,7 @@ pub fn copy_of_mark(alloc: Global, mark: &Option<NPath>) -> Result<Option<NPath>
 {
     match mark {
         None => Ok(None),
-        Some(path) => Ok(Some(copy_of(alloc, path)?)),
+        Some(path) => Ok(Some(path.copy(alloc)?)),
     }
 }
 

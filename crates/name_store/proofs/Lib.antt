@@ -3,7 +3,6 @@ pub mod Commits
 pub mod FitsLemmas
 pub mod IdLemmas
 pub mod Layers
-pub mod PathLemmas
 mod ReaderLemmas
 pub mod Replays
 pub mod RowLemmas

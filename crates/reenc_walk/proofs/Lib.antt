@@ -1,6 +1,5 @@
 pub mod Alike
 pub mod Collects
-pub mod NamesUpto
 pub mod Retires
 pub mod Starts
 pub mod Takes

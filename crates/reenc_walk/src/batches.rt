@@ -3,7 +3,6 @@ ghost use Rattle.std.specs.Prelude.{◌≡◌, ◌+◌, drop, IfOk, IsTrue};
 ghost use Rattle.reenc_walk.specs.Retiring.{batch_at, run_length};
 ghost use Rattle.reenc_walk.specs.Walks.{StartsOutstanding, from_outstanding, has_batch, is_of, mark_after, outstanding, retired};
 
-use crate::copies::copy_of;
 use crate::sent::SentList;
 use hk_base::NoMemory;
 use name_calls::NPath;
@@ -83,7 +82,7 @@ pub fn mark_after(
         return Ok(None);
     }
     let at = second(batches) - 1;
-    Ok(Some(copy_of(alloc, &batches[at].last)?))
+    Ok(Some(batches[at].last.copy(alloc)?))
 }
 
 /// Removes the batches before the earliest outstanding one.

@@ -2,7 +2,6 @@
 #![tactic(auto)]
 
 mod batches;
-mod copies;
 mod cursor;
 mod files;
 mod sent;

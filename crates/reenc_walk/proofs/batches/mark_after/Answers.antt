@@ -10,4 +10,4 @@ pub returns : goal.returns
 returns c =
     let first : batch_at c.args.sent.now c.args.batches.now.items ≡ 0 = omega (arith, c.find.ensures, c.if-find-gt0.false) in
     let place : c.second-at.result - 1 ≡ run_length (drop 1 c.args.batches.now.items) = omega (arith, c.second-at.ensures) in
-    mark-moves c.args.sent.now c.args.batches.now.items (c.second-at.result - 1) c.index.result.now c.in_ok-copy_of.field-0 c.requires.has first place c.index.ensures c.in_ok-copy_of.ensures
+    mark-moves c.args.sent.now c.args.batches.now.items (c.second-at.result - 1) c.index.result.now c.in_ok-copy.field-0 c.requires.has first place c.index.ensures c.in_ok-copy.ensures

@@ -1,4 +1,4 @@
-use Rattle.std.proofs.Common.{◌∙◌, refl, ap, sym, subst}
+use Rattle.std.proofs.Common.{◌∙◌, refl, sym, subst}
 use Rattle.name_core.specs.State.{RunningNames, WalksOnce}
 use Rattle.name_core.specs.Steps.{IsUnsettled, Settling}
 use Rattle.name_core.proofs.LoggingLemmas.{settles, settling-keeps, store-stands, unsettled}

@@ -1,4 +1,4 @@
-use Rattle.std.proofs.Common.{◌∙◌, ap, sym, subst}
+use Rattle.std.proofs.Common.{◌∙◌, sym, subst}
 use Rattle.edit_ops.specs.declared.ops.EditOp.{EditOp}
 use Rattle.name_calls.specs.declared.status.Delivered.{Delivered}
 use Rattle.name_core.specs.State.{names_of}
