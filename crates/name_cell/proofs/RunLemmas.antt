@@ -19,7 +19,7 @@ use Rattle.name_history.specs.Fronts.{has_front}
 use Rattle.name_history.specs.Steps.{DeliverSteps, front_deed}
 use Rattle.name_history.specs.Views.{NameView, NamesRunOn}
 use Rattle.reenc_walk.specs.declared.sent.BatchNote.{BatchNote}
-use Rattle.name_cell.proofs.AskLemmas.{ask-stands}
+use Rattle.name_core.proofs.Layers.{stands_after_ask}
 
 pub runs_after_start : (batch : ℕ) (old new : DiskState) (r : RunningNames) → Starts batch old new r → RunOn 1 old new → NamesRunOn new r
 runs_after_start batch old new r starts run tells = let found = starts.log (sym run.tells ∙ tells) in (found.0 ++ next_opening starts.found ∷ [], found.3)
@@ -29,7 +29,7 @@ runs_after_logs old new r r' own logged l runs tells = (let was = sym l.run.tell
 
 pub runs_after_ask : (d : DiskState) (r r' : RunningNames) (user : Text) (a : Ask) (answer : Result AskNote NameRefusal) → r'.store ≡ r.store → Asks (names_of r) user a answer (names_of r')
     → NamesRunOn d r → NamesRunOn d r'
-runs_after_ask d r r' user a answer store asks runs tells = let ops = runs tells in (ops.0, ask-stands d r r' user a answer ops.0 store asks ops.1)
+runs_after_ask d r r' user a answer store asks runs tells = let ops = runs tells in (ops.0, stands_after_ask d r r' user a answer ops.0 asks store ops.1)
 
 -- a delivery is done if its batch has the front, and else ignored
 

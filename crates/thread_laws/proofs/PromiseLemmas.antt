@@ -12,12 +12,13 @@ use Rattle.kms_cell.specs.Tickets.{KmsAllows}
 use Rattle.kms_cell.specs.Views.{KmsView}
 use Rattle.name_history.specs.declared.fronts.Front.{Front}
 use Rattle.name_history.specs.Views.{NameView}
+use Rattle.world_run.specs.Kept.{FilesKept}
 use Rattle.world_run.specs.Ledger.{Draw, Hidden, Ledger, Past, Starts, past_of}
 use Rattle.world_run.specs.Linked.{LinkedWorld, ServicesFit}
 use Rattle.world_run.specs.Promise.{FilesOpen, In}
 use Rattle.world_run.specs.World.{WorldState, none_kept}
 use Rattle.thread_laws.specs.Keys.{StaysOpen}
-use Rattle.thread_laws.specs.Promise.{BeginsLinked, FilesKept, KeepsPromise, StaysKept}
+use Rattle.thread_laws.specs.Promise.{BeginsLinked, KeepsPromise, StaysKept}
 use Rattle.thread_laws.specs.Worlds.{keys_of_view, world_with}
 use Rattle.thread_laws.proofs.Courses.{Tied, tied-after}
 use Rattle.thread_laws.proofs.HistoryLemmas.{legal-second, state_after-both}

@@ -12,10 +12,11 @@ use Rattle.name_history.specs.Asked.{NameAllows}
 use Rattle.name_history.specs.Entries.{NameEntry, NameKnown}
 use Rattle.name_history.specs.Steps.{NameSteps}
 use Rattle.name_history.specs.Views.{NameView}
+use Rattle.world_run.specs.Kept.{FilesKept}
 use Rattle.world_run.specs.Ledger.{Past}
 use Rattle.world_run.specs.Linked.{SoundFiles}
 use Rattle.thread_laws.specs.Files.{BeginsFrom, IsLeftBy}
-use Rattle.thread_laws.specs.Promise.{FilesKept, KnownAfter}
+use Rattle.thread_laws.specs.Promise.{KnownAfter}
 use Rattle.thread_laws.specs.Worlds.{keys_of_view}
 
 -- Both cells were closed in these states of the services: first that of the namesystem, then its kept pass was met into the closing pass of

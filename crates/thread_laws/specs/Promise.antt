@@ -3,7 +3,6 @@ use Rattle.std.specs.Prelude.{◌≡◌, ℕ, Bool, true, List, [], ◌∷◌, �
 use Rattle.hk_base.specs.Disk.{DiskState}
 use Rattle.hk_base.specs.declared.names.Edek.{Edek}
 use Rattle.hk_base.specs.declared.names.KeyName.{KeyName}
-use Rattle.key_rows.specs.declared.rows.KeyRow.{KeyRow}
 use Rattle.kms_calls.specs.declared.calls.KmsCall.TheVariants as key_call
 use Rattle.kms_calls.specs.declared.calls.KmsReply.TheVariants as key_reply
 use Rattle.kms_core.specs.Calls.{birth_of, row_of}
@@ -12,7 +11,6 @@ use Rattle.kms_core.specs.State.{settled}
 use Rattle.name_calls.specs.Answers.{answer_of}
 use Rattle.name_core.specs.Calls.{superuser}
 use Rattle.name_core.specs.State.{service_of, settled as settled_names}
-use Rattle.name_store.specs.Table.{NameTable}
 use Rattle.hist_cell.specs.History.{Legal, state_after}
 use Rattle.kms_cell.specs.Entries.{KmsEntry}
 use Rattle.kms_cell.specs.Steps.{KmsSteps}
@@ -26,9 +24,9 @@ use Rattle.name_history.specs.declared.acts.NameAct.{NameAct}
 use Rattle.name_history.specs.declared.acts.NameAct.TheVariants as act
 use Rattle.name_history.specs.declared.acts.NameActed.{NameActed}
 use Rattle.name_history.specs.declared.acts.NameActed.TheVariants as acted
+use Rattle.world_run.specs.Kept.{FilesKept}
 use Rattle.world_run.specs.Ledger.{Draw, Hidden, Ledger, Past, enters, past_of, starts_of}
 use Rattle.world_run.specs.Linked.{LinkedWorld, ServicesFit, given}
-use Rattle.world_run.specs.Promise.{FilesOpen, In}
 use Rattle.world_run.specs.Step.{finish_line}
 use Rattle.world_run.specs.World.{none_kept}
 use Rattle.thread_laws.specs.Serving.{NamesLegal, Uses}
@@ -68,13 +66,6 @@ pub record KnownNext {D W : Type 0} (v : NameView D W) (e : NameEntry D W) (past
 abbrev pub KnownAfter : {D W : Type 0} → NameView D W → List (NameEntry D W) → Past → Past → Type 0
 KnownAfter v [] past last = (last.ledger ≡ past.ledger) × (last.starts ≡ past.starts)
 KnownAfter v (e ∷ es) past last = (next : Past) × KnownNext v e past next × KnownAfter e.after es next last
-
--- The promise on files, for what is known of the draws, rows of keys and a table of files: the encrypted key of each zone file, live or
--- in a snapshot, opens to the data key drawn for it, while its key exists; a completed re-encryption left no file behind (`FilesOpen`);
--- and no two files share a draw.
-pub record FilesKept (known : Past) (keys : List KeyRow) (files : NameTable) : Type 0 where
-  pub files_open : FilesOpen known keys files
-  pub one_file : (i j : ℕ) (d f : Draw) → In (i, d) known.ledger → In (j, f) known.ledger → d.place ≡ f.place → i ≡ j
 
 -- The histories of both services begin in a linked world, in which nothing is kept. The namesystem keeps a new pass of the keys, and has
 -- no batch.

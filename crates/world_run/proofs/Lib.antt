@@ -1,5 +1,4 @@
 pub mod ApartLemmas
-pub mod AskLemmas
 pub mod BothLemmas
 pub mod CoveredCalls
 pub mod CoveredDeliveries
@@ -22,6 +21,7 @@ pub mod DriveUpdates
 pub mod EdekRows
 pub mod FinishLemmas
 pub mod KeepLemmas
+pub mod KeptLemmas
 pub mod KeptRows
 pub mod KeyLemmas
 pub mod Laters
@@ -51,6 +51,7 @@ pub mod StepLemmas
 pub mod TicketLemmas
 pub mod UpdateKeeps
 pub mod VersionLemmas
+pub mod VerdictLemmas
 pub mod WalkKeeps
 pub mod WorldLemmas
 pub mod ZoneKeeps

@@ -71,7 +71,7 @@ use Rattle.world_run.specs.Own.{OwnOfNamesCall, OwnOfReply, OwnOfUpdated, OwnOfW
 use Rattle.world_run.specs.Keeps.{Fails}
 use Rattle.world_run.specs.Step.{AskAt, GivesTicket, LacksRoom, PathActs, Step, Updates, WalkAt, after_ask, after_ticket, ask_of, finish_line, kept_reply, ticket_line, unread_refusal, unread_reply, update_line, zone_with}
 use Rattle.world_run.specs.World.{RunningWorld, WorldState, next_ticket, numbered, with_names, world_of}
-use Rattle.world_run.proofs.AskLemmas.{ask-stands}
+use Rattle.name_core.proofs.Layers.{stands_after_ask}
 use Rattle.world_run.proofs.KeyLemmas.{batch-logs, call-logs, generate-logs, metadata-logs}
 use Rattle.world_run.proofs.Members.{some-is}
 use Rattle.batch_calls.proofs.FitLemmas.{batch-fits}
@@ -121,7 +121,7 @@ ask-does d r r' user a result words P keys store asks p = record {
   logged = nothing_acknowledged;
   acts = p;
   rest = λ k. ap words (omega arith);
-  disk = inr (record { ops = []; logged_is = refl; log = names-no-log d r.names r'.names NothingMore (λ ops s. ask-stands d r.names r'.names user a result ops store asks s); keys = keys });
+  disk = inr (record { ops = []; logged_is = refl; log = names-no-log d r.names r'.names NothingMore (λ ops s. stands_after_ask d r.names r'.names user a result ops asks store s); keys = keys });
   lists = ap (λ (k : RunningKms). k.acls) keys;
 }
 

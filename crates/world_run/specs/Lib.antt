@@ -4,6 +4,7 @@ pub mod Covered
 pub mod Does
 pub mod Drives
 pub mod Keeps
+pub mod Kept
 pub mod Ledger
 pub mod Laws
 pub mod Linked
@@ -15,4 +16,5 @@ pub mod RenamePaths
 pub mod SnapPaths
 pub mod Starts
 pub mod Step
+pub mod Verdicts
 pub mod World

@@ -175,6 +175,11 @@ impl World {
         line
     }
 
+    /// Gives back the memory of a world that has ended. Its logs stay as they are.
+    pub fn close(self) {
+        drop(self);
+    }
+
     /// Recalls what both services keep by themselves.
     pub(crate) fn fits(&self)
         ensures fits { ServicesFit (world_of self.now) }
