@@ -1,5 +1,4 @@
 pub mod AskLemmas
-pub mod CopyLemmas
 pub mod FinishLemmas
 pub mod PairLemmas
 pub mod ServeLemmas

@@ -1,5 +1,5 @@
 -- What a transaction of a connection takes: calls of the cell of the keys, and entries of the history of the namesystem.
-use Rattle.std.specs.Prelude.{◌≡◌, ◌⊎◌, ℕ, List, [], ◌∷◌, Option, Result, Ok, Err}
+use Rattle.std.specs.Prelude.{◌≡◌, ◌⊎◌, ℕ, List, [], ◌∷◌, ◌++◌, length, Option, Result, Ok, Err}
 use Rattle.hk_base.specs.declared.texts.Text.{Text}
 use Rattle.kms_calls.specs.declared.calls.KmsReply.{KmsReply}
 use Rattle.name_calls.specs.declared.calls.Ask.{Ask}
@@ -10,8 +10,8 @@ use Rattle.name_calls.specs.declared.calls.NameReply.{NameReply}
 use Rattle.name_calls.specs.declared.calls.NameReply.TheVariants as reply
 use Rattle.name_calls.specs.declared.calls.Want.{Want}
 use Rattle.name_rest.specs.declared.order.NameOrder.TheVariants as order
-use Rattle.hist_cell.specs.History.{IsIn}
-use Rattle.kms_cell.specs.Entries.{KmsKnown}
+use Rattle.hist_cell.specs.History.{own}
+use Rattle.kms_cell.specs.Entries.{KmsEntry, KmsKnown}
 use Rattle.kms_cell.specs.declared.acts.KmsAct.{KmsAct}
 use Rattle.kms_cell.specs.declared.acts.KmsAct.TheVariants as key_act
 use Rattle.kms_cell.specs.declared.acts.KmsActed.{KmsActed}
@@ -47,13 +47,18 @@ module _ {D W : Type 0} where
     pub refuses : calls_of names ≡ (act.Ask user asked, acted.Ask (Err why)) ∷ []
     pub answer_is : answer ≡ reply.Refused why
 
-  -- What a pass has seen shows the call that a note wants, with this reply, under a number that has ended; or the note wants none, and there is
-  -- no reply.
+  -- The number made this call, with this reply, and no other call.
+  abbrev pub CallsOnce : KmsAct → KmsReply → ℕ → List (KmsEntry D W) → Type 0
+  CallsOnce q r by seen = Got 0 q r by seen × (length (own by seen) ≡ 1)
+
+  -- What a pass has seen shows the call that a note wants, with this reply: the number that ended last made that call and no other. Or the note
+  -- wants none, and there is no reply.
   abbrev pub ShowsWanted : Want → Option KmsReply → KmsKnown D W → Type 0
-  ShowsWanted wanted given kept = IfWanted (λ q r. (by : ℕ) × IsIn by kept.ended × Got 0 q r by kept.seen) (act_wanted wanted) given
+  ShowsWanted wanted given kept =
+      IfWanted (λ q r. (by : ℕ) × (earlier : List ℕ) × (kept.ended ≡ earlier ++ by ∷ []) × CallsOnce q r by kept.seen) (act_wanted wanted) given
 
   -- The ask was answered with a note, and finished with the reply to the call that the note wants, if it wants one. The state of the finish
-  -- shows that call of the superuser. The pass of the keys made no entry.
+  -- shows that call of the superuser, by a pass that made no other. The pass of the keys made no entry.
   pub record Finished (user : Text) (asked : Ask) (answer : NameReply) (keys : KeyCalls) (names : List (NameEntry D W)) : Type 0 where
     pub note : AskNote
     pub given : Option KmsReply

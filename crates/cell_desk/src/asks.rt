@@ -1,14 +1,16 @@
 //! Asks of the namesystem, with the calls of the key management service that they want.
-ghost use Rattle.std.specs.Prelude.{◌≡◌, IfOk};
+ghost use Rattle.std.specs.Prelude.{◌≡◌, [], IfOk};
+ghost use Rattle.hist_cell.specs.History.{Splits};
+ghost use Rattle.kms_cell.specs.Entries.{KmsKnown};
 ghost use Rattle.hk_serve.specs.Transactions.{OfNames};
 ghost use Rattle.name_core.specs.Calls.{superuser};
 ghost use Rattle.name_history.specs.Asked.{Answers, HasNote};
-ghost use Rattle.name_history.specs.Served.{Got, IfWanted, act_wanted};
+ghost use Rattle.name_history.specs.Served.{IfWanted, act_wanted};
 ghost use Rattle.cell_desk.specs.Connections.{MakesOrder};
 ghost use Rattle.cell_desk.specs.Finishes.{FinishesAsk};
-ghost use Rattle.cell_desk.specs.Orders.{finish_reply};
+ghost use Rattle.cell_desk.specs.Orders.{CallsOnce, finish_reply};
 
-use hk_base::{ByteList, NoMemory, Text};
+use hk_base::{NoMemory, Text};
 use kms_calls::{KmsCall, KmsReply};
 use name_calls::{Answered, Ask, AskNote, NPath, NameRefusal, NameReply, Want};
 use name_rest::NameOrder;
@@ -16,24 +18,10 @@ use std::alloc::Global;
 use std::sync::Wait;
 use turns::{Turns, superuser};
 
-/// Returns a copy of a path.
-fn copy_of(alloc: Global, path: &NPath) -> Result<NPath, NoMemory>
-    ensures { IfOk result (λ copy. copy ≡ path.now) }
-{
-    // The names of a path follow the rule.
-    let _ = path.len();
-    let mut text = ByteList::new(alloc);
-    path.write(&mut text)?;
-    match NPath::read_relative(alloc, text.as_slice()) {
-        Ok(copy) => Ok(copy),
-        Err(_) => Err(NoMemory),
-    }
-}
-
 /// Returns the zone of a submission, or `None` of another ask.
 fn zone_of(alloc: Global, ask: &Ask) -> Result<Option<NPath>, NoMemory> {
     match ask {
-        Ask::Submit { path } => Ok(Some(copy_of(alloc, path)?)),
+        Ask::Submit { path } => Ok(Some(path.copy(alloc)?)),
         _ => Ok(None),
     }
 }
@@ -48,7 +36,7 @@ pub(crate) fn prepare(alloc: Global, ask: &Ask) -> Result<(Text, Option<NPath>),
     Ok((caller, zone))
 }
 
-/// Makes the call that a note wants, if it wants one.
+/// Makes the call that a note wants, if it wants one, by a new pass.
 fn call_wanted<S: Turns, R: Wait>(
     rt: &R,
     shared: &S,
@@ -56,8 +44,10 @@ fn call_wanted<S: Turns, R: Wait>(
     caller: Text,
     want: Want,
 ) -> Option<KmsReply>
-    requires { caller ≡ superuser }
-    ensures got { IfWanted (λ q r. Got 0 q r (S.keys_seen pass.new).number (S.keys_seen pass.new).seen) (act_wanted want) result }
+    requires caller { caller ≡ superuser }
+    requires new { (kept : KmsKnown S.D S.W) × Splits kept (S.keys_seen pass.old) }
+    ensures got { IfWanted (λ q r. CallsOnce q r (S.keys_seen pass.new).number (S.keys_seen pass.new).seen) (act_wanted want) result }
+    ensures none_met { (S.keys_seen pass.new).ended ≡ [] }
     ensures answers { Answers want result }
 {
     match want {
@@ -74,7 +64,7 @@ fn call_wanted<S: Turns, R: Wait>(
 }
 
 /// Makes the call that the note of an ask wants, if it wants one, and finishes the ask with the reply. The
-/// pass of the keys that makes the call is met into the one that the namesystem keeps.
+/// pass of the keys makes no other call, and is met into the one that the namesystem keeps.
 fn finish_asked<S: Turns, R: Wait>(
     rt: &R,
     shared: &S,
@@ -84,6 +74,7 @@ fn finish_asked<S: Turns, R: Wait>(
     note: AskNote,
 ) -> Result<(), NameRefusal>
     requires caller { caller ≡ superuser }
+    requires new { (kept : KmsKnown S.D S.W) × Splits kept (S.keys_seen keys) }
     requires noted { HasNote note (S.names_seen names.old).seen }
     ensures { FinishesAsk S.state S.to_come (S.names_seen names.old) note result (S.names_seen names.new) }
 {
@@ -113,7 +104,7 @@ fn finish_reply(finished: Result<(), NameRefusal>) -> NameReply
 }
 
 /// Carries out an ask of a user: makes it, makes the call that its note wants, and finishes it. The call is
-/// made by a pass that is split from the one of the keys before the ask.
+/// made by a pass that is split from the one of the keys before the ask, and makes no other.
 pub(crate) fn carry_out<S: Turns, R: Wait>(
     rt: &R,
     shared: &S,

@@ -17,11 +17,11 @@ use turns::{Notices, Turns};
 
 /// Serves the requests of a connection with both services in their cells, as `serve_conn` does, and
 /// returns the passes. A request that is a call takes one call of its cell. A request that is a change
-/// with a call of the key management service in between takes its ask and its finish, and the state of the
-/// finish shows that call, made as `hdfs` by a pass that is split from `keys`; if there is no memory for it,
-/// it is refused and takes none. The passes make no other calls. Other threads may call the cells in
-/// between. It passes the gate before each reply, and tells the notices what was generated and submitted.
-/// It may wait for the gate and for the locks.
+/// with a call of the key management service in between takes its ask and its finish. The state of the
+/// finish shows that call, made as `hdfs` by a pass that makes no other. If there is no memory for such a
+/// request, it is refused and takes none. The passes make no other calls. Other threads may call the cells
+/// in between. It passes the gate before each reply, and tells the notices what was generated and
+/// submitted. It may wait for the gate and for the locks.
 pub fn serve_cells<I: Source, O: Sink, S: Turns, R: Wait, G: Gate, H: Notices>(
     rt: &R,
     alloc: Global,

@@ -1,5 +1,5 @@
 -- What a server did in all.
-use Rattle.std.specs.Prelude.{◌≡◌, ◌+◌, ℕ, IsTrue, List, [], length, Some}
+use Rattle.std.specs.Prelude.{◌≡◌, ◌+◌, ℕ, IsTrue, List, [], length}
 use Rattle.std.proofs.Common.{ap, sym, ◌∙◌, refl, inl, inr, subst, arith}
 use Rattle.hk_base.specs.Disk.{DiskState}
 use Rattle.hist_cell.specs.History.{LegalOf}

@@ -1,19 +1,59 @@
--- What a pass of the keys shows of a pass that was met into it.
-use Rattle.std.specs.Prelude.{ℕ, ◌∷◌}
-use Rattle.std.proofs.Common.{inl, inr, refl, sym, subst}
+-- What a pass that was lent for a batch has called, and what the pass shows into which it was met.
+use Rattle.std.specs.Prelude.{◌≡◌, ◌≤◌, ℕ, List, [], ◌∷◌, ◌++◌, length}
+use Rattle.std.proofs.Common.{inl, inr, refl, ap, sym, subst, ◌∙◌, arith}
+use Rattle.hk_base.specs.Disk.{DiskState}
+use Rattle.reenc_walk.specs.declared.sent.BatchNote.{BatchNote}
 use Rattle.reenc_update.specs.Replies.{ReplyState}
-use Rattle.hist_cell.specs.History.{IsIn, Meets}
-use Rattle.kms_cell.specs.Entries.{KmsKnown}
-use Rattle.name_history.specs.Served.{Got, GotForBatch, IfServed}
-use Rattle.name_history.proofs.GotLemmas.{got_meets, in_right}
+use Rattle.hist_cell.specs.History.{Meets, own}
+use Rattle.kms_cell.specs.Entries.{KmsEntry, KmsKnown, Makes}
+use Rattle.kms_cell.specs.declared.acts.KmsAct.{KmsAct}
+use Rattle.kms_cell.specs.declared.acts.KmsActed.{KmsActed}
+use Rattle.name_history.specs.Served.{GotForBatch}
+use Rattle.name_history.proofs.GotLemmas.{got_by_call, got_meets}
+use Rattle.turns.specs.Turns.{ServesTurn}
+use Rattle.cell_workers.specs.Batches.{CallsForBatch, HasServed, IsLent}
+
+no_more : (m n : ℕ) → m ≡ n → m ≤ n
+no_more m n same = omega (arith, same)
 
 module _ {D W : Type 0} where
-  -- the number of the pass has ended
-  ended_in : (v w into : KmsKnown D W) → Meets v w into → IsIn w.number into.ended
-  ended_in v w into met = subst (IsIn w.number) (sym met.ended) (in_right w.number v.ended (w.number ∷ w.ended) (inl refl))
+  calls_meet : (front : ℕ) (came : ReplyState) (v w into : KmsKnown D W) → CallsForBatch front came w.number w.seen → Meets v w into → CallsForBatch front came w.number into.seen
+  calls_meet front came v w into (inl (none, no_call)) met = inl (none, met.that_own w.number (inl refl) ∙ no_call)
+  calls_meet front came v w into (inr (r, is, got, one)) met = inr (r, is, got_meets front v w into _ r got met, ap length (met.that_own w.number (inl refl)) ∙ one)
 
-  -- what came of a batch is shown by the pass into which the pass that has got it was met
-  pub came_by_meeting : (front : ℕ) (came : ReplyState) (v w into : KmsKnown D W) → GotForBatch front came w → Meets v w into
-      → IfServed (λ q r. (by : ℕ) × IsIn by into.ended × Got front q r by into.seen) came
-  came_by_meeting front came v w into (inl none) met = inl none
-  came_by_meeting front came v w into (inr (r, is, got)) met = inr (r, is, (w.number, ended_in v w into met, got_meets front v w into _ r got met))
+  -- what came of a batch is shown by the pass into which the pass that has served it was met
+  pub came_by_meeting : (front : ℕ) (came : ReplyState) (v w into : KmsKnown D W) → HasServed front came w → Meets v w into
+      → (by : ℕ) × (earlier : List ℕ) × (into.ended ≡ earlier ++ by ∷ []) × CallsForBatch front came by into.seen
+  came_by_meeting front came v w into (none_met, calls) met =
+      (w.number, v.ended, met.ended ∙ ap (λ (l : List ℕ). v.ended ++ w.number ∷ l) none_met, calls_meet front came v w into calls met)
+
+  -- a pass that has served a batch has got the reply
+  pub got_of_served : (front : ℕ) (came : ReplyState) (w : KmsKnown D W) → HasServed front came w → GotForBatch front came w
+  got_of_served front came w (none_met, inl (none, no_call)) = inl none
+  got_of_served front came w (none_met, inr (r, is, got, one)) = inr (r, is, got)
+
+module _ {D W : Type 0} (state : D → DiskState) (to_come : W → ℕ → ℕ) where
+  -- the first call of a pass
+  one_call : (v w : KmsKnown D W) (q : KmsAct) (r : KmsActed) → own v.number v.seen ≡ [] → Makes state to_come v q r w → length (own w.number w.seen) ≡ 1
+  one_call v w q r none a =
+      let number : own w.number w.seen ≡ own v.number w.seen = ap (λ (n : ℕ). own n w.seen) a.same.0 in
+      let first : own v.number v.seen ++ a.entry ∷ [] ≡ a.entry ∷ [] = ap (λ (l : List (KmsEntry D W)). l ++ a.entry ∷ []) none in
+      ap length (number ∙ (a.mine ∙ first))
+
+  -- the pass that a walk lent has served the batch
+  pub served_after_walk : (front : ℕ) (lent w : KmsKnown D W) (batch : BatchNote) (came : ReplyState) → IsLent front lent → ServesTurn state to_come lent batch came w → HasServed front came w
+  served_after_walk front lent w batch came is (inl served) = (
+    served.makes.same.1 ∙ is.splits.ended,
+    subst (λ (x : ReplyState). CallsForBatch front x w.number w.seen) (sym served.result_is)
+        (inr (
+          served.reply,
+          refl,
+          got_by_call state to_come front lent w _ served.reply (no_more front (length lent.seen) is.front_is) served.makes,
+          one_call lent w _ _ is.splits.no_own served.makes,
+        )),
+  )
+  served_after_walk front lent w batch came is (inr lacks) = (
+    ap (λ (x : KmsKnown D W). x.ended) lacks.same ∙ is.splits.ended,
+    subst (λ (x : ReplyState). CallsForBatch front x w.number w.seen) (sym lacks.result_is)
+        (inl (refl, ap (λ (x : KmsKnown D W). own x.number x.seen) lacks.same ∙ is.splits.no_own)),
+  )

@@ -1,7 +1,7 @@
 -- How the last round goes on.
-use Rattle.std.specs.Prelude.{◌≡◌, ◌≤◌, ℕ, Bool, true, false, cond, List, [], ◌∷◌, ◌++◌, Some, None, Result, Ok, Err, IfOk, OnOk, is_err, take, length, ◌+◌, ◌<◌, All}
+use Rattle.std.specs.Prelude.{◌≡◌, ℕ, Bool, true, false, cond, List, [], ◌∷◌, ◌++◌, Some, None, Result, Ok, Err, IfOk, OnOk, is_err, take, length, ◌+◌, ◌<◌, All}
 use Rattle.std.proofs.lemmas.List.Elements.{All-append, All-cons, All-nil}
-use Rattle.std.proofs.Common.{arith, get_or, refl, ap, sym, ◌∙◌, subst, inl, inr, append_assoc, append-nil}
+use Rattle.std.proofs.Common.{get_or, refl, ap, sym, ◌∙◌, subst, inl, inr, append_assoc, append-nil}
 use Rattle.hk_base.specs.Disk.{DiskState}
 use Rattle.hk_base.specs.declared.texts.NoMemory.{NoMemory}
 use Rattle.hk_base.specs.declared.texts.Text.{Text}
@@ -16,7 +16,6 @@ use Rattle.reenc_update.specs.Replies.{ReplyState}
 use Rattle.name_core.specs.Calls.{superuser}
 use Rattle.name_core.specs.declared.walks.Walked.{Walked}
 use Rattle.turns.specs.Turns.{LendsTurn, ServesTurn}
-use Rattle.turns.proofs.GotLemmas.{got_by_serving}
 use Rattle.kms_cell.specs.Entries.{KmsKnown}
 use Rattle.name_history.specs.Entries.{Makes, MakesMeeting, NameEntry, NameKnown}
 use Rattle.name_history.specs.Served.{GotForBatch}
@@ -24,25 +23,27 @@ use Rattle.name_history.specs.declared.acts.NameAct.{NameAct}
 use Rattle.name_history.specs.declared.acts.NameAct.TheVariants as act
 use Rattle.name_history.specs.declared.acts.NameActed.TheVariants as acted
 use Rattle.turns.specs.Entries.{NamesMake}
-use Rattle.cell_workers.specs.Work.{AllCall, IsNameWork}
+use Rattle.cell_workers.specs.Work.{IsNameWork, IsWorkBy, Works}
+use Rattle.cell_workers.specs.Batches.{HasServed, IsLent}
 use Rattle.cell_workers.specs.Rounds.{AsksAbout, DeliversBatch, HadMemory, IsCall, IsLastRound, ListsZones, ShowsStatus, WalkedOn, Walks, WalksAll, batch_of, goes_on, zones_in}
 use Rattle.cell_workers.proofs.MadeLemmas.{NamesLegal, if_err, if_ok, names_none, names_one, names_then, on_err, on_ok, taken_more}
-use Rattle.cell_workers.proofs.MeetLemmas.{came_by_meeting}
+use Rattle.cell_workers.proofs.MeetLemmas.{came_by_meeting, got_of_served, served_after_walk}
+use Rattle.cell_workers.proofs.WorkLemmas.{works_entry}
 
 -- ---- asking
 
 module _ {D W : Type 0} (state : D → DiskState) (to_come : W → ℕ → ℕ) where
-  pub no_work : All (λ (e : NameEntry D W). IsNameWork e.call) []
-  no_work = All-nil (λ (e : NameEntry D W). IsNameWork e.call)
+  pub no_work : All (IsNameWork {D = D} {W = W}) []
+  no_work = All-nil (IsNameWork {D = D} {W = W})
 
-  one_work : (e : NameEntry D W) (q : NameAct) → e.call ≡ q → IsNameWork q → AllCall IsNameWork (e ∷ [])
-  one_work e q is w = All-cons (λ (e : NameEntry D W). IsNameWork e.call) e [] (subst IsNameWork (sym is) w) no_work
+  one_work : (e : NameEntry D W) (q : NameAct) → e.call ≡ q → IsWorkBy q e → All IsNameWork (e ∷ [])
+  one_work e q is w = All-cons (IsNameWork {D = D} {W = W}) e [] (subst (λ (x : NameAct). IsWorkBy x e) (sym is) w) no_work
 
-  more_work : (made more : List (NameEntry D W)) → AllCall IsNameWork made → AllCall IsNameWork more → AllCall IsNameWork (made ++ more)
-  more_work made more = All-append (λ (e : NameEntry D W). IsNameWork e.call) made more
+  more_work : (made more : List (NameEntry D W)) → All IsNameWork made → All IsNameWork more → All IsNameWork (made ++ more)
+  more_work made more = All-append (IsNameWork {D = D} {W = W}) made more
 
   pub lists_zones : (v w : NameKnown D W) (user : Text) (answer : NameReply) (result : Result (List ZonePath) NoMemory) → user ≡ superuser → (a : Makes state to_come v (act.Call user call.Zones) (acted.Call answer) w)
-      → IfOk result (λ zones. (zones ≡ zones_in answer) × HadMemory answer) → (made : List (NameEntry D W)) × NamesMake state to_come v made w × AllCall IsNameWork made × IfOk result (λ zones. ListsZones zones made)
+      → IfOk result (λ zones. (zones ≡ zones_in answer) × HadMemory answer) → (made : List (NameEntry D W)) × NamesMake state to_come v made w × All IsNameWork made × IfOk result (λ zones. ListsZones zones made)
   lists_zones v w user answer result who a is = (
     a.entry ∷ [],
     names_one state to_come v w _ _ a,
@@ -52,7 +53,7 @@ module _ {D W : Type 0} (state : D → DiskState) (to_come : W → ℕ → ℕ) 
   )
 
   pub shows_status : (v w : NameKnown D W) (user : Text) (zone path : NPath) (answer : NameReply) (result : Result Bool NoMemory) → user ≡ superuser → path ≡ zone → (a : Makes state to_come v (act.Call user (call.Status path)) (acted.Call answer) w)
-      → IfOk result (λ going. (going ≡ goes_on answer) × HadMemory answer) → (made : List (NameEntry D W)) × NamesMake state to_come v made w × AllCall IsNameWork made × IfOk result (λ going. ShowsStatus zone going made)
+      → IfOk result (λ going. (going ≡ goes_on answer) × HadMemory answer) → (made : List (NameEntry D W)) × NamesMake state to_come v made w × All IsNameWork made × IfOk result (λ going. ShowsStatus zone going made)
   shows_status v w user zone path answer result who same a is = (
     a.entry ∷ [],
     names_one state to_come v w _ _ a,
@@ -89,13 +90,13 @@ module _ {D W : Type 0} (state : D → DiskState) (to_come : W → ℕ → ℕ) 
 
   -- these zones were asked about so far
   abbrev pub Asking : NameKnown D W → List ZonePath → List NPath → NameKnown D W → Type 0
-  Asking v zones going w = (made : List (NameEntry D W)) × NamesMake state to_come v made w × AllCall IsNameWork made × AsksAbout zones made going
+  Asking v zones going w = (made : List (NameEntry D W)) × NamesMake state to_come v made w × All IsNameWork made × AsksAbout zones made going
 
   pub asking_begins : (v : NameKnown D W) (going : List NPath) → NamesLegal state to_come v → going ≡ [] → Asking v [] going v
   asking_begins v going legal none = ([], names_none state to_come v legal, no_work, none)
 
   pub asking_more : (v w x : NameKnown D W) (zones : List ZonePath) (i : ℕ) (zone : ZonePath) (going going' : List NPath) (shown : Bool) (result : Result Bool NoMemory) → Asking v (take i zones) going w
-      → i < length zones → get_or zones i zone ≡ zone → result ≡ Ok shown → (more : List (NameEntry D W)) × NamesMake state to_come w more x × AllCall IsNameWork more × IfOk result (λ b. ShowsStatus zone.path b more)
+      → i < length zones → get_or zones i zone ≡ zone → result ≡ Ok shown → (more : List (NameEntry D W)) × NamesMake state to_come w more x × All IsNameWork more × IfOk result (λ b. ShowsStatus zone.path b more)
       → going' ≡ going ++ cond shown (zone.path ∷ []) [] → Asking v (take (i + 1) zones) going' x
   asking_more v w x zones i zone going going' shown result (made, makes, work, asks) within at is (more, makes', work', shows) longer =
       let here : ShowsStatus zone.path shown more = subst (λ (r : Result Bool NoMemory). IfOk r (λ b. ShowsStatus zone.path b more)) is shows in
@@ -108,13 +109,13 @@ module _ {D W : Type 0} (state : D → DiskState) (to_come : W → ℕ → ℕ) 
       )
 
   pub asking_ends : (v w : NameKnown D W) (zones : List ZonePath) (i : ℕ) (going : List NPath) → Asking v (take i zones) going w → take i zones ≡ zones
-      → (made : List (NameEntry D W)) × NamesMake state to_come v made w × AllCall IsNameWork made × AsksAbout zones made going
+      → (made : List (NameEntry D W)) × NamesMake state to_come v made w × All IsNameWork made × AsksAbout zones made going
   asking_ends v w zones i going (made, makes, work, asks) all = (made, makes, work, subst (λ (zs : List ZonePath). AsksAbout zs made going) all asks)
 
   -- memory ran out after these
   pub asking_stops : (v w x : NameKnown D W) (zones all : List ZonePath) (going : List NPath) (shown : Result Bool NoMemory) (zone : NPath) (result : Result (List NPath) NoMemory) → Asking v zones going w
-      → (more : List (NameEntry D W)) × NamesMake state to_come w more x × AllCall IsNameWork more × IfOk shown (λ b. ShowsStatus zone b more) → is_err result ≡ true
-      → (made : List (NameEntry D W)) × NamesMake state to_come v made x × AllCall IsNameWork made × IfOk result (λ gs. AsksAbout all made gs)
+      → (more : List (NameEntry D W)) × NamesMake state to_come w more x × All IsNameWork more × IfOk shown (λ b. ShowsStatus zone b more) → is_err result ≡ true
+      → (made : List (NameEntry D W)) × NamesMake state to_come v made x × All IsNameWork made × IfOk result (λ gs. AsksAbout all made gs)
   asking_stops v w x zones all going shown zone result (made, makes, work, asks) (more, makes', work', shows) failed =
       (made ++ more, names_then state to_come v w x made more makes makes', more_work made more work work', if_err (λ gs. AsksAbout all (made ++ more) gs) result failed)
 
@@ -125,13 +126,28 @@ note_of_served : {D W : Type 0} (state : D → DiskState) (to_come : W → ℕ �
 note_of_served state to_come v w batch came (inl served) = ap (λ (x : ReplyState). x.note) served.result_is
 note_of_served state to_come v w batch came (inr lacks) = ap (λ (x : ReplyState). x.note) lacks.result_is
 
-no_more : (m n : ℕ) → m ≡ n → m ≤ n
-no_more m n same = omega (arith, same)
-
 module _ {D W : Type 0} (state : D → DiskState) (to_come : W → ℕ → ℕ) where
-  -- the pass that a walk lent has got the reply, after the front
-  pub got_after_walk : (front : ℕ) (lent w : KmsKnown D W) (batch : BatchNote) (came : ReplyState) → front ≡ length lent.seen → ServesTurn state to_come lent batch came w → GotForBatch front came w
-  got_after_walk front lent w batch came is served = got_by_serving state to_come front lent w batch came (no_more front (length lent.seen) is) served
+  -- a pass that a walk lent
+  pub lent_by_walk : (v w : NameKnown D W) (lent : KmsKnown D W) (path : NPath) (gave : Result Walked NameRefusal) (front : ℕ) → LendsTurn state to_come v path gave front w lent → IsLent front lent
+  lent_by_walk v w lent path gave front a = record { kept = a.makes.makes.entry.after.keys; splits = a.makes.splits; front_is = a.front_is }
+
+  -- such a pass has got the reply, after the front
+  pub got_after_walk : (front : ℕ) (lent w : KmsKnown D W) (batch : BatchNote) (came : ReplyState) → IsLent front lent → ServesTurn state to_come lent batch came w → GotForBatch front came w
+  got_after_walk front lent w batch came is turn = got_of_served front came w (served_after_walk state to_come front lent w batch came is turn)
+
+  -- a walk is work
+  pub works_walk : (v w : NameKnown D W) (lent : KmsKnown D W) (path : NPath) (gave : Result Walked NameRefusal) (front : ℕ) → LendsTurn state to_come v path gave front w lent → Works IsNameWork v [] w
+  works_walk v w lent path gave front a =
+      let e = a.makes.makes.entry in
+      works_entry IsNameWork v w (act.Walk path) (acted.Walk gave) a.makes.makes (subst (λ (q : NameAct). IsWorkBy q e) (sym a.makes.makes.call_is) tt)
+
+  -- a delivery by a pass that has served the batch is work
+  pub works_delivery : (v w : NameKnown D W) (served : KmsKnown D W) (front : ℕ) (came : ReplyState) (answer : Result Delivered NameRefusal) → HasServed front came served
+      → MakesMeeting state to_come v served (act.Deliver front came) (acted.Deliver answer) w → Works IsNameWork v [] w
+  works_delivery v w served front came answer has m =
+      let e = m.makes.entry in
+      works_entry IsNameWork v w (act.Deliver front came) (acted.Deliver answer) m.makes
+      (subst (λ (q : NameAct). IsWorkBy q e) (sym m.makes.call_is) (came_by_meeting front came m.kept served e.after.keys has m.meets))
 
   -- entries of walks that led to this, if they were not the last
   abbrev pub WalksOnce : NameKnown D W → NPath → Bool → NameKnown D W → Type 0
@@ -166,7 +182,7 @@ module _ {D W : Type 0} (state : D → DiskState) (to_come : W → ℕ → ℕ) 
     gave_batch = is;
     front_is = a.front_is ∙ ap length a.makes.splits.seen;
     for_batch = note_of_served state to_come lent served batch came turn;
-    served = came_by_meeting front came b.kept served b.makes.entry.after.keys (got_after_walk front lent served batch came a.front_is turn) b.meets;
+    served = came_by_meeting front came b.kept served b.makes.entry.after.keys (served_after_walk state to_come front lent served batch came (lent_by_walk v w lent path gave front a) turn) b.meets;
     delivery_is = record { call_is = b.makes.call_is; reply_is = b.makes.reply_is };
   }
 
@@ -289,8 +305,8 @@ module _ {D W : Type 0} (state : D → DiskState) (to_come : W → ℕ → ℕ) 
   }
 
   pub round_whole : (v w x y : NameKnown D W) (zones slice : List ZonePath) (going going' : List NPath) (result : Result (Unit {0}) NoMemory)
-      → (listed : List (NameEntry D W)) × NamesMake state to_come v listed w × AllCall IsNameWork listed × ListsZones zones listed → slice ≡ zones
-      → (statuses : List (NameEntry D W)) × NamesMake state to_come w statuses x × AllCall IsNameWork statuses × AsksAbout slice statuses going → going' ≡ going
+      → (listed : List (NameEntry D W)) × NamesMake state to_come v listed w × All IsNameWork listed × ListsZones zones listed → slice ≡ zones
+      → (statuses : List (NameEntry D W)) × NamesMake state to_come w statuses x × All IsNameWork statuses × AsksAbout slice statuses going → going' ≡ going
       → (made : List (NameEntry D W)) × NamesMake state to_come x made y × OnOk result (WalksAll going' made) → Rounds v result y
   round_whole v w x y zones slice going going' result (listed, m, work, lists) same (statuses, n, work', asks) same' (walks, makes, walked) =
       let (e, answer, is, asked, had, shown) = lists in

@@ -1,5 +1,5 @@
 -- What the entries of workers come to.
-use Rattle.std.specs.Prelude.{◌≡◌, ℕ, zero, suc, List, [], ◌∷◌, ◌++◌}
+use Rattle.std.specs.Prelude.{◌≡◌, ℕ, zero, suc, List, [], ◌∷◌, ◌++◌, All}
 use Rattle.std.proofs.Common.{refl, ap, sym, ◌∙◌, subst, inl, inr, append_assoc, append-nil}
 use Rattle.std.proofs.lemmas.List.Elements.{All-append, All-cons, All-nil}
 use Rattle.hk_base.specs.Disk.{DiskState}
@@ -11,7 +11,7 @@ use Rattle.kms_cell.specs.Fills.{FillsTurn}
 use Rattle.kms_cell.specs.declared.filling.FillTurn.{FillTurn}
 use Rattle.name_history.specs.Entries.{NameEntry, NameKnown}
 use Rattle.turns.specs.Entries.{MakesEntries}
-use Rattle.cell_workers.specs.Work.{Adds, AllCall, AreFillTurns, PoolWorks, FilledFrom, Fills, FillsBoth, IsPoolWork, IsFresh, IsNameWork, Works}
+use Rattle.cell_workers.specs.Work.{Adds, AreFillTurns, PoolWorks, FilledFrom, Fills, FillsBoth, IsPoolWork, IsFresh, IsNameWork, Works}
 
 pub in_right : (k : ℕ) (ms ns : List ℕ) → IsIn k ns → IsIn k (ms ++ ns)
 in_right k [] ns i = i
@@ -64,34 +64,34 @@ module _ {Q R S : Type 0} where
 
   -- ---- work
 
-  pub works_none : (work : Q → Type 0) (v : Known Q R S) → Works work v [] v
-  works_none work v = record { made = []; adds = adds_none v; all = All-nil (λ (e : Entry Q R S). work e.call); all_others = λ k i. absurd i }
+  pub works_none : (work : Entry Q R S → Type 0) (v : Known Q R S) → Works work v [] v
+  works_none work v = record { made = []; adds = adds_none v; all = All-nil work; all_others = λ k i. absurd i }
 
-  pub works_then : (work : Q → Type 0) (v w x : Known Q R S) (others : List ℕ) → Works work v [] w → Works work w others x → Works work v others x
+  pub works_then : (work : Entry Q R S → Type 0) (v w x : Known Q R S) (others : List ℕ) → Works work v [] w → Works work w others x → Works work v others x
   works_then work v w x others m n = record {
     made = m.made ++ n.made;
     adds = adds_then v w x m.made n.made others m.adds n.adds;
-    all = All-append (λ (e : Entry Q R S). work e.call) m.made n.made m.all n.all;
+    all = All-append work m.made n.made m.all n.all;
     all_others = n.all_others;
   }
 
-  pub works_same : (work : Q → Type 0) (v w x : Known Q R S) (others : List ℕ) → x ≡ w → Works work v others w → Works work v others x
+  pub works_same : (work : Entry Q R S → Type 0) (v w x : Known Q R S) (others : List ℕ) → x ≡ w → Works work v others w → Works work v others x
   works_same work v w x others same m = subst (λ (y : Known Q R S). Works work v others y) (sym same) m
 
-  pub works_from : (work : Q → Type 0) (u v w : Known Q R S) (others : List ℕ) → v ≡ u → Works work v others w → Works work u others w
+  pub works_from : (work : Entry Q R S → Type 0) (u v w : Known Q R S) (others : List ℕ) → v ≡ u → Works work v others w → Works work u others w
   works_from work u v w others same m = subst (λ (y : Known Q R S). Works work y others w) same m
 
-  pub works_entry : {step : S → Q → R → S → Type 0} {allows : List (Entry Q R S) → Q → Type 0} (work : Q → Type 0) (v w : Known Q R S) (q : Q) (r : R)
-      → MakesEntry step allows v q r w → work q → Works work v [] w
+  pub works_entry : {step : S → Q → R → S → Type 0} {allows : List (Entry Q R S) → Q → Type 0} (work : Entry Q R S → Type 0) (v w : Known Q R S) (q : Q) (r : R)
+      → (a : MakesEntry step allows v q r w) → work a.entry → Works work v [] w
   works_entry work v w q r a is = record {
     made = a.entry ∷ [];
     adds = record { number = a.same.0; ended = a.same.1 ∙ sym (append-nil v.ended); mine = a.mine };
-    all = All-cons (λ (e : Entry Q R S). work e.call) a.entry [] (subst work (sym a.call_is) is) (All-nil (λ (e : Entry Q R S). work e.call));
+    all = All-cons work a.entry [] is (All-nil work);
     all_others = λ k i. absurd i;
   }
 
-  pub works_entries : {step : S → Q → R → S → Type 0} {allows : List (Entry Q R S) → Q → Type 0} (work : Q → Type 0) (v w : Known Q R S) (made : List (Entry Q R S))
-      → MakesEntries step allows v made w → AllCall work made → Works work v [] w
+  pub works_entries : {step : S → Q → R → S → Type 0} {allows : List (Entry Q R S) → Q → Type 0} (work : Entry Q R S → Type 0) (v w : Known Q R S) (made : List (Entry Q R S))
+      → MakesEntries step allows v made w → All work made → Works work v [] w
   works_entries work v w made m all = record {
     made = made;
     adds = record { number = m.same.0; ended = m.same.1 ∙ sym (append-nil v.ended); mine = m.mine };
@@ -100,14 +100,14 @@ module _ {Q R S : Type 0} where
   }
 
   -- all entries of such a pass are work
-  works_of : (work : Q → Type 0) (v w : Known Q R S) (others : List ℕ) → IsFresh v → Works work v others w → (k : ℕ) → IsIn k (w.number ∷ others) → AllCall work (own k w.seen)
+  works_of : (work : Entry Q R S → Type 0) (v w : Known Q R S) (others : List ℕ) → IsFresh v → Works work v others w → (k : ℕ) → IsIn k (w.number ∷ others) → All work (own k w.seen)
   works_of work v w others fresh m k i = elim i [
-    | inl here ↦ subst (AllCall work) (sym (own_made v w m.made others k fresh m.adds here)) m.all
+    | inl here ↦ subst (All work) (sym (own_made v w m.made others k fresh m.adds here)) m.all
     | inr there ↦ m.all_others k there
   ]
 
   -- such a pass is met into another one
-  pub works_met : (work : Q → Type 0) (v w t u x : Known Q R S) (others theirs : List ℕ) → Works work v others w → Splits v t → Works work t theirs u → Meets w u x
+  pub works_met : (work : Entry Q R S → Type 0) (v w t u x : Known Q R S) (others theirs : List ℕ) → Works work v others w → Splits v t → Works work t theirs u → Meets w u x
       → Works work v (others ++ u.number ∷ theirs) x
   works_met work v w t u x others theirs m splits n met =
       let fresh : IsFresh t = (splits.no_own, splits.ended) in
@@ -116,9 +116,9 @@ module _ {Q R S : Type 0} where
         made = m.made;
         adds = subst (λ l. Adds v m.made (others ++ u.number ∷ l) x) ended (adds_met v w u x m.made others m.adds met);
         all = m.all;
-        all_others = λ k i. in_either (AllCall work (own k x.seen)) k others (u.number ∷ theirs)
-            (λ j. subst (AllCall work) (sym (met.this_own k (inr (subst (IsIn k) (sym m.adds.ended) (in_right k v.ended others j))))) (m.all_others k j))
-            (λ j. subst (AllCall work) (sym (met.that_own k (subst (λ l. IsIn k (u.number ∷ l)) (sym ended) j))) (works_of work t u theirs fresh n k j)) i;
+        all_others = λ k i. in_either (All work (own k x.seen)) k others (u.number ∷ theirs)
+            (λ j. subst (All work) (sym (met.this_own k (inr (subst (IsIn k) (sym m.adds.ended) (in_right k v.ended others j))))) (m.all_others k j))
+            (λ j. subst (All work) (sym (met.that_own k (subst (λ l. IsIn k (u.number ∷ l)) (sym ended) j))) (works_of work t u theirs fresh n k j)) i;
       }
 
 -- ---- fillers
@@ -202,5 +202,5 @@ module _ {D W : Type 0} where
         numbers = d.numbers;
         fills = subst (FilledFrom first) (sym (same d.filler (there d.filler (inl refl)))) d.fills;
         other_fills = subst (FilledFrom second) (sym (same d.other_filler (there d.other_filler (inr (inl refl))))) d.other_fills;
-        works = λ k i. subst (AllCall IsNameWork) (sym (same' k i)) (d.works k i);
+        works = λ k i. subst (All (IsNameWork {D = D} {W = W})) (sym (same' k i)) (d.works k i);
       }

@@ -16,11 +16,10 @@ use Rattle.reenc_update.specs.Replies.{ReplyState}
 use Rattle.name_core.specs.Calls.{superuser}
 use Rattle.name_core.specs.declared.walks.Walked.{Walked}
 use Rattle.name_core.specs.declared.walks.Walked.TheVariants as walk
-use Rattle.hist_cell.specs.History.{IsIn}
 use Rattle.name_history.specs.Entries.{NameEntry}
-use Rattle.name_history.specs.Served.{Got, IfServed}
 use Rattle.name_history.specs.declared.acts.NameAct.TheVariants as act
 use Rattle.name_history.specs.declared.acts.NameActed.TheVariants as acted
+use Rattle.cell_workers.specs.Batches.{CameOf}
 
 -- ---- what replies say
 
@@ -94,12 +93,7 @@ module _ {D W : Type 0} where
       × (going ≡ cond (goes_on answer) (zone.path ∷ more) more) × AsksAbout zones es more
   AsksAbout _ _ going = ⊥
 
-  -- What came of a batch: by a number that was met into the kept pass of the keys, an entry after the front is the call for the batch, and its
-  -- reply says so; or nothing came back.
-  abbrev pub CameOf : ℕ → NameEntry D W → ReplyState → Type 0
-  CameOf front delivered came = IfServed (λ q r. (by : ℕ) × IsIn by delivered.after.keys.ended × Got front q r by delivered.after.keys.seen) came
-
-  -- A walk gave a batch, and what came of it was delivered. The front is what the kept pass of the keys had seen at the walk.
+  -- A walk gave a batch, and what came of it was delivered. The front is how many entries the kept pass of the keys had seen at the walk.
   pub record DeliversBatch (path : NPath) (walked delivered : NameEntry D W) (answer : Result Delivered NameRefusal) : Type 0 where
     pub gave : Result Walked NameRefusal
     pub batch : BatchNote

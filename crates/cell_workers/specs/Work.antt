@@ -15,6 +15,7 @@ use Rattle.kms_cell.specs.declared.filling.FillTurn.{FillTurn}
 use Rattle.name_history.specs.Entries.{NameEntry, NameKnown}
 use Rattle.name_history.specs.declared.acts.NameAct.{NameAct}
 use Rattle.name_history.specs.declared.acts.NameAct.TheVariants as act
+use Rattle.cell_workers.specs.Batches.{CameOf}
 
 -- ---- the calls of workers
 
@@ -24,13 +25,6 @@ AsksForZones call.Zones = ⊤
 AsksForZones (call.Status path) = ⊤
 AsksForZones _ = ⊥
 
--- a walk, a delivery, or an ask of the superuser for the zones or the status of one
-abbrev pub IsNameWork : NameAct → Type 0
-IsNameWork (act.Call user c) = (user ≡ superuser) × AsksForZones c
-IsNameWork (act.Walk path) = ⊤
-IsNameWork (act.Deliver front reply) = ⊤
-IsNameWork _ = ⊥
-
 -- ---- passes
 
 module _ {Q R S : Type 0} where
@@ -38,22 +32,31 @@ module _ {Q R S : Type 0} where
   abbrev pub IsFresh : Known Q R S → Type 0
   IsFresh v = (own v.number v.seen ≡ []) × (v.ended ≡ [])
 
-  -- each of these entries has such a call
-  abbrev pub AllCall : (Q → Type 0) → List (Entry Q R S) → Type 0
-  AllCall work made = All (λ (e : Entry Q R S). work e.call) made
-
   -- The pass v made these entries and no others, and then passes with these numbers were met into it.
   pub record Adds (v : Known Q R S) (made : List (Entry Q R S)) (others : List ℕ) (w : Known Q R S) : Type 0 where
     pub number : w.number ≡ v.number
     pub ended : w.ended ≡ v.ended ++ others
     pub mine : own v.number w.seen ≡ own v.number v.seen ++ made
 
-  -- The pass v made only entries with such calls, and then passes with these numbers, which had made only such, were met into it.
-  pub record Works (work : Q → Type 0) (v : Known Q R S) (others : List ℕ) (w : Known Q R S) : Type 0 where
+  -- The pass v made only such entries, and then passes with these numbers, which had made only such, were met into it.
+  pub record Works (work : Entry Q R S → Type 0) (v : Known Q R S) (others : List ℕ) (w : Known Q R S) : Type 0 where
     pub made : List (Entry Q R S)
     pub adds : Adds v made others w
-    pub all : AllCall work made
-    pub all_others : (k : ℕ) → IsIn k others → AllCall work (own k w.seen)
+    pub all : All work made
+    pub all_others : (k : ℕ) → IsIn k others → All work (own k w.seen)
+
+-- ---- workers of the namesystem
+
+module _ {D W : Type 0} where
+  -- an entry with this call is a walk, the delivery of what came of a batch, or an ask of the superuser for the zones or the status of one
+  abbrev pub IsWorkBy : NameAct → NameEntry D W → Type 0
+  IsWorkBy (act.Call user c) e = (user ≡ superuser) × AsksForZones c
+  IsWorkBy (act.Walk path) e = ⊤
+  IsWorkBy (act.Deliver front reply) e = CameOf front e reply
+  IsWorkBy _ e = ⊥
+
+  abbrev pub IsNameWork : NameEntry D W → Type 0
+  IsNameWork e = IsWorkBy e.call e
 
 -- ---- fillers
 
@@ -100,14 +103,15 @@ module _ {D W : Type 0} where
 
 module _ {D W : Type 0} where
   -- All entries of these numbers are the work of two fillers, each with words of its own, and of workers of the namesystem. The passes of the
-  -- keys that serve batches are not among them: each delivery meets its pass into the one that the namesystem keeps, and its entry shows that.
+  -- keys that serve batches are not among them: each delivery meets its pass into the one that the namesystem keeps, and its entry shows that
+  -- this pass made the call for the batch and no other.
   pub record IsPoolWork (first second : ℕ → ℕ) (keys : List (KmsEntry D W)) (names : List (NameEntry D W)) (of_keys of_names : List ℕ) : Type 0 where
     pub filler : ℕ
     pub other_filler : ℕ
     pub numbers : of_keys ≡ filler ∷ other_filler ∷ []
     pub fills : FilledFrom first (own filler keys)
     pub other_fills : FilledFrom second (own other_filler keys)
-    pub works : (k : ℕ) → IsIn k of_names → AllCall IsNameWork (own k names)
+    pub works : (k : ℕ) → IsIn k of_names → All IsNameWork (own k names)
 
   -- There were no workers, or all entries of these numbers are their work.
   abbrev pub IsWork : (ℕ → ℕ) → (ℕ → ℕ) → List (KmsEntry D W) → List (NameEntry D W) → List ℕ → List ℕ → Type 0

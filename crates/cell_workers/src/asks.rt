@@ -1,11 +1,10 @@
 //! Asking which zones are being re-encrypted.
-ghost use Rattle.std.specs.Prelude.{◌≡◌, ◌∷◌, ◌++◌, [], cond, IfOk, OnOk, List};
+ghost use Rattle.std.specs.Prelude.{◌≡◌, ◌∷◌, ◌++◌, [], cond, All, IfOk, OnOk, List};
 ghost use Rattle.name_history.specs.Entries.{NameEntry};
 ghost use Rattle.cell_workers.specs.Rounds.{AsksAbout, HadMemory, ListsZones, ShowsStatus, goes_on, is_open, zones_in};
-ghost use Rattle.cell_workers.specs.Work.{AllCall, IsNameWork};
+ghost use Rattle.cell_workers.specs.Work.{IsNameWork};
 ghost use Rattle.turns.specs.Entries.{NamesMake};
 
-use crate::paths::copy_of;
 use hk_base::{Listing, NoMemory};
 use name_calls::{NPath, NameCall, NameRefusal, NameReply, State, ZoneList, ZonePath};
 use std::alloc::Global;
@@ -52,7 +51,7 @@ pub fn list_zones<S: Turns, R: Wait>(
     names: &mut S::Names,
 ) -> Result<ZoneList, NoMemory>
     ensures { (made : List (NameEntry S.D S.W)) × NamesMake S.state S.to_come (S.names_seen names.old) made (S.names_seen names.new)
-        × AllCall IsNameWork made × IfOk result (λ zones. ListsZones zones made) }
+        × All IsNameWork made × IfOk result (λ zones. ListsZones zones made) }
 {
     // The history that the pass has seen is legal.
     let _ = shared.count_names(names);
@@ -71,12 +70,12 @@ fn is_going<S: Turns, R: Wait>(
     zone: &NPath,
 ) -> Result<bool, NoMemory>
     ensures { (made : List (NameEntry S.D S.W)) × NamesMake S.state S.to_come (S.names_seen names.old) made (S.names_seen names.new)
-        × AllCall IsNameWork made × IfOk result (λ going. ShowsStatus zone.now going made) }
+        × All IsNameWork made × IfOk result (λ going. ShowsStatus zone.now going made) }
 {
     // The history that the pass has seen is legal.
     let _ = shared.count_names(names);
     let user = superuser(alloc)?;
-    let path = copy_of(alloc, zone)?;
+    let path = zone.copy(alloc)?;
     let reply = shared.call_names(rt, names, user, NameCall::Status { path });
     let going = goes_on(&reply);
     drop(reply);
@@ -93,7 +92,7 @@ fn add_if(
     ensures { OnOk result (paths.new ≡ paths.old ++ cond wanted (path.now ∷ []) []) }
 {
     if wanted {
-        let path = copy_of(alloc, path)?;
+        let path = path.copy(alloc)?;
         paths.push(path)?;
     }
     Ok(())
@@ -109,7 +108,7 @@ pub fn going_zones<S: Turns, R: Wait>(
     zones: &[ZonePath],
 ) -> Result<Listing<NPath>, NoMemory>
     ensures { (made : List (NameEntry S.D S.W)) × NamesMake S.state S.to_come (S.names_seen names.old) made (S.names_seen names.new)
-        × AllCall IsNameWork made × IfOk result (λ going. AsksAbout zones.now made going) }
+        × All IsNameWork made × IfOk result (λ going. AsksAbout zones.now made going) }
 {
     // The history that the pass has seen is legal.
     let _ = shared.count_names(names);

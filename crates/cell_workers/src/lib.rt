@@ -5,7 +5,6 @@
 mod asks;
 mod channels;
 mod must_join;
-mod paths;
 mod round;
 mod starting;
 mod updates;

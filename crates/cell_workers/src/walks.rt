@@ -4,7 +4,6 @@ ghost use Rattle.name_history.specs.Entries.{NameEntry};
 ghost use Rattle.cell_workers.specs.Rounds.{WalkedOn, Walks, WalksAll, batch_of};
 ghost use Rattle.turns.specs.Entries.{NamesMake};
 
-use crate::paths::copy_of;
 use hk_base::{Gate, NoMemory};
 use name_calls::{NPath, NameRefusal};
 use name_core::Walked;
@@ -73,7 +72,7 @@ fn walk_through<S: Turns, R: Wait, G: Gate>(
     // The history that the pass has seen is legal.
     let _ = shared.count_names(names);
     for _ in rt.forever() {
-        let path = copy_of(alloc, zone)?;
+        let path = zone.copy(alloc)?;
         let on = walk_once(rt, alloc, shared, names, path, gate)?;
         if !on {
             return Ok(());

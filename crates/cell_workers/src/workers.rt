@@ -1,12 +1,12 @@
 //! The workers beside the connections: two fillers, two batch workers and an updater. Each ends once the
 //! channels are closed and what was sent before is done.
-ghost use Rattle.std.specs.Prelude.{◌≡◌, ℕ, List, [], length, IfSome};
+ghost use Rattle.std.specs.Prelude.{◌≡◌, ℕ, List, [], IfSome};
 ghost use Rattle.std.specs.Thread.{IsSend, IsSync};
+ghost use Rattle.cell_workers.specs.Batches.{IsLent};
 ghost use Rattle.cell_workers.specs.Work.{Fills, FillsBoth, IsNameWork, PoolWorks, Works};
 
 use crate::asks::{going_zones, list_zones};
 use crate::channels::{WorkReceivers, WorkSenders};
-use crate::paths::copy_of;
 use crate::updates::Update;
 use crate::walks::batch_of;
 use hk_base::{Gate, NoMemory, Words};
@@ -107,9 +107,9 @@ impl<
         }
     }
 
-    /// Has a batch served with the pass that its walk lent.
+    /// Has a batch served with the pass that its walk lent. The pass makes no other call.
     fn serve(&self, zone: NPath, batch: BatchNote, front: u64, keys: K) -> Update<D, W, K, N, S>
-        requires { front ≡ length (S.keys_seen keys).seen }
+        requires { IsLent front (S.keys_seen keys) }
     {
         let mut keys = keys;
         let reply = self
@@ -121,9 +121,9 @@ impl<
     /// Walks through a zone once. Returns `None` if memory runs out.
     fn walk_once(&self, names: &mut N, zone: &NPath) -> Option<Lent<K>>
         ensures works { Works IsNameWork (S.names_seen names.old) [] (S.names_seen names.new) }
-        ensures front { IfSome result (λ lent. lent.front ≡ length (S.keys_seen lent.keys).seen) }
+        ensures lent { IfSome result (λ lent. IsLent lent.front (S.keys_seen lent.keys)) }
     {
-        let Ok(path) = copy_of(self.alloc, zone) else {
+        let Ok(path) = zone.copy(self.alloc) else {
             return None;
         };
         match self.shared.walk_turn(self.rt, names, path) {
@@ -135,7 +135,7 @@ impl<
     /// Walks through a zone once. If memory runs out, it is tried again, `WALK_TRIES` times in all.
     fn try_walk(&self, names: &mut N, zone: &NPath) -> Option<Lent<K>>
         ensures works { Works IsNameWork (S.names_seen names.old) [] (S.names_seen names.new) }
-        ensures front { IfSome result (λ lent. lent.front ≡ length (S.keys_seen lent.keys).seen) }
+        ensures lent { IfSome result (λ lent. IsLent lent.front (S.keys_seen lent.keys)) }
     {
         for _ in 0..WALK_TRIES {
             match self.walk_once(names, zone) {
@@ -220,7 +220,7 @@ impl<
     /// Sends these paths.
     fn send_all(&self, zones: &[NPath]) -> Result<(), NoMemory> {
         for zone in zones {
-            let path = copy_of(self.alloc, zone)?;
+            let path = zone.copy(self.alloc)?;
             drop(self.senders.tasks.send(self.rt, path));
         }
         Ok(())

@@ -1,5 +1,5 @@
 -- A run of the server, from its parts.
-use Rattle.std.proofs.Common.{◌≡◌, ◌⊎◌, ◌+◌, ◌-◌, ◌^◌, ◌<◌, ◌≤◌, inl, inr, ℕ, zero, suc, Bool, true, false, [], Some, refl, ◌∙◌, sym, subst, ap, arith, IsTrue}
+use Rattle.std.proofs.Common.{◌≡◌, ◌⊎◌, ◌+◌, ◌-◌, ◌^◌, ◌<◌, ◌≤◌, inl, inr, ℕ, zero, suc, Bool, true, false, [], Some, refl, ◌∙◌, sym, subst, arith, IsTrue}
 use Rattle.std.specs.Prelude.{◌↔◌, ◌||◌, min}
 use Rattle.hk_base.specs.Disk.{DiskState}
 use Rattle.hk_base.specs.Faults.{Rose}

@@ -21,4 +21,4 @@ finish_meeting-requires-clause-got g c =
 pub returns-in-Some : goal.returns-in-Some
 returns-in-Some g c =
     finished_meeting g.S.Turns.state g.S.Turns.to_come (g.S.Turns.keys_seen c.call_wanted.new.pass) (g.S.Turns.names_seen c.args.names.now) (g.S.Turns.names_seen c.finish_meeting.new.pass) c.args.note c.call_wanted.result c.in-Some.reply c.finish_meeting.result
-    c.call_wanted.ensures.got c.call_wanted.ensures.answers c.in-Some.is c.finish_meeting.ensures
+    c.call_wanted.ensures.got c.call_wanted.ensures.none_met c.call_wanted.ensures.answers c.in-Some.is c.finish_meeting.ensures

@@ -1,4 +1,4 @@
-use Rattle.std.proofs.Common.{ap, refl, sym, subst, ◌∙◌}
+use Rattle.std.proofs.Common.{ap, sym, subst, ◌∙◌}
 use Rattle.hist_cell.specs.History.{Splits}
 use Rattle.server_parts.specs.Doors.{with_accepted}
 use Rattle.cell_server.specs.Connections.{Going, ServesEnds, Start}

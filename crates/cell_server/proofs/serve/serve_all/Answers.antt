@@ -1,5 +1,5 @@
-use Rattle.std.proofs.Common.{ap, refl, subst, ◌∙◌}
-use Rattle.server_parts.specs.Doors.{DoorState, with_port}
+use Rattle.std.proofs.Common.{ap, subst, ◌∙◌}
+use Rattle.server_parts.specs.Doors.{DoorState}
 use Rattle.cell_server.specs.Connections.{ServesEnds}
 use Rattle.cell_server.specs.Serves.{ServesAll}
 use Rattle.cell_server.proofs.ServeLemmas.{serves_after, serves_none}
