@@ -1,4 +1,2 @@
 pub mod Complete
-pub mod Ended
 pub mod Good
-pub mod ServerFiles

@@ -1,21 +1,17 @@
 -- A server that has ended keeps the promise on files in encryption zones.
-use Rattle.std.proofs.Common.{◌≡◌, inl, inr, ℕ, Bool, true, false, IsTrue, List, [], ◌∷◌, ◌++◌, Option, Some, refl, sym, ap, subst, ◌∙◌, append-nil, append_assoc}
+use Rattle.std.proofs.Common.{◌≡◌, inl, inr, ℕ, Bool, true, false, IsTrue, List, [], ◌∷◌, ◌++◌, Option, Some, sym, ap, subst, ◌∙◌, append-nil, append_assoc}
 use Rattle.std.specs.Prelude.{◌⊎◌, ◌&&◌}
 use Rattle.std.specs.List.{AllByRecursion}
 use Rattle.std.proofs.lemmas.List.{map-append}
 use Rattle.hk_base.specs.Disk.{DiskState, Image, Tells}
 use Rattle.frame_log.specs.Format.{IsAtRest}
-use Rattle.frame_log.specs.declared.fault.StartFault.{StartFault}
 use Rattle.prop_text.specs.declared.props.Props.{Props}
 use Rattle.key_rows.specs.Records.{HasSpelling, spelling}
 use Rattle.key_rows.specs.declared.rows.KeyCommand.{KeyCommand}
-use Rattle.key_rows.specs.declared.rows.KeyRow.{KeyRow}
-use Rattle.key_rows.specs.Table.{Table}
 use Rattle.kms_store.specs.Store as keys
 use Rattle.kms_store.specs.Store.{Opening}
 use Rattle.kms_core.specs.State.{IsService}
 use Rattle.name_store.specs.Store as names
-use Rattle.name_store.specs.Table.{NameTable}
 use Rattle.name_core.specs.State.{IsNames, service_of}
 use Rattle.hist_cell.specs.History.{LegalAfter, LegalOf, state_after}
 use Rattle.kms_cell.specs.Entries.{KmsEntry}
@@ -26,13 +22,12 @@ use Rattle.name_history.specs.Asked.{NameAllows}
 use Rattle.name_history.specs.Entries.{NameEntry}
 use Rattle.name_history.specs.Steps.{NameSteps}
 use Rattle.name_history.specs.Views.{NameView}
-use Rattle.world_run.specs.Ledger.{Draw, Ledger, Past, Starts}
-use Rattle.world_run.specs.Linked.{LinkedTables, SoundFiles}
-use Rattle.world_run.specs.Promise.{In}
-use Rattle.world_run.proofs.LawLemmas.{sound-open}
+use Rattle.world_run.specs.Ledger.{Ledger, Past, Starts}
+use Rattle.world_run.specs.Linked.{SoundFiles}
+use Rattle.world_run.proofs.KeptLemmas.{image_kept}
 use Rattle.thread_laws.specs.Cells.{AreClosed, KeptByCells}
 use Rattle.thread_laws.specs.Files.{BeginsFrom, IsFileOf, IsLeftBy}
-use Rattle.thread_laws.specs.Promise.{FilesKept as KeptFiles, KnownAfter}
+use Rattle.thread_laws.specs.Promise.{KnownAfter}
 use Rattle.thread_laws.specs.Worlds.{keys_of_view}
 use Rattle.thread_laws.proofs.CellLemmas.{closed_cells_keep_files}
 use Rattle.thread_laws.proofs.StartFiles.{starts_leave_sound}
@@ -42,9 +37,9 @@ use Rattle.cell_server.specs.Connections.{Serving}
 use Rattle.cell_server.specs.declared.ends.ServeEnd.{ServeEnd}
 use Rattle.server_run.specs.Opening.{HasNewOpening, KeysNotOpened, OnlyKeysOpened}
 use Rattle.server_run.specs.Runs.{RanServer}
-use Rattle.hkms_commands.specs.Headline.{FilesKept, ImageKept, IsKnownLater}
-use Rattle.command_laws.specs.ServerFiles.{ServerKept, ServersKeepFiles, UnopenedKeepFiles}
-use Rattle.command_laws.proofs.EndedLemmas.{first_act, first_call, last_act, last_call, mid_tells, new_tells, opened_tells}
+use Rattle.world_run.specs.Kept.{IsKnownLater}
+use Rattle.server_laws.specs.ServerFiles.{ServerKept, ServersKeepFiles, UnopenedKeepFiles}
+use Rattle.server_laws.proofs.EndedLemmas.{first_act, first_call, last_act, last_call, mid_tells, new_tells, opened_tells}
 
 both_true : (a b : Bool) → IsTrue (a && b) → IsTrue b
 both_true true b h = h
@@ -61,15 +56,6 @@ known_later v (e ∷ es) past last (next, first, rest) =
       begun = _;
       starts = more.starts ∙ ap (λ (l : Starts). l ++ more.begun) first.starts ∙ append_assoc past.starts _ more.begun;
     }
-
-image_kept : (known : Past) (c : Image) → SoundFiles known c → ImageKept known c
-image_kept known c sound = record { sound = sound; kept = λ s found found_names. record { files_open = sound-open known c s found found_names; one_file = one (s.linked found found_names) } }
-  where
-    one : {table : Table} {names : NameTable} → LinkedTables known table names → (i j : ℕ) (d f : Draw) → In (i, d) known.ledger → In (j, f) known.ledger → d.place ≡ f.place → i ≡ j
-    one l i j d f p q same = l.fits.one_file i j f (subst (λ (x : Draw). In (i, x) known.ledger) (l.draws.one_place d f (inl (i, p)) (inl (j, q)) same) p) q
-
-as_kept : (known : Past) (rows : List KeyRow) (table : NameTable) → KeptFiles known rows table → FilesKept known rows table
-as_kept known rows table k = record { files_open = k.files_open; one_file = k.one_file }
 
 -- a log couldn't be opened
 
@@ -200,7 +186,7 @@ module _ {D W I O : Type 0} (state : D → DiskState) (to_come : W → ℕ → �
     later = k.last;
     known = k.known;
     grows = known_later r.n acts past k.last k.known;
-    files = λ kept_keys kept_names. as_kept k.last _ _ (k.kept kept_keys kept_names);
+    files = k.kept;
     again = image_kept k.last new.reads (k.sound new.reads (left new.reads (inl read_keys) (inl (r.names_given.reads new_telling))));
     images = λ c keys_left names_left. image_kept k.last c (k.sound c (left c (inr keys_left) (inr names_left)));
   }

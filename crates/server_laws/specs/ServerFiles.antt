@@ -18,7 +18,7 @@ use Rattle.cell_server.specs.Connections.{Serving}
 use Rattle.cell_server.specs.declared.ends.ServeEnd.{ServeEnd}
 use Rattle.server_run.specs.Opening.{NoneOpened}
 use Rattle.server_run.specs.Runs.{RanServer}
-use Rattle.hkms_commands.specs.Headline.{FilesKept, ImageKept, IsKnownLater}
+use Rattle.world_run.specs.Kept.{FilesKept, ImageKept, IsKnownLater}
 
 -- What is known when a server has ended: what was known before, and what the finishes in the history of its namesystem entered. With it the
 -- promise on files is kept in the last state of both services, in the two files of the yard as they read, and in each two files that a crash

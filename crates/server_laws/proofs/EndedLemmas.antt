@@ -38,15 +38,15 @@ use Rattle.name_history.specs.declared.acts.NameAct.{NameAct}
 use Rattle.name_history.specs.declared.acts.NameAct.TheVariants as name_act
 use Rattle.name_history.specs.declared.acts.NameActed.{NameActed}
 use Rattle.name_history.specs.declared.acts.NameActed.TheVariants as name_acted
-use Rattle.name_cell.proofs.AskLemmas.{ask-stands}
+use Rattle.name_core.proofs.Layers.{stands_after_ask}
 use Rattle.server_parts.specs.Doors.{DoorState}
 use Rattle.server_parts.specs.Yards.{YardState}
 use Rattle.cell_server.specs.Connections.{Serving}
 use Rattle.cell_server.specs.declared.ends.ServeEnd.{ServeEnd}
 use Rattle.server_run.specs.Runs.{RanServer}
 use Rattle.server_run.proofs.FailureLemmas.{both_tell}
-use Rattle.hkms_commands.proofs.VerdictLemmas.{judged}
-use Rattle.command_laws.specs.Ended.{Acknowledges, AllAcknowledge, AllJudged, AllNamesAcknowledge, EntryIsJudged, HoldsKeys, HoldsNames, NameAcknowledges, ServersHoldLogs, ServersJudge}
+use Rattle.world_run.proofs.VerdictLemmas.{judged}
+use Rattle.server_laws.specs.Ended.{Acknowledges, AllAcknowledge, AllJudged, AllNamesAcknowledge, EntryIsJudged, HoldsKeys, HoldsNames, NameAcknowledges, ServersHoldLogs, ServersJudge}
 
 -- ---- the key management service
 
@@ -182,7 +182,7 @@ module _ {D W : Type 0} (state : D → DiskState) (to_come : W → ℕ → ℕ) 
     tells = ap (λ (d : D). (state d).tells) s.does.disk;
     stands = λ telling ops h.
         subst (λ (d : D). IsNamesystemOf (state d) v'.names (ops ++ [])) (sym s.does.disk)
-        (subst (IsNamesystemOf (state v.disk) v'.names) (sym (append-nil ops)) (ask-stands (state v.disk) v.names v'.names user a answer ops s.does.store s.does.asks h));
+        (subst (IsNamesystemOf (state v.disk) v'.names) (sym (append-nil ops)) (stands_after_ask (state v.disk) v.names v'.names user a answer ops s.does.asks s.does.store h));
   }
   name_step v (name_act.Finish answered) (name_acted.Finish answer) v' s = by_logs v (name_act.Finish answered) (name_acted.Finish answer) v' _ s.does.acts.logged s.does.acts.serves s.does.acts.disk
   name_step v (name_act.Walk zone) (name_acted.Walk answer) v' s = walk_step v zone answer v' s.does

@@ -43,7 +43,7 @@ use Rattle.server_parts.specs.Yards.{YardState}
 use Rattle.cell_server.specs.Connections.{Serving}
 use Rattle.cell_server.specs.declared.ends.ServeEnd.{ServeEnd}
 use Rattle.server_run.specs.Runs.{RanServer}
-use Rattle.hkms_commands.specs.Headline.{IsJudged}
+use Rattle.world_run.specs.Verdicts.{IsJudged}
 
 -- ---- the history of the key management service
 
