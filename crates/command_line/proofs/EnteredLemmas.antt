@@ -9,7 +9,7 @@ use Rattle.clap.specs.Walk.{Row, answers_to, nothing_held, settled, walk, walk_f
 use Rattle.clap.specs.Words.{Text, fault_of, subcommand_of}
 use Rattle.clap.specs.declared.error.ErrorKind.TheVariants.{ValueValidation}
 use Rattle.command_line.specs.Line as line
-use Rattle.command_line.specs.Orders.{conns_at, line_fault, number_fault, numbers_fault, order_at, places_at, port_at, serve_order}
+use Rattle.command_line.specs.Orders.{conns_at, count_at, line_fault, load_order, number_fault, numbers_fault, order_at, places_at, port_at, serve_order}
 use Rattle.command_line.specs.declared.order.Order.{Order}
 
 second : (a b : Kinds) → or_else a b ≡ [] → b ≡ []
@@ -70,8 +70,12 @@ not_served (Some port) (Some conns) None e = refl
 not_served (Some port) None places e = refl
 not_served None conns places e = refl
 
+not_loaded : (count : Option ℕ) → load_order count ≡ None → number_fault count ≡ ValueValidation ∷ []
+not_loaded (Some count) e = cc
+not_loaded None e = refl
+
 known : EachIsKnown (built line.hkms).subs
-known = ((λ rows e. cc), ((λ rows e. cc), ((λ rows e. not_served _ _ _ e), tt)))
+known = ((λ rows e. cc), ((λ rows e. cc), ((λ rows e. not_served _ _ _ e), ((λ rows e. not_loaded _ e), tt))))
 
 -- words in which clap finds no fault, and which have no order, have a number that is refused
 pub a_number_is_refused : (words : List Text) → fault_of line.hkms words ≡ [] → order_at (subcommand_of line.hkms words) ≡ None → line_fault words ≡ ValueValidation ∷ []
@@ -84,14 +88,21 @@ served (Some port) (Some conns) None order e = cc
 served (Some port) None places order e = cc
 served None conns places order e = cc
 
+loaded : (count : Option ℕ) (order : Order) → load_order count ≡ Some order → number_fault count ≡ []
+loaded (Some count) order e = refl
+loaded None order e = cc
+
 numbers_pass : (entered : Option (Text × List Row)) (order : Order) → order_at entered ≡ Some order → numbers_fault entered ≡ []
 numbers_pass None order e = refl
-numbers_pass (Some command) order e = by (bytes_eq command.0 (codes "serve")) _ e
+numbers_pass (Some command) order e = by (bytes_eq command.0 (codes "serve")) (bytes_eq command.0 (codes "load")) _ e
   where
-    by : (b : Bool) (other : Option Order) → (if b then serve_order (port_at command.1) (conns_at command.1) (places_at command.1) else other) ≡ Some order
-        → (if b then or_else (number_fault (port_at command.1)) (or_else (number_fault (conns_at command.1)) (number_fault (places_at command.1))) else []) ≡ []
-    by true other e = served (port_at command.1) (conns_at command.1) (places_at command.1) order e
-    by false other e = refl
+    by : (serves loads : Bool) (other : Option Order)
+        → (if serves then serve_order (port_at command.1) (conns_at command.1) (places_at command.1) else (if loads then load_order (count_at command.1) else other)) ≡ Some order
+        → (if serves then or_else (number_fault (port_at command.1)) (or_else (number_fault (conns_at command.1)) (number_fault (places_at command.1)))
+        else (if loads then number_fault (count_at command.1) else [])) ≡ []
+    by true loads other e = served (port_at command.1) (conns_at command.1) (places_at command.1) order e
+    by false true other e = loaded (count_at command.1) order e
+    by false false other e = refl
 
 -- words in which clap finds no fault, and which have an order, have no fault
 pub no_number_is_refused : (words : List Text) (order : Order) → fault_of line.hkms words ≡ [] → order_at (subcommand_of line.hkms words) ≡ Some order → line_fault words ≡ []

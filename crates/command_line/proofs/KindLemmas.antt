@@ -17,7 +17,7 @@ use Rattle.clap.specs.declared.builder.ArgAction.TheVariants.{Set, Append, SetTr
 use Rattle.clap.specs.declared.error.ErrorKind.{ErrorKind}
 use Rattle.clap.specs.declared.error.ErrorKind.TheVariants.{DisplayHelp, DisplayVersion}
 use Rattle.command_line.specs.Line as line
-use Rattle.command_line.specs.Orders.{conns_at, line_fault, number_fault, numbers_fault, places_at, port_at}
+use Rattle.command_line.specs.Orders.{conns_at, count_at, line_fault, number_fault, numbers_fault, places_at, port_at}
 
 -- none of the kinds is help or version
 abbrev NotShown : Kinds → Type 0
@@ -220,9 +220,10 @@ number-single None = tt
 numbers-single : (entered : Option (Text × List Row)) → IsSingle (numbers_fault entered)
 numbers-single None = tt
 numbers-single (Some command) =
-    single-if (bytes_eq command.0 (codes "serve")) _ []
+    single-if (bytes_eq command.0 (codes "serve")) _ _
     (single-or (number_fault (port_at command.1)) _ (number-single (port_at command.1))
-    (single-or (number_fault (conns_at command.1)) (number_fault (places_at command.1)) (number-single (conns_at command.1)) (number-single (places_at command.1)))) tt
+    (single-or (number_fault (conns_at command.1)) (number_fault (places_at command.1)) (number-single (conns_at command.1)) (number-single (places_at command.1))))
+    (single-if (bytes_eq command.0 (codes "load")) (number_fault (count_at command.1)) [] (number-single (count_at command.1)) tt)
 
 line-single : (words : List Text) → IsSingle (line_fault words)
 line-single words =

@@ -1,5 +1,7 @@
 pub mod EnteredLemmas
 pub mod KindLemmas
+mod LoadLemmas
 mod NumberLemmas
 pub mod OrderLemmas
+mod PlainLemmas
 mod SpellingLemmas

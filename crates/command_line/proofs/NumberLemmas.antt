@@ -1,5 +1,5 @@
 -- Numbers in decimal: reading them, and how clap sees them as words.
-use Rattle.std.proofs.Common.{refl, List, [], ◌∷◌, ◌≡◌, ◌<◌, ◌≤◌, ◌^◌, ℕ, Some, None, Bool, true, false, arith, length, ◌==◌, ◌&&◌, ap, ◌∙◌}
+use Rattle.std.proofs.Common.{refl, List, [], ◌∷◌, ◌≡◌, ◌<◌, ◌≤◌, ◌^◌, ℕ, Some, None, Bool, true, false, arith, length, ◌==◌, ◌&&◌, ap, ◌∙◌, ◌⊎◌, inl, inr}
 use Rattle.std.proofs.lemmas.Bool.Decides.{nat_tests}
 use Rattle.std.proofs.lemmas.Bool.{ne_eqb}
 use Rattle.std.proofs.lemmas.Fmt.{decimal_is_IsNumeral}
@@ -45,6 +45,43 @@ fits : (most v : ℕ) → 1 ≤ v → v ≤ most → most < 2 ^ 63 → (fits_i64
 fits most v some few small =
     both (nat_lt v (2 ^ 63)) _ (grind (arith, nat_tests))
     (both (nat_le 1 v) (nat_le v most) (grind (arith, nat_tests)) (grind (arith, nat_tests)))
+
+-- the word is no flag, and clap reads it as no number from 1 to `most`
+pub record IsRefusedWord (most : ℕ) (t : List ℕ) : Type 0 where
+  pub no_long : long_of t ≡ None
+  pub no_short : short_of t ≡ None
+  pub no_dashes : bytes_eq t (45 ∷ 45 ∷ []) ≡ false
+  pub refused : is_signed_in (pos 1) (pos most) t ≡ false
+
+no_second : (a b : Bool) → b ≡ false → (a && b) ≡ false
+no_second true b e = e
+no_second false b e = refl
+
+no_first : (a b : Bool) → a ≡ false → (a && b) ≡ false
+no_first true b e = cc
+no_first false b e = refl
+
+does_not_fit : (most v : ℕ) → (v ≡ 0) ⊎ (most < v) → (fits_i64 (pos v) && (int_le (pos 1) (pos v) && int_le (pos v) (pos most))) ≡ false
+does_not_fit most v (inl none) = no_second (nat_lt v (2 ^ 63)) _ (no_first (nat_le 1 v) (nat_le v most) (grind (arith, nat_tests)))
+does_not_fit most v (inr many) = no_second (nat_lt v (2 ^ 63)) _ (no_second (nat_le 1 v) (nat_le v most) (grind (arith, nat_tests)))
+
+other_numeral : (most : ℕ) (t : List ℕ) → IsNumeral 10 t → (digits_value 10 t ≡ 0) ⊎ (most < digits_value 10 t) → IsRefusedWord most t
+other_numeral most [] h other = absurd (omega (arith, h.0))
+other_numeral most (d ∷ ds) h other =
+    let range = digit_from_value d h.1.0 in
+    let minus : (d == 45) ≡ false = ne_eqb _ _ (λ e. omega arith) in
+    let plus : (d == 43) ≡ false = ne_eqb _ _ (λ e. omega arith) in
+    record {
+      no_long = rw minus refl;
+      no_short = rw minus refl;
+      no_dashes = rw minus refl;
+      refused = rw (minus, plus) (no_second (is_numeral (d ∷ ds)) _ (does_not_fit most (digits_value 10 (d ∷ ds)) other));
+    }
+
+pub other_number : (most n : ℕ) → n < 2 ^ 64 → (n ≡ 0) ⊎ (most < n) → IsRefusedWord most (decimal n)
+other_number most n small other =
+    let is = decimal_is_IsNumeral n small in
+    other_numeral most (decimal n) is.0 (rw is.1 other)
 
 numeral_word : (most : ℕ) (t : List ℕ) → IsNumeral 10 t → 1 ≤ digits_value 10 t → digits_value 10 t ≤ most → most < 2 ^ 63 → IsNumberWord most t
 numeral_word most [] h some few small = absurd (omega (arith, h.0))

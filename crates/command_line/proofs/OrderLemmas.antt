@@ -10,11 +10,12 @@ use Rattle.clap.specs.declared.error.ErrorKind.TheVariants.{DisplayHelp, Display
 use Rattle.command_line.specs.Line as line
 use Rattle.command_line.specs.Orders.{Answers, FindsHelp, FindsVersion, HasMistake, IsHelp, IsMistake, IsShown, IsSpelled, IsVersion, Names, ShownAs, line_fault, order_at}
 use Rattle.command_line.specs.declared.order.Order.{Order}
-use Rattle.command_line.specs.declared.order.Order.TheVariants.{Replay, Pipe, Serve, Help, Version}
+use Rattle.command_line.specs.declared.order.Order.TheVariants.{Replay, Pipe, Serve, Load, Help, Version}
 use Rattle.command_line.specs.declared.order.OrderFault.{OrderFault}
 use Rattle.command_line.specs.declared.order.OrderFault.TheVariants.{Usage, NoMemory}
 use Rattle.command_line.proofs.EnteredLemmas.{a_number_is_refused, no_number_is_refused}
 use Rattle.command_line.proofs.KindLemmas.{found_by_clap, shown_alone}
+use Rattle.command_line.proofs.LoadLemmas.{load_reads}
 use Rattle.command_line.proofs.SpellingLemmas.{Reading, reads_places, serve_reads}
 
 faultless : (words : List Text) (o : Order) → Reading words o → line_fault words ≡ []
@@ -49,6 +50,7 @@ spelled Pipe words s = rw s pipe_reads
 spelled (Serve port conns places) words (inl (at_a_time, port_words, conns_words, port_is, conns_is, order)) =
     serve_reads port conns places words port_words conns_words at_a_time port_is conns_is order
 spelled (Serve port conns places) words (inr (port_is, conns_is, places_words, places_is, is)) = reads_places port conns places words places_words port_is conns_is places_is is
+spelled (Load count) words s = load_reads count words s.0 s.1
 spelled (Help text) words s = absurd s
 spelled (Version text) words s = absurd s
 
@@ -97,6 +99,10 @@ named_from (Ok a) words (inr (inl q)) g o s =
 named_from (Ok a) words (inr (inr q)) g o s =
     let none : line_fault words ≡ [] = faultless words o (spelled o words s) in
     absurd (subst (IsAmong DisplayVersion) none q.1)
+
+pub load_is_named : Names (Load 1) (codes "load" ∷ codes "1" ∷ [])
+load_is_named =
+    spelling_is_named (Load 1) _ ((omega arith, omega arith), ap (λ x. codes "load" ∷ x ∷ []) (sym (decimal_digit 1 (omega arith))))
 
 abbrev pub OrderRead : Type 0
 OrderRead = Result Order OrderFault

@@ -15,7 +15,7 @@ use Rattle.command_line.proofs.NumberLemmas.{IsNumberWord, number_at-word, numbe
 unfoldable pub Reading : List Text → Order → Type 0
 Reading words o = (line_fault words ≡ []) × (order_at (subcommand_of line.hkms words) ≡ Some o)
 
-reading_at : (words at : List Text) (o : Order) → words ≡ at → fault_of line.hkms at ≡ [] → order_at (subcommand_of line.hkms at) ≡ Some o → Reading words o
+pub reading_at : (words at : List Text) (o : Order) → words ≡ at → fault_of line.hkms at ≡ [] → order_at (subcommand_of line.hkms at) ≡ Some o → Reading words o
 unfolding Reading
 reading_at words at o e f g = subst (λ (w : List Text). (line_fault w ≡ []) × (order_at (subcommand_of line.hkms w) ≡ Some o)) (sym e) (no_number_is_refused at o f g, g)
 

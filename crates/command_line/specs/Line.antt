@@ -39,6 +39,17 @@ serve = with_rule (with_rule (with_rule (new_app (codes "serve")) port) conns) c
 abbrev pub with_serve : App → App
 with_serve program = with_subcommand program serve.top
 
+-- the number of steps, which has no name on the command line and is required; clap reads it as one from 1 to 20,000
+abbrev pub count : Rule
+count = record (new_rule (codes "count")) { value_names = 1; parser = Some (parser.Signed (pos 1) (pos 20000)); required = true }
+
+abbrev pub load : App
+load = with_rule (new_app (codes "load")) count
+
+-- one more command, which is `load`
+abbrev pub with_load : App → App
+with_load program = with_subcommand program load.top
+
 -- the program with its commands
 abbrev pub hkms : App
-hkms = with_serve (with_plain (with_plain top (codes "replay")) (codes "pipe"))
+hkms = with_load (with_serve (with_plain (with_plain top (codes "replay")) (codes "pipe")))

@@ -1,5 +1,5 @@
 -- The orders that the words of a command line give.
-use Rattle.std.specs.Prelude.{◌≡◌, ◌≢◌, ◌≤◌, ◌⊎◌, ◌&&◌, ℕ, List, [], ◌∷◌, ◌++◌, codes, nat_le, Option, Some, None, if◌then◌else◌, option_and_then, Result, MatchResult}
+use Rattle.std.specs.Prelude.{◌≡◌, ◌≢◌, ◌≤◌, ◌⊎◌, ◌&&◌, ℕ, List, [], ◌∷◌, ◌++◌, codes, nat_le, Option, Some, None, if◌then◌else◌, option_and_then, option_map, Result, MatchResult}
 use Rattle.std.specs.Fmt.{decimal}
 use Rattle.std.specs.Option.{option_map_or}
 use Rattle.std.specs.Str.{bytes_eq}
@@ -10,7 +10,7 @@ use Rattle.clap.specs.declared.error.ErrorKind.{ErrorKind}
 use Rattle.clap.specs.declared.error.ErrorKind.TheVariants.{DisplayHelp, DisplayVersion, ValueValidation}
 use Rattle.command_line.specs.Line as line
 use Rattle.command_line.specs.declared.order.Order.{Order}
-use Rattle.command_line.specs.declared.order.Order.TheVariants.{Replay, Pipe, Serve, Help, Version}
+use Rattle.command_line.specs.declared.order.Order.TheVariants.{Replay, Pipe, Serve, Load, Help, Version}
 use Rattle.command_line.specs.declared.order.OrderFault.{OrderFault}
 use Rattle.command_line.specs.declared.order.OrderFault.TheVariants.{NoMemory}
 
@@ -44,18 +44,26 @@ serve_order (Some port) (Some conns) None = None
 serve_order (Some port) None places = None
 serve_order None conns places = None
 
--- the order of a command with this name and these options
+-- the number of steps that is given to `load`
+abbrev pub count_at : List Row → Option ℕ
+count_at rows = option_and_then (number_at 20000) (first_of (codes "count") rows)
+
+abbrev pub load_order : Option ℕ → Option Order
+load_order count = option_map Load count
+
+-- the order of a command with this name and these values
 abbrev pub order_named : Text → List Row → Option Order
 order_named name rows =
     if bytes_eq name (codes "serve") then serve_order (port_at rows) (conns_at rows) (places_at rows)
+    else (if bytes_eq name (codes "load") then load_order (count_at rows)
     else (if bytes_eq name (codes "replay") then Some Replay
-    else (if bytes_eq name (codes "pipe") then Some Pipe else None))
+    else (if bytes_eq name (codes "pipe") then Some Pipe else None)))
 
 -- the order of the command that a parse entered
 abbrev pub order_at : Option (Text × List Row) → Option Order
 order_at entered = option_and_then (λ command. order_named command.0 command.1) entered
 
--- the fault of a value that is no number of its option
+-- the fault of a value that is no number in its range
 abbrev pub number_fault : Option ℕ → Kinds
 number_fault (Some number) = []
 number_fault None = ValueValidation ∷ []
@@ -65,7 +73,8 @@ abbrev pub numbers_fault : Option (Text × List Row) → Kinds
 numbers_fault None = []
 numbers_fault (Some command) =
     if bytes_eq command.0 (codes "serve")
-    then or_else (number_fault (port_at command.1)) (or_else (number_fault (conns_at command.1)) (number_fault (places_at command.1))) else []
+    then or_else (number_fault (port_at command.1)) (or_else (number_fault (conns_at command.1)) (number_fault (places_at command.1)))
+    else (if bytes_eq command.0 (codes "load") then number_fault (count_at command.1) else [])
 
 -- The faults of the words: those that clap finds, or else those of the numbers. Clap takes `+1` and `01` for numbers, too.
 abbrev pub line_fault : List Text → Kinds
@@ -84,6 +93,15 @@ IsHelp _ = ⊥
 abbrev pub IsVersion : Order → Type 0
 IsVersion (Version text) = Unit {0}
 IsVersion _ = ⊥
+
+-- the number of steps of a load
+abbrev pub IsRightCount : ℕ → Type 0
+IsRightCount count = (1 ≤ count) × (count ≤ 20000)
+
+-- a load has a right number of steps
+abbrev pub HasRightCount : Order → Type 0
+HasRightCount (Load count) = IsRightCount count
+HasRightCount _ = Unit {0}
 
 -- The order is what the words say: they have no fault and enter the command of the order, or they ask for help or for
 -- the version.
@@ -118,7 +136,7 @@ IsOption name absent most number words =
 abbrev pub IsServe : List Text → List Text → List Text → Type 0
 IsServe port conns words = (words ≡ codes "serve" ∷ (port ++ conns)) ⊎ (words ≡ codes "serve" ∷ (conns ++ port))
 
--- the words that name a command with its options, and nothing else
+-- the words that name a command with its options or its number, and nothing else
 abbrev pub IsSpelled : Order → List Text → Type 0
 IsSpelled Replay words = words ≡ codes "replay" ∷ []
 IsSpelled Pipe words = words ≡ codes "pipe" ∷ []
@@ -127,6 +145,7 @@ IsSpelled (Serve port conns places) words =
     × IsOption (codes "--conns") 4294967295 4294967295 conns conns_words × IsServe port_words conns_words words)
     ⊎ ((port ≡ 9600) × (conns ≡ 4294967295) × (places_words : List Text) × IsOption (codes "--connections") 16 1024 places places_words
     × (words ≡ codes "serve" ∷ places_words))
+IsSpelled (Load count) words = IsRightCount count × (words ≡ codes "load" ∷ decimal count ∷ [])
 IsSpelled (Help text) words = ⊥
 IsSpelled (Version text) words = ⊥
 
@@ -136,7 +155,7 @@ IsHelpFlag word = (word ≡ codes "--help") ⊎ (word ≡ codes "-h")
 
 -- the word is the name of a command
 abbrev pub IsCommand : Text → Type 0
-IsCommand word = (word ≡ codes "replay") ⊎ ((word ≡ codes "pipe") ⊎ (word ≡ codes "serve"))
+IsCommand word = (word ≡ codes "replay") ⊎ ((word ≡ codes "pipe") ⊎ ((word ≡ codes "serve") ⊎ (word ≡ codes "load")))
 
 -- the words begin with a request for help with the program or with a command, whatever follows
 abbrev pub AsksForHelp : List Text → Type 0

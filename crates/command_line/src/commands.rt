@@ -53,23 +53,82 @@ fn number_option<'a>(
         .value_parser(numbers)
 }
 
+/// Declares the option `--port`.
+fn port_option<'a>(alloc: Global) -> Arg<'a>
+    ensures rule { rule_of result ≡ line.port }
+    ensures local { result.global ≡ false }
+{
+    let ports = value_parser!(u16).range(1..);
+    number_option(alloc, "port", help::PORT, ports)
+}
+
+/// Declares the option `--conns`.
+fn conns_option<'a>(alloc: Global) -> Arg<'a>
+    ensures rule { rule_of result ≡ line.conns }
+    ensures local { result.global ≡ false }
+{
+    let counts = value_parser!(u32).range(1..);
+    number_option(alloc, "conns", help::CONNS, counts)
+}
+
+/// Declares the option `--connections`.
+fn connections_option<'a>(alloc: Global) -> Arg<'a>
+    ensures rule { rule_of result ≡ line.connections }
+    ensures local { result.global ≡ false }
+{
+    let places = value_parser!(u16).range(1..=1024);
+    number_option(alloc, "connections", help::CONNECTIONS, places)
+}
+
+/// Declares `serve` with its options.
+fn serve<'a>(alloc: Global) -> Result<Command<'a>, AllocError>
+    ensures { IfOk result (λ r. app_of r ≡ line.serve) }
+{
+    let plain = Command::new(alloc, "serve")
+        .about(help::SERVE)
+        .after_help(help::SERVE_NOTES);
+    let half = plain.arg(port_option(alloc))?;
+    let most = half.arg(conns_option(alloc))?;
+    most.arg(connections_option(alloc))
+}
+
 /// Adds the command `serve`.
 fn with_serve<'a>(alloc: Global, program: Command<'a>) -> Result<Command<'a>, AllocError>
     ensures { IfOk result (λ r. app_of r ≡ line.with_serve (app_of program.entry)) }
 {
-    let ports = value_parser!(u16).range(1..);
-    let port = number_option(alloc, "port", help::PORT, ports);
-    let counts = value_parser!(u32).range(1..);
-    let conns = number_option(alloc, "conns", help::CONNS, counts);
-    let places = value_parser!(u16).range(1..=1024);
-    let connections = number_option(alloc, "connections", help::CONNECTIONS, places);
-    let plain = Command::new(alloc, "serve")
-        .about(help::SERVE)
-        .after_help(help::SERVE_NOTES);
-    let half = plain.arg(port)?;
-    let most = half.arg(conns)?;
-    let serve = most.arg(connections)?;
+    let serve = serve(alloc)?;
     program.subcommand(serve)
+}
+
+/// Declares the number of steps, without which there is no `load`.
+fn count_argument<'a>(alloc: Global) -> Arg<'a>
+    ensures rule { rule_of result ≡ line.count }
+    ensures local { result.global ≡ false }
+{
+    let counts = value_parser!(u32).range(1..=20_000);
+    Arg::new(alloc, "count")
+        .value_name("N")
+        .help(help::COUNT)
+        .required(true)
+        .value_parser(counts)
+}
+
+/// Declares `load` with its number.
+fn load<'a>(alloc: Global) -> Result<Command<'a>, AllocError>
+    ensures { IfOk result (λ r. app_of r ≡ line.load) }
+{
+    let plain = Command::new(alloc, "load")
+        .about(help::LOAD)
+        .after_help(help::LOAD_NOTES);
+    plain.arg(count_argument(alloc))
+}
+
+/// Adds the command `load`.
+fn with_load<'a>(alloc: Global, program: Command<'a>) -> Result<Command<'a>, AllocError>
+    ensures { IfOk result (λ r. app_of r ≡ line.with_load (app_of program.entry)) }
+{
+    let load = load(alloc)?;
+    program.subcommand(load)
 }
 
 /// Declares the program with its commands.
@@ -79,5 +138,6 @@ pub(crate) fn hkms<'a>(alloc: Global) -> Result<Command<'a>, AllocError>
     let program = top(alloc)?;
     let half = with_plain(alloc, program, "replay", help::REPLAY, help::REPLAY_NOTES)?;
     let most = with_plain(alloc, half, "pipe", help::PIPE, help::PIPE_NOTES)?;
-    with_serve(alloc, most)
+    let served = with_serve(alloc, most)?;
+    with_load(alloc, served)
 }

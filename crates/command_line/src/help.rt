@@ -7,7 +7,8 @@ pub(crate) const VERSION: &str = "0.1.0";
 pub(crate) const PROGRAM: &str = "Hadoop key management server for HDFS encryption zones";
 
 /// The files and the exit statuses of the commands.
-pub(crate) const PROGRAM_NOTES: &str = "Each command uses these files of the current folder:
+pub(crate) const PROGRAM_NOTES: &str =
+    "Each command but 'load' uses these files of the current folder:
   keys.log             the keys; a change is written here before it is answered
   names.log            directories, files and zones, written in the same way
   kms-acls.properties  access control lists: who may do what with which key
@@ -19,7 +20,8 @@ process at a time can use the logs of a folder.
 
 Exit status:
    0  the input was read to its end, or a request closed the connection, or all
-      connections of 'serve' were served, or a byte came on hkms.stop
+      connections of 'serve' were served, or a byte came on hkms.stop, or 'load'
+      came to its end
    2  the command line has a mistake; nothing was read, and no log was made
    3  the input or kms-acls.properties has a mistake
    4  keys.log or names.log is damaged
@@ -31,8 +33,7 @@ Exit status:
    9  the port of 'serve' cannot be opened, or accepting a connection failed
   10  a log was opened 4,294,967,295 times, and cannot be opened again
 
-'hkms replay --help', 'hkms pipe --help' and 'hkms serve --help' say what a
-command reads and writes.";
+'hkms replay --help' and so on say what a command reads and writes.";
 
 /// The purpose of `replay`, in one line.
 pub(crate) const REPLAY: &str = "Runs the calls of an event text and writes their answers";
@@ -154,3 +155,32 @@ input is not read. What ends it:
 The last line goes to standard output. What was answered before that stands.
 docs/rest.md has the requests, the bodies and the messages. The files are those
 of the current folder: see 'hkms --help'.";
+
+/// The purpose of `load`, in one line.
+pub(crate) const LOAD: &str = "Runs a load in memory and writes one line that sums it up";
+
+/// What the number of `load` gives.
+pub(crate) const COUNT: &str = "Steps, from 1 to 20000";
+
+/// The steps, the output and the exit statuses of `load`.
+pub(crate) const LOAD_NOTES: &str =
+    "It makes four encryption zones in memory and takes N steps in them. Each step makes
+or deletes a file, rolls a key, takes a snapshot or generates encrypted keys. Then
+each zone is re-encrypted. N alone says what the steps are. No file is read or
+written, except that /dev/urandom is read, and standard input is not read.
+
+Standard output gets one line, as this one of 'hkms load 10':
+
+    load events=10 created=8 deleted=0 rolled=1 ready=0 snapshots=1 refused=0 reencrypted=2
+
+It has the number of steps, of files that were made and deleted, of rolls, of
+encrypted keys that were generated, of snapshots, of steps that were refused, and
+of files that got another encrypted key. It is the same in each run.
+
+  Status  Last line            Cause
+     0    the line above       all steps were taken
+     6    no memory            there was no memory
+     7    no random source     /dev/urandom cannot be read
+     8    none                 the output cannot be written
+
+docs/operations.md says what it is good for.";

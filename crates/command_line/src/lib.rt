@@ -7,6 +7,6 @@ mod laws;
 mod order;
 mod reading;
 
-pub use laws::{commands_alone_are_named, options_are_named};
+pub use laws::{commands_alone_are_named, loads_have_a_count, options_are_named};
 pub use order::{Order, OrderFault};
 pub use reading::read_order;

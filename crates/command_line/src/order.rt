@@ -17,6 +17,11 @@ pub enum Order {
         /// How many of them are served at a time, from 1 to 1,024.
         places: u16,
     },
+    /// Run a load of this number of steps over a disk in memory, and write the line that sums it up.
+    Load {
+        /// From 1 to 20,000.
+        count: u32,
+    },
     /// Write this help text to standard output and end with status 0. It ends with a line feed.
     Help(String),
     /// Write this text, the program's name and version, to standard output and end with status 0.

@@ -1,7 +1,7 @@
 //! Parsing a command line.
 ghost use Rattle.std.specs.Prelude.{◌≡◌, ◌≢◌, ◌⊎◌, ◌≤◌, IfErr, IfOk, IfSome, Ok, Err, map, option_map};
 ghost use Rattle.clap.specs.Words.{first_of, found_of, kind_of, rows_of, subcommand_rows_of};
-ghost use Rattle.command_line.specs.Orders.{Answers, FindsHelp, FindsVersion, HasMistake, IsHelp, IsMistake, IsShown, IsSpelled, IsVersion, ShownAs, in_range, line_fault, number_at, number_or, order_at, order_named};
+ghost use Rattle.command_line.specs.Orders.{Answers, FindsHelp, FindsVersion, HasMistake, HasRightCount, IsHelp, IsMistake, IsShown, IsSpelled, IsVersion, ShownAs, in_range, line_fault, count_at, number_at, number_or, order_at, order_named};
 ghost use Rattle.command_line.specs.declared.order.Order.{Order as AnOrder};
 
 use crate::commands::hkms;
@@ -17,6 +17,9 @@ const DEFAULT_PORT: u32 = 9600;
 
 /// How many connections `serve` serves at a time without an option.
 const DEFAULT_PLACES: u32 = 16;
+
+/// The greatest number of steps of `load`.
+const MOST_STEPS: u32 = 20_000;
 
 /// Returns the number if it is one from 1 to `most`.
 fn in_range(number: u64, most: u32) -> Option<u32>
@@ -52,6 +55,16 @@ fn number_or(options: &ArgMatches, name: &str, absent: u32, most: u32) -> Option
     }
 }
 
+/// Returns the number of steps, if it is given.
+fn count_of(values: &ArgMatches) -> Option<u32>
+    ensures { result ≡ count_at (rows_of (found_of values.now)) }
+{
+    match values.get_str("count") {
+        Some(text) => number_at(text, MOST_STEPS),
+        None => None,
+    }
+}
+
 /// Returns the order of the command with this name and these options.
 fn order_named(name: &str, options: &ArgMatches) -> Option<Order>
     ensures { result ≡ order_named name.now (rows_of (found_of options.now)) }
@@ -65,6 +78,9 @@ fn order_named(name: &str, options: &ArgMatches) -> Option<Order>
             conns,
             places,
         })
+    } else if name == "load" {
+        let count = count_of(options)?;
+        Some(Order::Load { count })
     } else if name == "replay" {
         Some(Order::Replay)
     } else if name == "pipe" {
@@ -124,9 +140,10 @@ fn texts_of<'w>(alloc: Global, words: &'w [Text]) -> Result<Vec<&'w str>, AllocE
 /// Parses the words of a command line, without the program's own name.
 ///
 /// `replay` and `pipe` are commands, of one word each. `serve` is a command with the options
-/// `--port N`, `--conns N` and `--connections N`, each also with `=` before its number, which is decimal,
-/// without a sign or a leading zero. `--help` or `-h` asks for a help text, and `--version` or `-V` for the version; what
-/// follows them counts for nothing. Other words are refused as `OrderFault::Usage`. The first fault
+/// `--port N`, `--conns N` and `--connections N`, each also with `=` before its number. `load` is a command
+/// whose next word is a number from 1 to 20,000. Numbers are decimal, without a sign or a leading zero. `--help`
+/// or `-h` asks for a help text, and `--version` or `-V` for the version; what follows them counts for nothing.
+/// Other words are refused as `OrderFault::Usage`. The first fault
 /// that `clap` finds decides.
 /// `OrderFault::NoMemory` may come in place of any other answer.
 pub fn read_order(alloc: Global, words: &[Text]) -> Result<Order, OrderFault>
@@ -136,6 +153,7 @@ pub fn read_order(alloc: Global, words: &[Text]) -> Result<Order, OrderFault>
     ensures named { (order : AnOrder) → IsSpelled order words.now → (result ≡ Ok order) ⊎ (result ≡ Err OrderFault.NoMemory) }
     ensures help { FindsHelp words.now → ShownAs IsHelp result }
     ensures version { FindsVersion words.now → ShownAs IsVersion result }
+    ensures count { IfOk result HasRightCount }
 {
     let texts = texts_of(alloc, words)?;
     read(alloc, texts.as_slice())

@@ -1,4 +1,5 @@
 use Rattle.std.proofs.Common.{rules}
+use Rattle.command_line.proofs.LoadLemmas.{counted_from}
 use Rattle.command_line.proofs.OrderLemmas.{help_from, mistake_from, named_from, usage_from, version_from}
 use Rattle.command_line.proofs.reading.read_order.Goals as goal
 
@@ -16,3 +17,6 @@ returns-clause-help c = help_from c.read.result c.args.words.now (search rules) 
 
 pub returns-clause-version : goal.returns-clause-version
 returns-clause-version c = version_from c.read.result c.args.words.now (search rules) (search rules)
+
+pub returns-clause-count : goal.returns-clause-count
+returns-clause-count c = counted_from c.read.result c.args.words.now (search rules)
