@@ -6,20 +6,20 @@ use Rattle.hk_events.specs.declared.event.Event.{Event}
 use Rattle.hk_events.specs.declared.event.Event.TheVariants as event
 use Rattle.hk_events.specs.declared.event.Line.{Line}
 use Rattle.key_rows.specs.Table.{Table}
-use Rattle.kms_store.specs.Store.{settled_table}
 use Rattle.name_store.specs.Table.{NameTable}
 use Rattle.prop_text.specs.declared.lines.PropLine.{PropLine}
 use Rattle.prop_text.specs.declared.props.Props.{Props}
 use Rattle.world_run.specs.Acknowledged.{Acknowledged, LeavesBoth}
 use Rattle.world_run.specs.Keeps.{LeftByStarts}
+use Rattle.world_run.specs.Kept.{IsKnownLater}
 use Rattle.world_run.specs.Ledger.{Draw, Hidden, Ledger, Past, Starts, drawn_before, hidden_after, past_of}
-use Rattle.world_run.specs.Linked.{DrawsApart, LinkedTables, SoundFiles, StartsSound, WordsApart}
+use Rattle.world_run.specs.Linked.{DrawsApart, SoundFiles, StartsSound, WordsApart}
 use Rattle.world_run.specs.Promise.{In}
 use Rattle.world_run.specs.World.{WorldState, first_world}
-use Rattle.world_run.proofs.LawLemmas.{sound-open}
+use Rattle.world_run.proofs.KeptLemmas.{image_kept}
 use Rattle.world_run.proofs.PastLemmas.{deposit-past, draw-past, serve-past}
 use Rattle.command_io.specs.declared.ends.ReplayEnd.{ReplayEnd}
-use Rattle.hkms_commands.specs.Headline.{ConnectionKeepsFiles, HasVerdict, Headline, ImageKept, IsKnownLater, IsPart, KeepsFiles, NothingHappened, WorldKept, known_after}
+use Rattle.hkms_commands.specs.Headline.{ConnectionKeepsFiles, HasVerdict, Headline, IsPart, KeepsFiles, NothingHappened, WorldKept, known_after}
 use Rattle.hkms_commands.specs.Logs.{HiddenBefore, NoRestart, OnDisk, SurvivesLast, SurvivesUntil, opened_logs}
 use Rattle.hkms_commands.specs.Pipe.{Converses, Pipe, PipeUnder}
 use Rattle.hkms_commands.specs.PlayedLines.{PlayedLine, events_of_lines, lines_in}
@@ -121,12 +121,6 @@ world_kept w h is kept_keys kept_names = record { files_open = is.files_open kep
     one : (i j : ℕ) (d f : Draw) → In (i, d) h.ledger → In (j, f) h.ledger → d.place ≡ f.place → i ≡ j
     one i j d f p q same =
         is.linked.draws.ledger.one_file i j f (subst (λ (x : Draw). In (i, x) h.ledger) (is.linked.draws.draws.one_place d f (inl (i, p)) (inl (j, q)) same) p) q
-
-pub image_kept : (known : Past) (c : Image) → SoundFiles known c → ImageKept known c
-image_kept known c sound = record { sound = sound; kept = λ s found found_names. record { files_open = sound-open known c s found found_names; one_file = one (settled_table found s.more s.table) (s.linked found found_names) } }
-  where
-    one : {names : _} (keys : _) → LinkedTables known keys names → (i j : ℕ) (d f : Draw) → In (i, d) known.ledger → In (j, f) known.ledger → d.place ≡ f.place → i ≡ j
-    one keys l i j d f p q same = l.fits.one_file i j f (subst (λ (x : Draw). In (i, x) known.ledger) (l.draws.one_place d f (inl (i, p)) (inl (j, q)) same) p) q
 
 -- files that a crash leaves are sound with what is known after some part of a history
 abbrev SoundIn : Past → WorldState → (ℕ → ℕ) → History → Image → Type 0

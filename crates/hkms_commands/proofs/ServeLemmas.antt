@@ -6,7 +6,7 @@ use Rattle.rand_chacha.specs.ChaCha.{ChaCha}
 use Rattle.hk_base.specs.Disk.{DiskState}
 use Rattle.prop_text.specs.declared.props.Props.{Props}
 use Rattle.command_line.specs.Orders.{Answers, Names}
-use Rattle.command_line.specs.declared.order.Order.TheVariants.{Replay, Pipe, Serve, Help, Version}
+use Rattle.command_line.specs.declared.order.Order.TheVariants.{Replay, Pipe, Serve, Load, Help, Version}
 use Rattle.command_line.specs.declared.order.OrderFault.TheVariants.{Usage, NoMemory}
 use Rattle.server_parts.specs.Doors.{DoorState}
 use Rattle.server_parts.specs.Yards.{YardState}
@@ -51,6 +51,7 @@ serving_named (Ok Pipe) words idle answers leaves = inr leaves
 serving_named (Ok (Serve port conns places)) words idle (inl read) leaves = inl (port, conns, places, record { no_fault = read.0; command = read.1 })
 serving_named (Ok (Serve port conns places)) words idle (inr (inl help)) leaves = absurd help.0
 serving_named (Ok (Serve port conns places)) words idle (inr (inr version)) leaves = absurd version.0
+serving_named (Ok (Load count)) words idle answers leaves = inr leaves
 serving_named (Ok (Help text)) words idle answers leaves = inr leaves
 serving_named (Ok (Version text)) words idle answers leaves = inr leaves
 serving_named (Err Usage) words idle answers leaves = inr leaves

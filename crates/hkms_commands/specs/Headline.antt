@@ -1,36 +1,28 @@
 -- What a run keeps of zone files, of completed re-encryptions and of verdicts, after every event and every crash.
-use Rattle.std.specs.Prelude.{◌≡◌, ◌⊎◌, ℕ, ⊤, Bool, List, ◌∷◌, ◌++◌, Option, None, Some, Result, Ok, Err}
+use Rattle.std.specs.Prelude.{◌≡◌, ◌⊎◌, ℕ, ⊤, Bool, List, ◌∷◌, ◌++◌, Option, None, Some}
 use Rattle.std.specs.Option.{option_map}
 use Rattle.hk_base.specs.Disk.{DiskState, Image}
 use Rattle.hk_base.specs.declared.ended.Ended.{Ended}
-use Rattle.hk_base.specs.declared.texts.Text.{Text}
 use Rattle.hk_events.specs.declared.event.Event.{Event}
 use Rattle.hk_events.specs.declared.event.Event.TheVariants as event
 use Rattle.hk_events.specs.declared.event.Line.{Line}
 use Rattle.hk_events.specs.declared.event.Line.TheVariants as line
-use Rattle.key_rows.specs.declared.rows.KeyRow.{KeyRow}
-use Rattle.kms_acls.specs.declared.answers.Denied.{Denied}
-use Rattle.kms_acls.specs.declared.answers.Shown.{Shown}
-use Rattle.kms_acls.specs.Verdict.{verdict}
 use Rattle.kms_calls.specs.declared.calls.KmsCall.{KmsCall}
 use Rattle.kms_calls.specs.declared.calls.KmsCall.TheVariants as call
-use Rattle.kms_calls.specs.declared.calls.KmsRefusal.TheVariants as refusal
 use Rattle.kms_calls.specs.declared.calls.KmsReply.{KmsReply}
-use Rattle.kms_calls.specs.declared.calls.KmsReply.TheVariants as reply
 use Rattle.kms_core.specs.State.{settled}
-use Rattle.kms_store.specs.Store.{settled_table}
 use Rattle.name_calls.specs.declared.calls.AskNote.{AskNote}
 use Rattle.name_calls.specs.declared.calls.Want.{Want}
 use Rattle.name_calls.specs.declared.calls.Want.TheVariants as want
 use Rattle.name_core.specs.Calls.{superuser}
 use Rattle.name_core.specs.State.{settled as settled_names}
-use Rattle.name_store.specs.Table.{NameTable, settled_log}
 use Rattle.prop_text.specs.declared.lines.PropLine.{PropLine}
 use Rattle.prop_text.specs.declared.props.Props.{Props}
 use Rattle.world_run.specs.Batches.{batch_call}
-use Rattle.world_run.specs.Ledger.{Draw, Ledger, Past, Starts, drawn_before, past_of}
-use Rattle.world_run.specs.Linked.{DrawsApart, SoundFiles, StartsSound, WordsApart}
-use Rattle.world_run.specs.Promise.{FilesOpen, In}
+use Rattle.world_run.specs.Kept.{FilesKept, ImageKept, IsKnownLater}
+use Rattle.world_run.specs.Ledger.{Past, drawn_before, past_of}
+use Rattle.world_run.specs.Linked.{DrawsApart, StartsSound, WordsApart}
+use Rattle.world_run.specs.Verdicts.{IsJudged}
 use Rattle.world_run.specs.World.{WorldState, first_world, numbered}
 use Rattle.command_io.specs.declared.ends.ReplayEnd.{ReplayEnd}
 use Rattle.hkms_commands.specs.Pipe.{Converses, connection_status}
@@ -40,21 +32,9 @@ use Rattle.command_io.specs.Ends.{status_of}
 use Rattle.hkms_commands.specs.Replay.{PlaysOn}
 use Rattle.hkms_commands.specs.Run.{Happened, History, hidden_in, world_after}
 
--- The promise on files, for what is known of the draws, rows of keys and a table of files: the encrypted key of each zone file, live or
--- in a snapshot, opens to the data key drawn for it, while its key exists; a completed re-encryption left no file behind (`FilesOpen`);
--- and no two files share a draw.
-pub record FilesKept (known : Past) (keys : List KeyRow) (files : NameTable) : Type 0 where
-  pub files_open : FilesOpen known keys files
-  pub one_file : (i j : ℕ) (d f : Draw) → In (i, d) known.ledger → In (j, f) known.ledger → d.place ≡ f.place → i ≡ j
-
 -- the promise in a world: with and without the pending command, and with and without the pending operation
 abbrev pub WorldKept : Past → WorldState → Type 0
 WorldKept known w = (kept_keys kept_names : Bool) → FilesKept known (settled kept_keys w.keys).table.rows (settled_names kept_names w.names).table
-
--- the promise in the two files that a crash leaves: a start may find each log with its last record or without it
-pub record ImageKept (known : Past) (image : Image) : Type 0 where
-  pub sound : SoundFiles known image
-  pub kept : (s : SoundFiles known image) (found found_names : Bool) → FilesKept known (settled_table found s.more s.table).rows (settled_log found_names s.more_ops s.made).table
 
 -- what had happened by some moment of a history
 abbrev pub IsPart : History → History → Type 0
@@ -63,13 +43,6 @@ IsPart part history = (more : History) × (history ≡ more ++ part)
 -- what is known of earlier runs and of this part of the present one: which file got which draw, and which files each re-encryption began with
 abbrev pub known_after : Past → WorldState → (ℕ → ℕ) → History → Past
 known_after past first words part = past_of (hidden_in (drawn_before past) first words part)
-
--- what was known stays known: more is added at the end
-pub record IsKnownLater (before later : Past) : Type 0 where
-  pub entries : Ledger
-  pub ledger : later.ledger ≡ before.ledger ++ entries
-  pub begun : Starts
-  pub starts : later.starts ≡ before.starts ++ begun
 
 -- the call that a draw makes for a kept note
 abbrev pub wanted_call : Want → Option KmsCall
@@ -80,19 +53,6 @@ wanted_call (want.Metadata name) = Some (call.Metadata name)
 abbrev pub noted_call : Option AskNote → Option KmsCall
 noted_call None = None
 noted_call (Some note) = wanted_call note.want
-
--- the denial in a reply, and that of a verdict
-abbrev pub denial_in : KmsReply → Option Denied
-denial_in (reply.Refused (refusal.Denied table op)) = Some (record { table = table; op = op })
-denial_in _ = None
-
-abbrev pub denied_by : Result Shown Denied → Option Denied
-denied_by (Ok shown) = None
-denied_by (Err denied) = Some denied
-
--- a call is denied exactly if the access control lists deny it, by the table and for the operation of the first list that does
-abbrev pub IsJudged : List PropLine → Text → KmsCall → KmsReply → Type 0
-IsJudged lines user c answer = denial_in answer ≡ denied_by (verdict lines user c)
 
 -- The event made this call as the superuser, if its answer keeps a reply, and the reply is judged so.
 abbrev pub IsJudgedFor : List PropLine → Option KmsCall → Line → Type 0

@@ -6,5 +6,6 @@ pub mod Steps
 pub mod Pipe
 pub mod Orders
 pub mod Serve
+pub mod ServerHeadline
 pub mod Headline
 pub mod Laws

@@ -4,7 +4,7 @@ use Rattle.clap.specs.Words.{Text}
 use Rattle.command_io.specs.Ends.{Shows}
 use Rattle.command_line.specs.Orders.{Names}
 use Rattle.command_line.specs.declared.order.Order.{Order}
-use Rattle.command_line.specs.declared.order.Order.TheVariants.{Replay, Pipe, Serve, Help, Version}
+use Rattle.command_line.specs.declared.order.Order.TheVariants.{Replay, Pipe, Serve, Load, Help, Version}
 use Rattle.command_line.specs.declared.order.OrderFault.{OrderFault}
 use Rattle.command_line.specs.declared.order.OrderFault.TheVariants.{Usage, NoMemory}
 
@@ -22,15 +22,16 @@ pub record ShowsText (same : Type 0) (written now : Option (List ℕ)) (status :
   pub untouched : same
   pub shows : Shows text 0 written now status
 
--- what is done at an order: a replay, a connection, a server at this port for so many connections, or a text that is shown
-abbrev pub Obeys : Result Order OrderFault → Type 0 → Type 0 → (ℕ → ℕ → Type 0) → Type 0 → Option (List ℕ) → Option (List ℕ) → ℕ → Type 0
-Obeys (Ok Replay) replays pipes serves same written now status = replays
-Obeys (Ok Pipe) replays pipes serves same written now status = pipes
-Obeys (Ok (Serve port conns places)) replays pipes serves same written now status = serves port conns
-Obeys (Ok (Help text)) replays pipes serves same written now status = same × Shows (string_bytes text) 0 written now status
-Obeys (Ok (Version text)) replays pipes serves same written now status = same × Shows (string_bytes text) 0 written now status
-Obeys (Err Usage) replays pipes serves same written now status = Refuses same written now status
-Obeys (Err NoMemory) replays pipes serves same written now status = WantsMemory same written now status
+-- what is done at an order: a replay, a connection, a server at this port for so many connections, a load of so many steps, or a text that is shown
+abbrev pub Obeys : Result Order OrderFault → Type 0 → Type 0 → (ℕ → ℕ → Type 0) → (ℕ → Type 0) → Type 0 → Option (List ℕ) → Option (List ℕ) → ℕ → Type 0
+Obeys (Ok Replay) replays pipes serves loads same written now status = replays
+Obeys (Ok Pipe) replays pipes serves loads same written now status = pipes
+Obeys (Ok (Serve port conns places)) replays pipes serves loads same written now status = serves port conns
+Obeys (Ok (Load count)) replays pipes serves loads same written now status = loads count
+Obeys (Ok (Help text)) replays pipes serves loads same written now status = same × Shows (string_bytes text) 0 written now status
+Obeys (Ok (Version text)) replays pipes serves loads same written now status = same × Shows (string_bytes text) 0 written now status
+Obeys (Err Usage) replays pipes serves loads same written now status = Refuses same written now status
+Obeys (Err NoMemory) replays pipes serves loads same written now status = WantsMemory same written now status
 
 -- only a server has anything to do with a yard and a door: `idle` says that they are as they were
 abbrev pub LeavesServing : Result Order OrderFault → Type 0 → Type 0

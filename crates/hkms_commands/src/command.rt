@@ -7,13 +7,15 @@ ghost use Rattle.command_line.specs.Orders.{FindsHelp, FindsVersion, IsMistake, 
 ghost use Rattle.command_line.specs.declared.order.Order.TheVariants as order;
 ghost use Rattle.command_io.specs.declared.ends.ReplayEnd.{ReplayEnd};
 ghost use Rattle.world_run.specs.Ledger.{Past};
-ghost use Rattle.world_run.specs.Linked.{StartsSound};
+ghost use Rattle.world_run.specs.Linked.{SoundFiles, StartsSound};
 ghost use Rattle.hkms_commands.specs.Headline.{ConnectionKeepsFiles, KeepsFiles};
 ghost use Rattle.command_io.specs.Ends.{Shows, status_of};
 ghost use Rattle.hkms_commands.specs.Orders.{ByLogs, LeavesServing, Obeys, Refuses, ShowsText, UsesDisk, UsesYard, WantsMemory};
 ghost use Rattle.hkms_commands.specs.Pipe.{Pipe};
 ghost use Rattle.hkms_commands.specs.Replay.{Replay};
 ghost use Rattle.hkms_commands.specs.Serve.{Serves};
+ghost use Rattle.hkms_commands.specs.ServerHeadline.{ServerKeepsFiles};
+ghost use Rattle.load_run.specs.Load.{Load};
 ghost use Rattle.cell_server.specs.Connections.{ServesEnds};
 
 use crate::pipe::run_pipe;
@@ -23,6 +25,7 @@ use command_io::show;
 use command_line::{Order, OrderFault, read_order};
 use disk_kinds::ChaWords;
 use hk_base::{Clock, Disk, Sink, Source, Text, Words};
+use load_run::run_load;
 use server_parts::{Door, Yard};
 use std::alloc::Global;
 use std::sync::Wait;
@@ -70,6 +73,7 @@ fn obey<
         (λ port conns. (Serves Y.Own.state ⟦<ChaWords as Words>⟧.to_come (ServesEnds P.In.left P.In.faults P.Out.written P.Out.faults)
         ((yard.new ≡ yard.old) × (door.new ≡ door.old) × (rand.new ≡ rand.old)) port conns (A.left acls.old) (A.left acls.new) (W.to_come rand.old) (W.to_come rand.new)
         (Y.state yard.old) (Y.state yard.new) (P.state door.old) (P.state door.new) (K.written out.old) (K.written out.new) result × ((disk.new ≡ disk.old) × (input.new ≡ input.old))))
+        (λ count. Load W.to_come count rand.old rand.new (K.written out.old) (K.written out.new) result × ((disk.new ≡ disk.old) × (acls.new ≡ acls.old) × (input.new ≡ input.old) × (clock.new ≡ clock.old)))
         ((disk.new ≡ disk.old) × (acls.new ≡ acls.old) × (input.new ≡ input.old) × (rand.new ≡ rand.old) × (clock.new ≡ clock.old))
         (K.written out.old) (K.written out.new) result }
     ensures read { result ≡ 7 → ByLogs order (Rose (S.faults input.old) (S.faults input.new) ⊎ Rose (A.faults acls.old) (A.faults acls.new)) (Rose (A.faults acls.old) (A.faults acls.new)) }
@@ -90,6 +94,7 @@ fn obey<
         ) => run_serve(
             rt, alloc, acls, out, yard, rand, clock, door, port, conns, places,
         ),
+        Ok(Order::Load { count }) => run_load(alloc, count, out, rand),
         Ok(Order::Help(text)) => show_made(out, text),
         Ok(Order::Version(text)) => show_made(out, text),
         Err(OrderFault::Usage) => show(out, b"usage refused\n", 2),
@@ -105,11 +110,15 @@ fn obey<
 /// the headline, which `docs/headline.md` explains: the clauses `headline` and `headline_pipe`.
 ///
 /// `serve` serves connections of the door with both services, over the same two logs, each on the disk
-/// that the yard gives for it. Both disks must lie in the yard.
+/// that the yard gives for it. Both disks must lie in the yard. What it keeps of files, whatever its threads
+/// do, is the clause `headline_serve`.
+///
+/// `load` does a load over a disk of its own, in memory, and writes the line that sums it up. It uses the
+/// output and the random words alone.
 ///
 /// Help and version are printed with status 0, whatever other words there are. A mistake in the words
 /// gives status 2 and the line `usage refused`. If allocation fails while the words are read, the status
-/// is 6 and the line is `no memory`. Anything but the three commands uses the output alone. A status
+/// is 6 and the line is `no memory`. Anything but the four commands uses the output alone. A status
 /// that tells of a fault comes only if the count of what the command uses rose: `replay` and `pipe`
 /// use the disk and the input, `serve` the yard and the door.
 pub fn hkms<
@@ -158,6 +167,12 @@ pub fn hkms<
         (Serves Y.Own.state ⟦<ChaWords as Words>⟧.to_come (ServesEnds P.In.left P.In.faults P.Out.written P.Out.faults)
         ((yard.new ≡ yard.old) × (door.new ≡ door.old) × (rand.new ≡ rand.old)) port conns (A.left acls.old) (A.left acls.new) (W.to_come rand.old) (W.to_come rand.new)
         (Y.state yard.old) (Y.state yard.new) (P.state door.old) (P.state door.new) (K.written out.old) (K.written out.new) result × ((disk.new ≡ disk.old) × (input.new ≡ input.old)))
+        ⊎ WantsMemory ((disk.new ≡ disk.old) × (acls.new ≡ acls.old) × (input.new ≡ input.old) × (rand.new ≡ rand.old) × (clock.new ≡ clock.old)) (K.written out.old) (K.written out.new) result }
+    ensures headline_serve { (port conns places : ℕ) → Names (order.Serve port conns places) words.now → IsTrue (Y.state yard.old).tells → (past : Past) → SoundFiles past (Y.state yard.old).reads →
+        ServerKeepsFiles Y.Own.state ⟦<ChaWords as Words>⟧.to_come (ServesEnds P.In.left P.In.faults P.Out.written P.Out.faults) past port conns (A.left acls.old) (A.left acls.new) (W.to_come rand.old)
+        (Y.state yard.old) (Y.state yard.new) (P.state door.old) (P.state door.new) (K.written out.old) (K.written out.new) result }
+    ensures load { (count : ℕ) → Names (order.Load count) words.now →
+        (Load W.to_come count rand.old rand.new (K.written out.old) (K.written out.new) result × ((disk.new ≡ disk.old) × (acls.new ≡ acls.old) × (input.new ≡ input.old) × (clock.new ≡ clock.old)))
         ⊎ WantsMemory ((disk.new ≡ disk.old) × (acls.new ≡ acls.old) × (input.new ≡ input.old) × (rand.new ≡ rand.old) × (clock.new ≡ clock.old)) (K.written out.old) (K.written out.new) result }
     ensures idle { UsesYard words.now ⊎ ((yard.new ≡ yard.old) × (door.new ≡ door.old)) }
     ensures read { result ≡ 7 → (UsesDisk words.now × (Rose (S.faults input.old) (S.faults input.new) ⊎ Rose (A.faults acls.old) (A.faults acls.new))) ⊎ (UsesYard words.now × Rose (A.faults acls.old) (A.faults acls.new)) }

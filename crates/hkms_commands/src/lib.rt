@@ -11,6 +11,7 @@ mod stage;
 
 pub use command::hkms;
 pub use laws::runs_follow_one_another;
+pub use load_run::run_load;
 pub use pipe::run_pipe;
 pub use replay::run_replay;
 pub use serve::run_serve;

@@ -74,7 +74,7 @@ fn serve_in<S: Source, K: Sink, D: Disk, W: Words, C: Clock>(
 {
     let mut world = world;
     let ended = serve_world(alloc, input, out, &mut world, disk, rand, clock);
-    drop(world);
+    world.close();
     ended
 }
 

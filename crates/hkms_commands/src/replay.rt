@@ -24,7 +24,6 @@ use std::alloc::Global;
 use world_run::World;
 
 /// A replay between two lines: what was read ahead, and the number of lines played.
-#[derive(Drop)]
 struct ReplayRun {
     reader: Reader,
     line: ByteList,
@@ -49,6 +48,19 @@ impl ReplayRun {
             },
             count: 0,
         }
+    }
+
+    /// Gives back the memory of a replay that has ended.
+    fn close(self) {
+        let ReplayRun {
+            reader,
+            line,
+            stage,
+            count: _,
+        } = self;
+        stage.close();
+        drop(reader);
+        drop(line);
     }
 
     /// Plays the lines of the input until the replay ends.
@@ -179,7 +191,7 @@ fn replay_in<S: Source, D: Disk, K: Sink, W: Words>(
     let mut replaying = ReplayRun::new(alloc, world);
     let stop = replaying.run(input, disk, out, rand);
     let count = replaying.count;
-    drop(replaying);
+    replaying.close();
     finish(alloc, out, stop, count)
 }
 

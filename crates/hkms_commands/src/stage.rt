@@ -31,7 +31,6 @@ pub enum LineOutcome {
 }
 
 /// Both services, and the number of events that they have answered.
-#[derive(Drop)]
 pub struct Session {
     pub alloc: Global,
     pub world: World,
@@ -40,6 +39,18 @@ pub struct Session {
 }
 
 impl Session {
+    /// Gives back the memory of a session that has ended.
+    pub fn close(self) {
+        let Session {
+            alloc: _,
+            world,
+            events: _,
+            answer,
+        } = self;
+        world.close();
+        drop(answer);
+    }
+
     /// Plays a line. If it has an event, writes the answer.
     pub fn play_line<D: Disk, K: Sink, W: Words>(
         &mut self,

@@ -222,7 +222,7 @@ fn serve<T: Threads + Wait + Sync>(
     serve_opened(rt, threads, words, seed, alarm, opened)
 }
 
-/// Runs words that name no command. Opens no file.
+/// Runs words that name no command, or one without files. Opens no file.
 fn run_without_files<T: Threads + Wait + Sync>(
     rt: &HostRuntime,
     threads: &T,

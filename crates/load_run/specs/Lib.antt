@@ -1,0 +1,9 @@
+pub mod Advances
+pub mod Answers
+pub mod Counting
+pub mod Counts
+pub mod Generator
+pub mod History
+pub mod Load
+pub mod Props
+pub mod Tasks
