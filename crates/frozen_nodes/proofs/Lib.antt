@@ -1,0 +1,11 @@
+pub mod Found
+pub mod Grown
+pub mod Kids
+pub mod PackedLemmas
+pub mod Preorder
+pub mod Slides
+pub mod Sought
+pub mod Steps
+pub mod Subtrees
+pub mod Walks
+pub mod ZoneSteps

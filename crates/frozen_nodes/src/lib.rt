@@ -1,0 +1,8 @@
+//! Rows of snapshots in memory: nodes in one list, so that snapshots share what they have in common.
+#![tactic(auto)]
+
+mod forest;
+mod nodes;
+mod same;
+
+pub use forest::{Forest, MOST_NODES};
