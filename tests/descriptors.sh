@@ -87,6 +87,7 @@ check() {
 
 words=(replay) && check replay "$folder/replay" '0 0 8 0'
 words=(pipe) && check pipe "$folder/pipe" '0 0 8 0'
+words=(load 2) && check load "$folder/none" '0 0 8 8'
 words=(--help) && check --help "$folder/none" '0 0 8 8'
 words=(--version) && check --version "$folder/none" '0 0 8 8'
 words=(build) && check 'a mistake' "$folder/none" '2 2 8 8'

@@ -12,9 +12,9 @@ entries() {
     awk -v part="$1" '$0 == part { inside = 1; next } /^$/ { inside = 0 } inside'
 }
 
-# The options of a command in its text of help, without help itself.
+# The arguments and options of a command in its text of help, without help itself.
 own_options() {
-    entries Options: | grep -v -- --help | sed 's/^ */  /'
+    awk '/^Arguments:$/ || /^Options:$/ { inside = 1; next } /^$/ { inside = 0 } inside' | grep -v -- --help | sed 's/^ */  /'
 }
 
 # The text after the options.
@@ -57,6 +57,9 @@ hkms \\- $("$hkms" --help | head -n 1)
 .br
 .B hkms serve
 [\\-\\-port \\fIN\\fR] [\\-\\-conns \\fIN\\fR] [\\-\\-connections \\fIN\\fR]
+.br
+.B hkms load
+\\fIN\\fR
 .SH COMMANDS
 $("$hkms" --help | entries Commands: | page_list)
 .SH OPTIONS
@@ -64,7 +67,7 @@ $("$hkms" --help | entries Options: | page_list)
 .SH FILES AND EXIT STATUS
 $("$hkms" --help | notes | page_text)
 END
-    for command in replay pipe serve; do
+    for command in replay pipe serve load; do
         printf '.SH HKMS %s\n' "${command^^}"
         options=$("$hkms" "$command" --help | own_options | page_list)
         [ -z "$options" ] || printf '%s\n.PP\n' "$options"

@@ -40,6 +40,7 @@ for word in --help -h; do
     shows '  replay  Runs the calls of an event text and writes their answers'
     shows '  pipe    Answers the HTTP requests of one connection'
     shows '  serve   Answers the HTTP requests of connections to a port'
+    shows '  load    Runs a load in memory and writes one line that sums it up'
     shows '  -h, --help     Print help'
     shows '  -V, --version  Print version'
     shows '  keys.log             the keys; a change is written here before it is answered'
@@ -69,6 +70,12 @@ for word in --help -h; do
     shows '      --conns <N>        Connections to serve, from 1 to 4294967295 [default: 4294967295]'
     shows '      --connections <N>  Connections to serve at a time, from 1 to 1024 [default: 16]'
     shows '     9    door fault           the port cannot be opened, or accepting failed'
+
+    helps load "$word"
+    shows 'Runs a load in memory and writes one line that sums it up'
+    shows 'Usage: hkms load <N>'
+    shows '  <N>  Steps, from 1 to 20000'
+    shows '     8    none                 the output cannot be written'
 done
 
 for word in --version -V; do
@@ -86,7 +93,7 @@ expect 'the words -V -h' 0 $'hkms 0.1.0\n'
 
 # Other words.
 refuses
-for word in load hkms '' REPLAY repla 'replay ' -replay --replay -- - --help=replay; do
+for word in loads hkms '' REPLAY repla 'replay ' -replay --replay -- - --help=replay; do
     refuses "$word"
 done
 
@@ -96,7 +103,10 @@ refuses replay replay
 refuses pipe 9600
 refuses pipe ''
 refuses pipe --port 9600
+refuses replay load
 refuses replay load --help
+refuses load
+refuses load 1 2
 refuses serve 9600
 refuses serve replay
 refuses serve -p 9600
@@ -110,7 +120,7 @@ refuses serve --connection 2
 refuses serve --conns --connections 2
 refuses --port 9600 serve
 
-# What is no number of an option: the port is at most 65535, the connections are at most 4294967295, and at a time at most 1024.
+# What is no number of `load` is in tests/load.sh. What is no number of an option: the port is at most 65535, the connections are at most 4294967295, and at a time at most 1024.
 for number in 0 -1 +1 01 1.0 1e1 0x1 65536 4294967296 18446744073709551617 9600x ' 1' '1 ' '' one; do
     refuses serve "--port=$number"
     refuses serve --port "$number"
@@ -129,6 +139,10 @@ done
 helps serve --port +1 --help
 shows 'Usage: hkms serve [OPTIONS]'
 refuses serve --port x --help
+helps load +1 --help
+shows 'Usage: hkms load <N>'
+helps load 1 --help
+refuses load x --help
 
 # Help is not a command, and a command has no version.
 refuses help
@@ -137,13 +151,14 @@ refuses replay help
 refuses replay --version
 refuses pipe -V
 refuses serve --version
+refuses load --version
 
 # Words that are not ASCII.
 refuses $'r\xc3\xa9play'
 refuses $'-\xc3\xa9'
 refuses $'--h\xc3\xa9lp'
 
-# No word but a command makes a log.
+# No word but a command makes a log, and `load` makes none.
 if [ -n "$(ls -A "$room")" ]; then
     printf '%s: the folder has %s\n' "$0" "$(ls -A "$room")"
     failures=$((failures + 1))
