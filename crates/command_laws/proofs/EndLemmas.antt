@@ -18,8 +18,8 @@ use Rattle.command_io.specs.declared.ends.ReplayEnd.{ReplayEnd}
 use Rattle.command_io.specs.declared.ends.ReplayEnd.TheVariants as ended
 use Rattle.command_io.specs.Ends.{Shows, ended_by, ended_by_props, last_line, status_of}
 use Rattle.command_io.specs.Properties.{HasPropsFault, ReadsProperties}
-use Rattle.hkms_commands.specs.Replay.{IsFront, Says}
-use Rattle.hkms_commands.specs.Run.{History, Runs, faults_after}
+use Rattle.hk_runs.specs.Replay.{IsFront, Says}
+use Rattle.hk_runs.specs.Run.{History, Runs, faults_after}
 use Rattle.command_laws.specs.Complete.{NeverFails}
 use Rattle.command_laws.specs.Good.{Counts, GoodDisk, GoodKeys, GoodProperties, HasCauses, NoneRose}
 use Rattle.command_laws.proofs.LogLemmas.{keys_not_damaged, keys_not_spent, names_not_damaged, names_not_spent}

@@ -15,8 +15,8 @@ use Rattle.hk_serve.specs.Served.{Served}
 use Rattle.prop_text.specs.declared.props.Props.{Props}
 use Rattle.world_run.specs.World.{first_world}
 use Rattle.command_io.specs.declared.ends.ReplayEnd.TheVariants as replayed
-use Rattle.hkms_commands.specs.Pipe.{Asks, CannotOpen, Connects, Converses, Pipe, PipesUnder, RefusesProperties, connection_status}
-use Rattle.hkms_commands.specs.Run.{History}
+use Rattle.hk_runs.specs.Pipe.{Asks, CannotOpen, Connects, Converses, Pipe, PipesUnder, RefusesProperties, connection_status}
+use Rattle.hk_runs.specs.Run.{History}
 use Rattle.command_laws.specs.Complete.{ConnectsToEnd, PipeIsComplete}
 use Rattle.command_laws.specs.Good.{Counts, GoodDisk, GoodProperties, GoodRequests, NoneRose}
 use Rattle.command_laws.proofs.EndLemmas.{Unfailed, closed, memory_shown, never_fails, no_memory, not_later, not_read, not_stored, only_memory, same_props, unfailed, unread}

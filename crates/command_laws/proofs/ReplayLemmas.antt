@@ -8,9 +8,9 @@ use Rattle.replay_text.specs.Events.{IsBad}
 use Rattle.world_run.specs.World.{first_world}
 use Rattle.command_io.specs.declared.ends.ReplayEnd.{ReplayEnd}
 use Rattle.command_io.specs.declared.ends.ReplayEnd.TheVariants as ended
-use Rattle.hkms_commands.specs.PlayedLines.{events_of_lines, lines_in, transcript}
+use Rattle.hk_runs.specs.PlayedLines.{events_of_lines, lines_in, transcript}
 use Rattle.command_io.specs.Ends.{last_line, status_of}
-use Rattle.hkms_commands.specs.Replay.{BadNext, BadProperties, HasRead, IsFront, PlaysOn, Played, Replay, Says, Unopened}
+use Rattle.hk_runs.specs.Replay.{BadNext, BadProperties, HasRead, IsFront, PlaysOn, Played, Replay, Says, Unopened}
 use Rattle.command_laws.specs.Complete.{PlaysAll, ReplayIsComplete}
 use Rattle.command_laws.specs.Good.{Counts, GoodDisk, GoodLines, GoodProperties, NoneRose}
 use Rattle.command_laws.proofs.EndLemmas.{Unfailed, closed, memory_shown, never_fails, no_memory, not_later, not_read, not_stored, not_written, only_memory, said, same_props, unfailed, unread}

@@ -15,11 +15,11 @@ use Rattle.command_io.specs.declared.ends.ReplayEnd.{ReplayEnd}
 use Rattle.command_io.specs.declared.ends.ReplayEnd.TheVariants as replay_end
 use Rattle.command_io.specs.Lines.{lines_of}
 use Rattle.hkms_commands.specs.Orders.{WantsMemory}
-use Rattle.hkms_commands.specs.Pipe.{Converses, Pipe}
-use Rattle.hkms_commands.specs.PlayedLines.{PlayedLine, events_of_lines, lines_in, transcript}
+use Rattle.hk_runs.specs.Pipe.{Converses, Pipe}
+use Rattle.hk_runs.specs.PlayedLines.{PlayedLine, events_of_lines, lines_in, transcript}
 use Rattle.command_io.specs.Ends.{status_of}
-use Rattle.hkms_commands.specs.Replay.{Played, Replay}
-use Rattle.hkms_commands.specs.Run.{History, faults_after}
+use Rattle.hk_runs.specs.Replay.{Played, Replay}
+use Rattle.hk_runs.specs.Run.{History, faults_after}
 use Rattle.hkms_commands.specs.Serve.{RunsUnder, Serves}
 use Rattle.command_laws.specs.Good.{Counts, GoodDisk, GoodLines, GoodProperties, GoodRequests, GoodYard, HasCauses, NoneRose}
 

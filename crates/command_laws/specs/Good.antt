@@ -17,7 +17,7 @@ use Rattle.prop_text.specs.Properties.{IsProps}
 use Rattle.replay_text.specs.Events.{IsBad}
 use Rattle.server_parts.specs.Yards.{YardState}
 use Rattle.command_io.specs.Lines.{lines_of}
-use Rattle.hkms_commands.specs.Replay.{longest_input}
+use Rattle.hk_runs.specs.Replay.{longest_input}
 
 -- The source tells its text, and that is properties.
 pub record GoodProperties (acls : Option (List ℕ)) : Type 0 where

@@ -12,12 +12,12 @@ use Rattle.hk_base.specs.Disk.{DiskState, Tells}
 use Rattle.world_run.specs.Ledger.{Past}
 use Rattle.world_run.specs.Linked.{StartsSound}
 use Rattle.command_io.specs.declared.ends.ReplayEnd.{ReplayEnd}
-use Rattle.hkms_commands.specs.Headline.{ConnectionKeepsFiles, KeepsFiles}
+use Rattle.hk_runs.specs.Headline.{ConnectionKeepsFiles, KeepsFiles}
 use Rattle.command_io.specs.Ends.{Shows, status_of}
 use Rattle.hkms_commands.specs.Orders.{ByLogs, Obeys, ShowsText, UsesDisk, UsesYard, WantsMemory}
-use Rattle.hkms_commands.specs.Pipe.{Pipe as Pipes}
-use Rattle.hkms_commands.specs.Replay.{Replay as Replays}
-use Rattle.hkms_commands.proofs.HeadlineLemmas.{Ends, Unmoved, connection_keeps, replay_keeps, unmoved_keeps}
+use Rattle.hk_runs.specs.Pipe.{Pipe as Pipes}
+use Rattle.hk_runs.specs.Replay.{Replay as Replays}
+use Rattle.hk_runs.proofs.HeadlineLemmas.{Ends, Unmoved, connection_keeps, replay_keeps, unmoved_keeps}
 
 abbrev pub OrderRead : Type 0
 OrderRead = Result Order OrderFault

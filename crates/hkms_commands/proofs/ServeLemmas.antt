@@ -20,7 +20,7 @@ use Rattle.command_io.specs.Properties.{ReadsProperties}
 use Rattle.command_io.specs.Ends.{Reports}
 use Rattle.hkms_commands.specs.Serve.{ReportsRun, Serves, generator_of, words_after}
 use Rattle.hkms_commands.proofs.OrderLemmas.{OrderRead, not_shown}
-use Rattle.hkms_commands.proofs.PipeLemmas.{replay_is_no_usage}
+use Rattle.hk_runs.proofs.PipeLemmas.{replay_is_no_usage}
 use Rattle.hkms_commands.proofs.SeedLemmas.{later}
 
 -- no server has the status of refused words

@@ -1,11 +1,3 @@
-pub mod Run
-pub mod Logs
-pub mod PlayedLines
-pub mod Replay
-pub mod Steps
-pub mod Pipe
 pub mod Orders
 pub mod Serve
 pub mod ServerHeadline
-pub mod Headline
-pub mod Laws

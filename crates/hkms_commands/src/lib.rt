@@ -3,15 +3,9 @@
 #![tactic(auto)]
 
 mod command;
-mod laws;
-mod pipe;
-mod replay;
 mod serve;
-mod stage;
 
 pub use command::hkms;
-pub use laws::runs_follow_one_another;
+pub use hk_runs::{run_pipe, run_replay, runs_follow_one_another};
 pub use load_run::run_load;
-pub use pipe::run_pipe;
-pub use replay::run_replay;
 pub use serve::run_serve;

@@ -1,9 +1,9 @@
 use Rattle.std.proofs.Common.{◌≡◌, ap, inl, ⊎_elim}
 use Rattle.command_line.specs.declared.order.Order.TheVariants.{Load, Pipe, Replay, Serve}
-use Rattle.hkms_commands.proofs.HeadlineLemmas.{unmoved}
+use Rattle.hk_runs.proofs.HeadlineLemmas.{unmoved}
 use Rattle.hkms_commands.proofs.LoadLemmas.{load_is_no_usage}
 use Rattle.hkms_commands.proofs.OrderLemmas.{by_logs, carried_out, helps_so, in_yard_alone, named_so, obeyed, order_keeps, pipe_order_keeps, usage_only, versions_so}
-use Rattle.hkms_commands.proofs.PipeLemmas.{pipe_is_no_usage, replay_is_no_usage}
+use Rattle.hk_runs.proofs.PipeLemmas.{pipe_is_no_usage, replay_is_no_usage}
 use Rattle.hkms_commands.proofs.ServerHeadlineLemmas.{kept_as_before, serve_keeps, unread_is_idle}
 use Rattle.hkms_commands.proofs.ServeLemmas.{server_is_no_usage, serving_named}
 use Rattle.hkms_commands.proofs.command.hkms.Goals as goal

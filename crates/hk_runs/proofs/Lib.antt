@@ -1,0 +1,11 @@
+pub mod BeganLemmas
+pub mod ChainLemmas
+pub mod EndLemmas
+mod FollowLemmas
+pub mod HeadlineLemmas
+pub mod HistoryLemmas
+pub mod LastLemmas
+pub mod LivedLemmas
+pub mod PipeLemmas
+pub mod StageLemmas
+pub mod VerdictLemmas
