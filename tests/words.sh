@@ -158,6 +158,23 @@ refuses $'r\xc3\xa9play'
 refuses $'-\xc3\xa9'
 refuses $'--h\xc3\xa9lp'
 
+# An output that takes nothing is status 8.
+for words in --help --version pipes; do
+    (cd "$room" && "$hkms" "$words" >/dev/full 2>/dev/null </dev/null)
+    status=$?
+    [ "$status" -eq 8 ] || {
+        printf '%s: the word %s with an output that takes nothing: status %s\n' "$0" "$words" "$status"
+        failures=$((failures + 1))
+    }
+done
+
+# Words that are refused read nothing of the input.
+left=$(cd "$room" && { "$hkms" pipes >/dev/null 2>&1; cat; } <<<'kms alice names')
+[ "$left" = 'kms alice names' ] || {
+    printf '%s: words that are refused left of the input: %s\n' "$0" "$left"
+    failures=$((failures + 1))
+}
+
 # No word but a command makes a log, and `load` makes none.
 if [ -n "$(ls -A "$room")" ]; then
     printf '%s: the folder has %s\n' "$0" "$(ls -A "$room")"

@@ -1,7 +1,6 @@
 //! The directives in the head of a trial file.
 use crate::mistake::Mistake;
-use crate::trial::{Fault, FaultAt, Part, Sweep, Trial};
-use hk_base::Text;
+use crate::trial::{Command, Fault, FaultAt, Part, Sweep, Trial};
 use std::alloc::Global;
 
 /// Appends a line of properties.
@@ -13,13 +12,22 @@ pub fn add_property(alloc: Global, trial: &mut Trial, line: &[u8]) -> Result<(),
     Ok(())
 }
 
-/// The words of a command line, divided by spaces.
-fn words_of(alloc: Global, rest: &str) -> Result<Vec<Text>, Mistake> {
-    let mut words = Vec::new(alloc);
-    for word in rest.split_whitespace() {
-        words.push(Text::of(String::from_str(alloc, word)?))?;
+/// Reads `replay`, `pipe` or `load N`.
+fn command(rest: &str) -> Result<Command, Mistake> {
+    match first_word(rest) {
+        ("replay", "") => Ok(Command::Replay),
+        ("pipe", "") => Ok(Command::Pipe),
+        ("load", steps) => load(steps),
+        _ => Err(Mistake::NoCommand),
     }
-    Ok(words)
+}
+
+fn load(steps: &str) -> Result<Command, Mistake> {
+    let steps = number(steps)?;
+    match u32::try_from(steps) {
+        Ok(steps) => Ok(Command::Load(steps)),
+        Err(_) => Err(Mistake::NoNumber),
+    }
 }
 
 fn number(word: &str) -> Result<u64, Mistake> {
@@ -117,8 +125,8 @@ fn set_flag(trial: &mut Trial, line: &str) -> Result<(), Mistake> {
 pub fn read_directive(alloc: Global, trial: &mut Trial, line: &str) -> Result<(), Mistake> {
     let (word, rest) = first_word(line);
     match word {
-        "words" => {
-            trial.words = words_of(alloc, rest)?;
+        "command" => {
+            trial.command = command(rest)?;
             Ok(())
         }
         "no" => set_no_properties(alloc, trial, rest),

@@ -1,4 +1,4 @@
-//! hkms_trial: runs the commands by a trial file, over a disk, an input and an output in memory that
+//! hkms_trial: runs a command by a trial file, over a disk, an input and an output in memory that
 //! may fail.
 #![tactic(auto)]
 
@@ -19,8 +19,6 @@ use report::Report;
 use std::alloc::Global;
 use std::process::ExitCode;
 use std::rt::Env;
-use std::sync::Wait;
-use std::thread::Threads;
 use std::{env, fs, io};
 use trial::Trial;
 
@@ -28,7 +26,7 @@ const HELP: &str = "usage: hkms_trial FILE
 
 Runs hkms by the trial in FILE, in memory, and prints what its runs come to.
 Lines of a trial (those that are empty or begin with # are skipped):
-  words WORD ..           the command line; without this line `replay`
+  command NAME            `replay`, `pipe` or `load N`; without this line `replay`
   property LINE           a line of the properties; with none everybody may do everything
   no properties           there are no properties
   draw HEX ..             32-bit words of the random source, then zeros
@@ -56,8 +54,8 @@ fn print_bytes(rt: &HostRuntime, bytes: &[u8]) -> Result<(), Failed> {
 }
 
 /// Runs a trial and prints its report.
-fn run_trial<T: Threads + Wait + Sync>(rt: &HostRuntime, threads: &T, trial: &Trial) -> u8 {
-    let mut report = Report::new(threads, rt.alloc());
+fn run_trial(rt: &HostRuntime, trial: &Trial) -> u8 {
+    let mut report = Report::new(rt.alloc());
     if report.trial(trial).is_err() {
         let _ = eprintln!(rt; "hkms_trial: out of memory");
         return 6;
@@ -69,14 +67,9 @@ fn run_trial<T: Threads + Wait + Sync>(rt: &HostRuntime, threads: &T, trial: &Tr
 }
 
 /// Reads a trial and runs it.
-fn run_file<T: Threads + Wait + Sync>(
-    rt: &HostRuntime,
-    threads: &T,
-    path: &str,
-    file: &[u8],
-) -> u8 {
+fn run_file(rt: &HostRuntime, path: &str, file: &[u8]) -> u8 {
     match reading::read_trial(rt.alloc(), file) {
-        Ok(trial) => run_trial(rt, threads, &trial),
+        Ok(trial) => run_trial(rt, &trial),
         Err(fault) => {
             let _ = eprintln!(rt; "hkms_trial: {path}: {fault}");
             2
@@ -85,9 +78,9 @@ fn run_file<T: Threads + Wait + Sync>(
 }
 
 /// Runs the trial in the file at a path.
-fn run_path<T: Threads + Wait + Sync>(rt: &HostRuntime, threads: &T, path: &str) -> u8 {
+fn run_path(rt: &HostRuntime, path: &str) -> u8 {
     match fs::read(rt, path) {
-        Ok(file) => run_file(rt, threads, path, file.as_slice()),
+        Ok(file) => run_file(rt, path, file.as_slice()),
         Err(error) => {
             let _ = eprintln!(rt; "hkms_trial: {path}: {error}");
             2
@@ -109,7 +102,7 @@ fn main(rt: HostRuntime) -> ExitCode {
     };
     let status = match word.as_str() {
         "--help" => show_help(&rt),
-        path => run_path(&rt, &rt, path),
+        path => run_path(&rt, path),
     };
     ExitCode::from(status)
 }

@@ -7,6 +7,7 @@ use std::fmt;
 pub enum Mistake {
     NoMemory,
     Unknown,
+    NoCommand,
     NotUtf8,
     NoNumber,
     NoPart,
@@ -31,6 +32,7 @@ impl Mistake {
         match self {
             Mistake::NoMemory => "out of memory",
             Mistake::Unknown => "unknown directive",
+            Mistake::NoCommand => "expected replay, pipe or load N",
             Mistake::NotUtf8 => "not UTF-8",
             Mistake::NoNumber => "expected a number from 1",
             Mistake::NoPart => "expected input, output, properties or disk",

@@ -98,12 +98,9 @@ fn read_lines(mut draft: Draft, file: &[u8]) -> Result<Trial, TrialFault> {
 
 /// Reads a trial file.
 pub fn read_trial(alloc: Global, file: &[u8]) -> Result<Trial, TrialFault> {
-    let Ok(trial) = Trial::new(alloc) else {
-        return Err(fault_in(0, Mistake::NoMemory));
-    };
     let draft = Draft {
         alloc,
-        trial,
+        trial: Trial::new(alloc),
         input: None,
         has_line: false,
     };

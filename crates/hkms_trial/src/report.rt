@@ -3,21 +3,17 @@ use crate::disk::TrialDisk;
 use crate::run::{Outside, first_disk};
 use crate::trial::{FaultAt, Sweep, Trial};
 use std::alloc::{AllocError, Global};
-use std::sync::Wait;
-use std::thread::Threads;
 
 /// The report so far.
 #[derive(Drop)]
-pub struct Report<'a, R> {
-    rt: &'a R,
+pub struct Report {
     alloc: Global,
     text: Vec<u8>,
 }
 
-impl<'a, R: Threads + Wait + Sync> Report<'a, R> {
-    pub fn new(rt: &'a R, alloc: Global) -> Report<'a, R> {
+impl Report {
+    pub fn new(alloc: Global) -> Report {
         Report {
-            rt,
             alloc,
             text: Vec::new(alloc),
         }
@@ -71,7 +67,7 @@ impl<'a, R: Threads + Wait + Sync> Report<'a, R> {
         Ok(())
     }
 
-    /// Runs the commands once, and reports it. It answers how many words of the trial are drawn then.
+    /// Runs the command once, and reports it. It answers how many words of the trial are drawn then.
     fn run(
         &mut self,
         trial: &Trial,
@@ -81,7 +77,7 @@ impl<'a, R: Threads + Wait + Sync> Report<'a, R> {
         disk: &mut TrialDisk,
     ) -> Result<usize, AllocError> {
         let mut outside = Outside::new(self.alloc, trial, input, faults, drawn)?;
-        let status = outside.run(self.rt, self.alloc, trial, disk)?;
+        let status = outside.run(self.alloc, trial.command, disk);
         self.transcript(outside.transcript())?;
         self.outcome(trial, disk, status)?;
         Ok(drawn.saturating_add(outside.drawn()))
@@ -158,7 +154,7 @@ impl<'a, R: Threads + Wait + Sync> Report<'a, R> {
 
     /// Reports the runs of a sweep.
     fn sweep(&mut self, trial: &Trial, sweep: Sweep) -> Result<(), AllocError> {
-        let calls = count_calls(self.rt, self.alloc, trial, sweep)?;
+        let calls = count_calls(self.alloc, trial, sweep)?;
         for call in 1..=calls {
             self.number("call", call)?;
             let faults = faults_with(self.alloc, trial, sweep, call)?;
@@ -192,19 +188,14 @@ fn image_disk(alloc: Global, keys: &[u8], names: &[u8]) -> Result<TrialDisk, All
 }
 
 /// How many calls of the part of a sweep the first run makes without the fault of the sweep.
-fn count_calls<R: Threads + Wait + Sync>(
-    rt: &R,
-    alloc: Global,
-    trial: &Trial,
-    sweep: Sweep,
-) -> Result<u64, AllocError> {
+fn count_calls(alloc: Global, trial: &Trial, sweep: Sweep) -> Result<u64, AllocError> {
     let Some(input) = trial.inputs.first() else {
         return Ok(0);
     };
     let faults = trial.faults.as_slice();
     let mut disk = first_disk(alloc, trial, faults)?;
     let mut outside = Outside::new(alloc, trial, input.as_slice(), faults, 0)?;
-    outside.run(rt, alloc, trial, &mut disk)?;
+    outside.run(alloc, trial.command, &mut disk);
     Ok(outside.calls(sweep.part, &disk))
 }
 

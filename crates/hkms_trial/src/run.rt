@@ -1,13 +1,11 @@
-//! One run of the commands under a trial.
+//! One run of a command under a trial.
 use crate::calls::Calls;
 use crate::disk::TrialDisk;
 use crate::outside::{CountedWords, Noon, TrialSink, TrialSource};
-use crate::trial::{FaultAt, Part, Trial};
-use door_kinds::{MemDoor, MemYard};
-use hkms_commands::hkms;
+use crate::trial::{Command, FaultAt, Part, Trial};
+use hk_runs::{run_pipe, run_replay};
+use load_run::run_load;
 use std::alloc::{AllocError, Global};
-use std::sync::Wait;
-use std::thread::Threads;
 
 /// Properties under which every user may do everything.
 const PERMITTING: &[u8] = b"default.key.acl.MANAGEMENT=*\n\
@@ -66,30 +64,19 @@ impl Outside {
         })
     }
 
-    /// Runs the commands over a disk, and answers the status. A server gets empty logs, and nobody
-    /// connects to it.
-    pub fn run<R: Threads + Wait + Sync>(
-        &mut self,
-        rt: &R,
-        alloc: Global,
-        trial: &Trial,
-        disk: &mut TrialDisk,
-    ) -> Result<u8, AllocError> {
-        let mut yard = MemYard::empty(alloc)?;
-        let mut door = MemDoor::closed(alloc)?;
-        Ok(hkms(
-            rt,
-            alloc,
-            trial.words.as_slice(),
-            &mut self.properties,
-            &mut self.input,
-            &mut self.output,
-            disk,
-            &mut yard,
-            &mut self.words,
-            &mut Noon,
-            &mut door,
-        ))
+    /// Runs the command over a disk. Returns its status.
+    pub fn run(&mut self, alloc: Global, command: Command, disk: &mut TrialDisk) -> u8 {
+        let Outside {
+            properties,
+            input,
+            output,
+            words,
+        } = self;
+        match command {
+            Command::Replay => run_replay(alloc, properties, input, output, disk, words),
+            Command::Pipe => run_pipe(alloc, properties, input, output, disk, words, &mut Noon),
+            Command::Load(steps) => run_load(alloc, steps, output, words),
+        }
     }
 
     /// What was written.

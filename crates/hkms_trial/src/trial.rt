@@ -1,6 +1,5 @@
 //! What a trial file asks for.
-use hk_base::Text;
-use std::alloc::{AllocError, Global};
+use std::alloc::Global;
 
 /// A part of what surrounds a run.
 #[derive(Clone, Copy, PartialEq, Eq)]
@@ -38,11 +37,19 @@ pub struct Sweep {
 /// How many bytes a read or a write takes at most if the trial gives no other number.
 const PIECE: usize = 4096;
 
+/// A command of hkms that works without a server.
+#[derive(Clone, Copy)]
+pub enum Command {
+    Replay,
+    Pipe,
+    /// A load of this number of steps.
+    Load(u32),
+}
+
 /// A trial.
 #[derive(Drop)]
 pub struct Trial {
-    /// The words of the command line.
-    pub words: Vec<Text>,
+    pub command: Command,
     /// The properties; without them every user may do everything.
     pub properties: Option<Vec<u8>>,
     pub draws: Vec<u32>,
@@ -61,9 +68,9 @@ pub struct Trial {
 
 impl Trial {
     /// A replay with no input yet, of whose calls none fails.
-    pub fn new(alloc: Global) -> Result<Trial, AllocError> {
-        Ok(Trial {
-            words: vec![in alloc; Text::of(String::from_str(alloc, "replay")?)]?,
+    pub fn new(alloc: Global) -> Trial {
+        Trial {
+            command: Command::Replay,
             properties: None,
             draws: Vec::new(alloc),
             read: PIECE,
@@ -76,6 +83,6 @@ impl Trial {
             files: false,
             calls: false,
             inputs: Vec::new(alloc),
-        })
+        }
     }
 }
