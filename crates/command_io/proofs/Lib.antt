@@ -1,3 +1,4 @@
 mod EndLemmas
 mod PropsLemmas
 pub mod SplitLemmas
+pub mod UsageLemmas

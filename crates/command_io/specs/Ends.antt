@@ -98,3 +98,17 @@ pub record Reports (end : ReplayEnd) (written now : Option (List ℕ)) (status :
   pub how : ReplayEnd
   pub closes : Closes end 0 written now how
   pub status_is : status ≡ status_of how
+
+-- there is no memory to read the words: nothing else is done, as `same` says
+abbrev pub WantsMemory : Type 0 → Option (List ℕ) → Option (List ℕ) → ℕ → Type 0
+WantsMemory same written now status = same × Shows (codes "no memory\n") 6 written now status
+
+-- the words have a mistake: nothing else is done, as `same` says
+abbrev pub Refuses : Type 0 → Option (List ℕ) → Option (List ℕ) → ℕ → Type 0
+Refuses same written now status = same × Shows (codes "usage refused\n") 2 written now status
+
+-- some text is shown, and nothing else is done, as `same` says
+pub record ShowsText (same : Type 0) (written now : Option (List ℕ)) (status : ℕ) : Type 0 where
+  pub text : List ℕ
+  pub untouched : same
+  pub shows : Shows text 0 written now status

@@ -97,6 +97,16 @@ pub fn show<K: Sink>(out: &mut K, text: &[u8], status: u8) -> u8
     }
 }
 
+/// Writes a text and drops it. Returns 0, or 8 if the output fails.
+pub fn show_made<K: Sink>(out: &mut K, text: String) -> u8
+    ensures shows { Shows (string_bytes text) 0 (K.written out.old) (K.written out.new) result }
+    ensures write { result ≡ 8 → Rose (K.faults out.old) (K.faults out.new) }
+{
+    let status = show(out, text.as_bytes(), 0);
+    drop(text);
+    status
+}
+
 /// Writes the last line if the end has one. Returns how the replay ends then.
 pub fn finish<K: Sink>(alloc: Global, out: &mut K, stop: ReplayEnd, count: u64) -> ReplayEnd
     requires { count < 2 ^ 41 }

@@ -16,7 +16,7 @@ use Rattle.std.specs.Io.KnownBytes.{Appends}
 use Rattle.command_io.specs.declared.ends.ReplayEnd.{ReplayEnd}
 use Rattle.command_io.specs.declared.ends.ReplayEnd.TheVariants as replayed
 use Rattle.command_io.specs.Ends.{Closes, Reports, ended_by, last_line, status_of}
-use Rattle.hkms_commands.specs.Serve.{ReportsRun, RefusesToServe, RunsUnder, Serves, ServesUnder}
+use Rattle.server_command.specs.Serve.{ReportsRun, RefusesToServe, RunsUnder, Serves, ServesUnder}
 use Rattle.command_laws.specs.Complete.{ServeIsComplete}
 use Rattle.command_laws.specs.Good.{Counts, GoodProperties, GoodYard}
 use Rattle.command_laws.proofs.LogLemmas.{keys_not_damaged, keys_not_spent, names_not_damaged, names_not_spent}

@@ -14,13 +14,12 @@ use Rattle.server_run.specs.declared.run.RunEnd.TheVariants as run_end
 use Rattle.command_io.specs.declared.ends.ReplayEnd.{ReplayEnd}
 use Rattle.command_io.specs.declared.ends.ReplayEnd.TheVariants as replay_end
 use Rattle.command_io.specs.Lines.{lines_of}
-use Rattle.hkms_commands.specs.Orders.{WantsMemory}
 use Rattle.hk_runs.specs.Pipe.{Converses, Pipe}
 use Rattle.hk_runs.specs.PlayedLines.{PlayedLine, events_of_lines, lines_in, transcript}
-use Rattle.command_io.specs.Ends.{status_of}
+use Rattle.command_io.specs.Ends.{WantsMemory, status_of}
 use Rattle.hk_runs.specs.Replay.{Played, Replay}
 use Rattle.hk_runs.specs.Run.{History, faults_after}
-use Rattle.hkms_commands.specs.Serve.{RunsUnder, Serves}
+use Rattle.server_command.specs.Serve.{RunsUnder, Serves}
 use Rattle.command_laws.specs.Good.{Counts, GoodDisk, GoodLines, GoodProperties, GoodRequests, GoodYard, HasCauses, NoneRose}
 
 -- the disk's count of faults rose in no event of a history, so that none was answered by a store fault

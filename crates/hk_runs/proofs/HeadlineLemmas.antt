@@ -78,10 +78,10 @@ later_on a b c p q = record {
 part_more : (x : Happened) (part history : History) → IsPart part history → IsPart part (x ∷ history)
 part_more x part history is = (x ∷ is.0, ap (λ (l : History). x ∷ l) is.1)
 
-whole : (history : History) → IsPart history history
+pub whole : (history : History) → IsPart history history
 whole history = ([], refl)
 
-nothing : (history : History) → IsPart [] history
+pub nothing : (history : History) → IsPart [] history
 nothing history = (history, sym (append-nil history))
 
 module _ (before : Hidden) (first : WorldState) (words : ℕ → ℕ) where
@@ -196,7 +196,7 @@ module _ (past : Past) (props : Props) (old new : DiskState) (words : ℕ → �
     images = λ c since. let s = sound_since c since in (s.0, s.1, image_kept (known_after past first words s.0) c s.2);
     verdicts = judged_at props.lines (Tells old) first words k.before history k.runs;
     again = λ c is. sound_last old past sound first words done c Cut history (disk.last c is);
-    grows = λ part is. subst (λ (l : History). IsKnownLater (known_after past first words part) (known_after past first words l)) (sym is.1) (grows_to (drawn_before past) first words part is.0);
+    grows = λ part later is within. subst (λ (l : History). IsKnownLater (known_after past first words part) (known_after past first words l)) (sym is.1) (grows_to (drawn_before past) first words part is.0);
     apart = λ apart part is. apart_at (drawn_before past) first words part is.0 (subst (StayApart (drawn_before past) first words) is.1 (k.apart tells (drawn_before past) before apart));
   }
 

@@ -19,11 +19,10 @@ use Rattle.hk_serve.specs.Transactions.{Transaction}
 use Rattle.world_desk.specs.Orders.{AnsweredEvent, Follow, IsDrive, IsOrder, submitted}
 use Rattle.world_desk.specs.Worlds.{DrivesOn, Happens, LeadsOn, Passes, events_in}
 use Rattle.http_wire.specs.Reading.{ahead}
-use Rattle.command_io.specs.declared.ends.ReplayEnd.{ReplayEnd}
-use Rattle.command_io.specs.declared.ends.ReplayEnd.TheVariants as replayed
 use Rattle.hk_runs.specs.Pipe.{Asks, Converses, Pipe, PipeUnder, answered_in, connection_status}
 use Rattle.hk_runs.specs.Logs.{NoRestart, opened_logs}
-use Rattle.command_io.specs.Ends.{ended_by, ended_by_props, status_of}
+use Rattle.command_io.specs.Ends.{ended_by, ended_by_props}
+use Rattle.command_io.proofs.UsageLemmas.{end_is_no_usage}
 use Rattle.hk_runs.specs.Run.{Happened, History, Runs, world_after}
 use Rattle.hk_runs.specs.Steps.{HasLists}
 use Rattle.hk_runs.proofs.BeganLemmas.{apart_kept, last_kept, promise_kept, survives_kept}
@@ -201,7 +200,7 @@ converses {D} {W} state to_come props old v v' left left' written now unused how
     found : Tells old → Acknowledged
     found telling = let log = b.log telling in opened_logs log.commands b.table log.ops b.names
 
--- no replay and no connection has the status of refused words
+-- no connection has the status of refused words
 
 connection_usage : (how : Ended) → connection_status how ≡ 2 → ⊥
 connection_usage ended.End h = absurd cc
@@ -212,29 +211,11 @@ connection_usage ended.ReadFault h = absurd cc
 connection_usage ended.WriteFault h = absurd cc
 connection_usage ended.NoMemory h = absurd cc
 
-replay_usage : (how : ReplayEnd) → status_of how ≡ 2 → ⊥
-replay_usage replayed.Done h = absurd cc
-replay_usage (replayed.AclRefused number) h = absurd cc
-replay_usage (replayed.AclRepeated number) h = absurd cc
-replay_usage (replayed.AclUnknown number) h = absurd cc
-replay_usage replayed.AclTooLong h = absurd cc
-replay_usage replayed.BadLine h = absurd cc
-replay_usage (replayed.DamagedKeys at) h = absurd cc
-replay_usage (replayed.DamagedNames at) h = absurd cc
-replay_usage replayed.StoreFault h = absurd cc
-replay_usage replayed.NoMemory h = absurd cc
-replay_usage replayed.ReadFault h = absurd cc
-replay_usage replayed.WriteFault h = absurd cc
-replay_usage replayed.Spent h = absurd cc
-
-pub replay_is_no_usage : (status : ℕ) (how : ReplayEnd) → status ≡ status_of how → status ≢ 2
-replay_is_no_usage status how is two = replay_usage how (sym is ∙ two)
-
 pub pipe_is_no_usage : (same_disk same : Type 0) (old new : DiskState) (acls acls' : Option (List ℕ)) (words words' : ℕ → ℕ) (left left' written now : Option (List ℕ)) (status : ℕ)
     → Pipe same_disk same old new acls acls' words words' left left' written now status → status ≢ 2
-pipe_is_no_usage same_disk same old new acls acls' words words' left left' written now status (inl refused) two = replay_usage (ended_by_props refused.fault) (sym refused.status_is ∙ two)
+pipe_is_no_usage same_disk same old new acls acls' words words' left left' written now status (inl refused) two = end_is_no_usage (ended_by_props refused.fault) (sym refused.status_is ∙ two)
 pipe_is_no_usage same_disk same old new acls acls' words words' left left' written now status (inr pipes) two = go pipes.pipe
   where
     go : PipeUnder pipes.props same old new words words' left left' written now status → ⊥
-    go (inl cannot) = replay_usage (ended_by cannot.file cannot.fault) (sym cannot.status_is ∙ two)
+    go (inl cannot) = end_is_no_usage (ended_by cannot.file cannot.fault) (sym cannot.status_is ∙ two)
     go (inr connects) = connection_usage connects.how (sym connects.status_is ∙ two)

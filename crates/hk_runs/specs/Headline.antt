@@ -76,8 +76,8 @@ pub record Headline (past : Past) (lines : List PropLine) (old new : DiskState) 
   pub verdicts : (h : Happened) (earlier : History) → IsPart (h ∷ earlier) history → HasVerdict lines (world_after first earlier) h.event h.reply
   -- the next run may start from the files as they are left in the end
   pub again : StartsSound new (known_after past first words history)
-  -- what is known after a part stays known
-  pub grows : (part : History) → IsPart part history → IsKnownLater (known_after past first words part) (known_after past first words history)
+  -- what is known after a part stays known after each later part, and in the end
+  pub grows : (part later : History) → IsPart part later → IsPart later history → IsKnownLater (known_after past first words part) (known_after past first words later)
   -- and if no two draws of earlier runs have a random word in common, no two draws have one
   pub apart : WordsApart (drawn_before past) → (part : History) → IsPart part history → DrawsApart (hidden_in (drawn_before past) first words part)
 

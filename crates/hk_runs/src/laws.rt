@@ -4,11 +4,11 @@ ghost use Rattle.world_run.specs.Linked.{StartsSound};
 
 use hk_base::Disk;
 
-/// A replay may start on a disk whose files were never written, with an empty ledger of draws.
-/// After a replay that keeps the promise on files (the clause `headline` of `hkms`), the next one may
-/// start on the files that it left in the end, or that a crash left at any moment of it, with the
-/// draws that are known by then. So each replay of a chain of them keeps the promise. If no two draws
-/// of earlier runs have a word in common, none have in the next run.
+/// A run may start on a disk whose files were never written, with an empty ledger of draws.
+/// After a run that keeps the promise on files (the clauses `headline` of `run_replay` and `run_pipe`),
+/// the next one may start on the files that it left in the end, or that a crash left at any moment of
+/// it, with the draws that are known by then. So each run of a chain of them keeps the promise. If no
+/// two draws of earlier runs have a word in common, none have in the next run.
 pub fn runs_follow_one_another<D: Disk>(before: &D, after: &D, next: &D)
     ensures empty { IsUnwritten (D.state next.now) → StartsSound (D.state next.now) nothing_known }
     ensures follows { FollowsRun (D.state before.now) (D.state after.now) (D.state next.now) }

@@ -1,5 +1,3 @@
 mod LoadLemmas
 mod OrderLemmas
-mod SeedLemmas
-pub mod ServeLemmas
-pub mod ServerHeadlineLemmas
+mod ServerHeadlineLemmas

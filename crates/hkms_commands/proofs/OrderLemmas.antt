@@ -1,5 +1,5 @@
 -- What follows of what was done at an order.
-use Rattle.std.proofs.Common.{◌≡◌, ◌≢◌, ◌⊎◌, ⊎_elim, inl, inr, ℕ, List, refl, ap, sym, ◌∙◌, subst, arith}
+use Rattle.std.proofs.Common.{◌≡◌, ◌≢◌, ◌⊎◌, ⊎_elim, inl, inr, ℕ, List, refl, ap, sym, ◌∙◌, subst}
 use Rattle.std.specs.Prelude.{IfErr, IfOk, Ok, Err, Option, Result, string_bytes}
 use Rattle.clap.specs.Words.{IsAmong, Text}
 use Rattle.clap.specs.declared.error.ErrorKind.TheVariants.{DisplayHelp, DisplayVersion}
@@ -13,8 +13,9 @@ use Rattle.world_run.specs.Ledger.{Past}
 use Rattle.world_run.specs.Linked.{StartsSound}
 use Rattle.command_io.specs.declared.ends.ReplayEnd.{ReplayEnd}
 use Rattle.hk_runs.specs.Headline.{ConnectionKeepsFiles, KeepsFiles}
-use Rattle.command_io.specs.Ends.{Shows, status_of}
-use Rattle.hkms_commands.specs.Orders.{ByLogs, Obeys, ShowsText, UsesDisk, UsesYard, WantsMemory}
+use Rattle.command_io.specs.Ends.{ShowsText, WantsMemory, status_of}
+use Rattle.command_io.proofs.UsageLemmas.{not_shown}
+use Rattle.hkms_commands.specs.Orders.{ByLogs, LeavesServing, Obeys, UsesDisk, UsesYard}
 use Rattle.hk_runs.specs.Pipe.{Pipe as Pipes}
 use Rattle.hk_runs.specs.Replay.{Replay as Replays}
 use Rattle.hk_runs.proofs.HeadlineLemmas.{Ends, Unmoved, connection_keeps, replay_keeps, unmoved_keeps}
@@ -43,14 +44,6 @@ versions_so (Ok (Help text)) replays pipes serves loads same written now status 
 versions_so (Ok (Version text)) replays pipes serves loads same written now status is obeys = inl (record { text = string_bytes text; untouched = obeys.0; shows = obeys.1 })
 versions_so (Err Usage) replays pipes serves loads same written now status is obeys = absurd cc
 versions_so (Err NoMemory) replays pipes serves loads same written now status is obeys = inr obeys
-
-not_both : (n : ℕ) → n ≡ 8 → n ≡ 2 → ⊥
-not_both n eight two = absurd (omega (arith, eight, two))
-
--- a text with another status is not shown with 2
-pub not_shown : (text : List ℕ) (own : ℕ) (written now : Option (List ℕ)) (status : ℕ) → own ≢ 2 → Shows text own written now status → status ≢ 2
-not_shown text own written now status other (inl shown) two = other (sym shown.0 ∙ two)
-not_shown text own written now status other (inr failed) two = not_both status failed.0 two
 
 pub usage_only : (order : OrderRead) (words : List Text) (replays pipes : Type 0) (serves : ℕ → ℕ → Type 0) (loads : ℕ → Type 0) (same : Type 0) (written now : Option (List ℕ)) (status : ℕ) → IfErr order (λ fault. fault ≡ Usage → IsMistake (line_fault words))
     → Obeys order replays pipes serves loads same written now status → (replays → status ≢ 2) → (pipes → status ≢ 2) → ((port conns : ℕ) → serves port conns → status ≢ 2) → ((count : ℕ) → loads count → status ≢ 2) → status ≡ 2 → IsMistake (line_fault words)
@@ -127,6 +120,19 @@ module _ (past : Past) (old new : DiskState) (tells : Tells old) (sound : Starts
       → Obeys order replays (Pipes same_disk (same_input × same_out × same_rand × same_clock) old new acls acls' words words' left left' written now status) serves loads (same_disk × same_acls × same_input × same_rand × same_clock) written now status
       → ConnectionKeepsFiles (same_input × same_rand × same_clock) past old new acls acls' words words' left left' written now status
   pipe_order_keeps order ends idle named obeys = ⊎_elim (piped_keeps ends idle) (unasked_keeps idle) (obeyed order Pipe replays Piped serves loads Unasked written now status named obeys)
+
+-- words that give the order of a server name it
+pub serving_named : (order : OrderRead) (words : List Text) (idle : Type 0) → IfOk order (λ o. Answers o words) → LeavesServing order idle → ((port : ℕ) × (conns : ℕ) × (places : ℕ) × Names (Serve port conns places) words) ⊎ idle
+serving_named (Ok Replay) words idle answers leaves = inr leaves
+serving_named (Ok Pipe) words idle answers leaves = inr leaves
+serving_named (Ok (Serve port conns places)) words idle (inl read) leaves = inl (port, conns, places, record { no_fault = read.0; command = read.1 })
+serving_named (Ok (Serve port conns places)) words idle (inr (inl help)) leaves = absurd help.0
+serving_named (Ok (Serve port conns places)) words idle (inr (inr version)) leaves = absurd version.0
+serving_named (Ok (Load count)) words idle answers leaves = inr leaves
+serving_named (Ok (Help text)) words idle answers leaves = inr leaves
+serving_named (Ok (Version text)) words idle answers leaves = inr leaves
+serving_named (Err Usage) words idle answers leaves = inr leaves
+serving_named (Err NoMemory) words idle answers leaves = inr leaves
 
 -- what comes of an order comes of the words that name it
 pub by_logs : (order : OrderRead) (words : List Text) (on_disk in_yard : Type 0) → IfOk order (λ o. Answers o words) → ByLogs order on_disk in_yard → (UsesDisk words × on_disk) ⊎ (UsesYard words × in_yard)

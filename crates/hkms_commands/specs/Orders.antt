@@ -1,26 +1,12 @@
 -- What the words of a command line bring about.
-use Rattle.std.specs.Prelude.{◌⊎◌, ⊤, ℕ, List, codes, Option, Result, Ok, Err, string_bytes}
+use Rattle.std.specs.Prelude.{◌⊎◌, ⊤, ℕ, List, Option, Result, Ok, Err, string_bytes}
 use Rattle.clap.specs.Words.{Text}
-use Rattle.command_io.specs.Ends.{Shows}
+use Rattle.command_io.specs.Ends.{Refuses, Shows, WantsMemory}
 use Rattle.command_line.specs.Orders.{Names}
 use Rattle.command_line.specs.declared.order.Order.{Order}
 use Rattle.command_line.specs.declared.order.Order.TheVariants.{Replay, Pipe, Serve, Load, Help, Version}
 use Rattle.command_line.specs.declared.order.OrderFault.{OrderFault}
 use Rattle.command_line.specs.declared.order.OrderFault.TheVariants.{Usage, NoMemory}
-
--- there is no memory to read the words: nothing else is done, as `same` says
-abbrev pub WantsMemory : Type 0 → Option (List ℕ) → Option (List ℕ) → ℕ → Type 0
-WantsMemory same written now status = same × Shows (codes "no memory\n") 6 written now status
-
--- the words have a mistake: nothing else is done, as `same` says
-abbrev pub Refuses : Type 0 → Option (List ℕ) → Option (List ℕ) → ℕ → Type 0
-Refuses same written now status = same × Shows (codes "usage refused\n") 2 written now status
-
--- some text is shown, and nothing else is done, as `same` says
-pub record ShowsText (same : Type 0) (written now : Option (List ℕ)) (status : ℕ) : Type 0 where
-  pub text : List ℕ
-  pub untouched : same
-  pub shows : Shows text 0 written now status
 
 -- what is done at an order: a replay, a connection, a server at this port for so many connections, a load of so many steps, or a text that is shown
 abbrev pub Obeys : Result Order OrderFault → Type 0 → Type 0 → (ℕ → ℕ → Type 0) → (ℕ → Type 0) → Type 0 → Option (List ℕ) → Option (List ℕ) → ℕ → Type 0

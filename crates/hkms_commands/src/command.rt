@@ -1,5 +1,5 @@
 //! The command line.
-ghost use Rattle.std.specs.Prelude.{◌≡◌, ◌⊎◌, ℕ, IsTrue, string_bytes};
+ghost use Rattle.std.specs.Prelude.{◌≡◌, ◌⊎◌, ℕ, IsTrue};
 ghost use Rattle.std.specs.Io.KnownBytes.{IsAtEnd};
 ghost use Rattle.hk_base.specs.Disk.{Tells};
 ghost use Rattle.hk_base.specs.Faults.{Rose};
@@ -9,36 +9,26 @@ ghost use Rattle.command_io.specs.declared.ends.ReplayEnd.{ReplayEnd};
 ghost use Rattle.world_run.specs.Ledger.{Past};
 ghost use Rattle.world_run.specs.Linked.{SoundFiles, StartsSound};
 ghost use Rattle.hk_runs.specs.Headline.{ConnectionKeepsFiles, KeepsFiles};
-ghost use Rattle.command_io.specs.Ends.{Shows, status_of};
-ghost use Rattle.hkms_commands.specs.Orders.{ByLogs, LeavesServing, Obeys, Refuses, ShowsText, UsesDisk, UsesYard, WantsMemory};
+ghost use Rattle.command_io.specs.Ends.{Refuses, ShowsText, WantsMemory, status_of};
+ghost use Rattle.hkms_commands.specs.Orders.{ByLogs, LeavesServing, Obeys, UsesDisk, UsesYard};
 ghost use Rattle.hk_runs.specs.Pipe.{Pipe};
 ghost use Rattle.hk_runs.specs.Replay.{Replay};
-ghost use Rattle.hkms_commands.specs.Serve.{Serves};
+ghost use Rattle.server_command.specs.Serve.{Serves};
 ghost use Rattle.hkms_commands.specs.ServerHeadline.{ServerKeepsFiles};
 ghost use Rattle.load_run.specs.Load.{Load};
 ghost use Rattle.cell_server.specs.Connections.{ServesEnds};
 
-use hk_runs::{run_pipe, run_replay};
-use crate::serve::run_serve;
-use command_io::show;
+use command_io::{show, show_made};
 use command_line::{Order, OrderFault, read_order};
 use disk_kinds::ChaWords;
 use hk_base::{Clock, Disk, Sink, Source, Text, Words};
+use hk_runs::{run_pipe, run_replay};
 use load_run::run_load;
+use server_command::run_serve;
 use server_parts::{Door, Yard};
 use std::alloc::Global;
 use std::sync::Wait;
 use std::thread::Threads;
-
-/// Writes a text and drops it. Returns 0, or 8 if the output fails.
-fn show_made<K: Sink>(out: &mut K, text: String) -> u8
-    ensures shows { Shows (string_bytes text) 0 (K.written out.old) (K.written out.new) result }
-    ensures write { result ≡ 8 → Rose (K.faults out.old) (K.faults out.new) }
-{
-    let status = show(out, text.as_bytes(), 0);
-    drop(text);
-    status
-}
 
 /// Carries out an order, with the contract of `hkms`.
 fn obey<
@@ -168,7 +158,9 @@ pub fn hkms<
         (Y.state yard.old) (Y.state yard.new) (P.state door.old) (P.state door.new) (K.written out.old) (K.written out.new) result × ((disk.new ≡ disk.old) × (input.new ≡ input.old)))
         ⊎ WantsMemory ((disk.new ≡ disk.old) × (acls.new ≡ acls.old) × (input.new ≡ input.old) × (rand.new ≡ rand.old) × (clock.new ≡ clock.old)) (K.written out.old) (K.written out.new) result }
     ensures headline_serve { (port conns places : ℕ) → Names (order.Serve port conns places) words.now → IsTrue (Y.state yard.old).tells → (past : Past) → SoundFiles past (Y.state yard.old).reads →
-        ServerKeepsFiles Y.Own.state ⟦<ChaWords as Words>⟧.to_come (ServesEnds P.In.left P.In.faults P.Out.written P.Out.faults) past port conns (A.left acls.old) (A.left acls.new) (W.to_come rand.old)
+        ServerKeepsFiles Y.Own.state ⟦<ChaWords as Words>⟧.to_come (ServesEnds P.In.left P.In.faults P.Out.written P.Out.faults)
+        (((disk.new ≡ disk.old) × (acls.new ≡ acls.old) × (input.new ≡ input.old) × (rand.new ≡ rand.old) × (clock.new ≡ clock.old)) × ((yard.new ≡ yard.old) × (door.new ≡ door.old)))
+        ((yard.new ≡ yard.old) × (door.new ≡ door.old) × (rand.new ≡ rand.old)) past port conns (A.left acls.old) (A.left acls.new) (W.to_come rand.old)
         (Y.state yard.old) (Y.state yard.new) (P.state door.old) (P.state door.new) (K.written out.old) (K.written out.new) result }
     ensures load { (count : ℕ) → Names (order.Load count) words.now →
         (Load W.to_come count rand.old rand.new (K.written out.old) (K.written out.new) result × ((disk.new ≡ disk.old) × (acls.new ≡ acls.old) × (input.new ≡ input.old) × (clock.new ≡ clock.old)))

@@ -6,7 +6,7 @@ use crate::scripts::Script;
 use disk_kinds::{ChaWords, MemSink, MemSource};
 use door_kinds::{MemClient, MemDoor, MemYard};
 use hk_base::Clock;
-use hkms_commands::run_serve;
+use server_command::run_serve;
 use std::alloc::Global;
 use std::collections::VecDeque;
 use std::process::Abort;

@@ -1,15 +1,16 @@
 use Rattle.std.proofs.Common.{◌≡◌, ap, inl, ⊎_elim}
+use Rattle.command_io.proofs.UsageLemmas.{status_is_no_usage}
 use Rattle.command_line.specs.declared.order.Order.TheVariants.{Load, Pipe, Replay, Serve}
 use Rattle.hk_runs.proofs.HeadlineLemmas.{unmoved}
 use Rattle.hkms_commands.proofs.LoadLemmas.{load_is_no_usage}
-use Rattle.hkms_commands.proofs.OrderLemmas.{by_logs, carried_out, helps_so, in_yard_alone, named_so, obeyed, order_keeps, pipe_order_keeps, usage_only, versions_so}
-use Rattle.hk_runs.proofs.PipeLemmas.{pipe_is_no_usage, replay_is_no_usage}
-use Rattle.hkms_commands.proofs.ServerHeadlineLemmas.{kept_as_before, serve_keeps, unread_is_idle}
-use Rattle.hkms_commands.proofs.ServeLemmas.{server_is_no_usage, serving_named}
+use Rattle.hkms_commands.proofs.OrderLemmas.{by_logs, carried_out, helps_so, in_yard_alone, named_so, obeyed, order_keeps, pipe_order_keeps, serving_named, usage_only, versions_so}
+use Rattle.hk_runs.proofs.PipeLemmas.{pipe_is_no_usage}
+use Rattle.hkms_commands.proofs.ServerHeadlineLemmas.{serve_keeps, unread_keeps, unread_wants}
+use Rattle.server_command.proofs.ServeLemmas.{server_is_no_usage}
 use Rattle.hkms_commands.proofs.command.hkms.Goals as goal
 
 pub returns-clause-usage_only : goal.returns-clause-usage_only
-returns-clause-usage_only g c = usage_only c.read_order-order.result c.args.words.now _ _ _ _ _ _ _ c.obey.result c.read_order-order.ensures.usage c.obey.ensures.obeys (λ replays. replay_is_no_usage _ replays.0 replays.1)
+returns-clause-usage_only g c = usage_only c.read_order-order.result c.args.words.now _ _ _ _ _ _ _ c.obey.result c.read_order-order.ensures.usage c.obey.ensures.obeys (λ replays. status_is_no_usage _ replays.0 replays.1)
     (λ pipes. pipe_is_no_usage _ _ _ _ _ _ _ _ _ _ _ _ _ pipes) (λ port conns serves. server_is_no_usage _ _ _ _ _ _ _ _ _ _ _ _ _ _ _ _ _ serves.0)
     (λ count loads. load_is_no_usage _ count _ _ _ _ _ loads.0)
 
@@ -54,10 +55,15 @@ returns-clause-load g c count names =
 pub returns-clause-headline_serve : goal.returns-clause-headline_serve
 returns-clause-headline_serve g c port conns places names tells past sound =
     ⊎_elim
-    (λ is. serve_keeps _ _ _ past port conns _ _ _ _ (g.Y.Yard.state c.args.yard.now) (g.Y.Yard.state c.obey.new.yard) _ _ _ _ c.obey.result tells sound
-    ((c.obey.new.yard ≡ c.args.yard.now) × (c.obey.new.door ≡ c.args.door.now) × (c.obey.new.rand ≡ c.args.rand.now)) (λ same. ap g.Y.Yard.state same.0)
+    (λ is. serve_keeps _ _ _ _ ((c.obey.new.yard ≡ c.args.yard.now) × (c.obey.new.door ≡ c.args.door.now) × (c.obey.new.rand ≡ c.args.rand.now)) past port conns _ _ _ _
+    (g.Y.Yard.state c.args.yard.now) (g.Y.Yard.state c.obey.new.yard) _ _ _ _ c.obey.result tells sound (λ same. ap g.Y.Yard.state same.0)
     (carried_out c.read_order-order.result (Serve port conns places) _ _ _ _ _ _ _ c.obey.result is c.obey.ensures.obeys).0)
-    (λ is. inl (kept_as_before past (g.Y.Yard.state c.args.yard.now) (g.Y.Yard.state c.obey.new.yard) sound (ap g.Y.Yard.state (unread_is_idle c.read_order-order.result _ is c.obey.ensures.idle).0)))
+    (λ is. unread_keeps _ _ _
+    (((c.obey.new.disk ≡ c.args.disk.now) × (c.obey.new.acls ≡ c.args.acls.now) × (c.obey.new.input ≡ c.args.input.now) × (c.obey.new.rand ≡ c.args.rand.now) × (c.obey.new.clock ≡ c.args.clock.now))
+    × ((c.obey.new.yard ≡ c.args.yard.now) × (c.obey.new.door ≡ c.args.door.now)))
+    _ past port conns _ _ _ (g.W.Words.to_come c.obey.new.rand)
+    (g.Y.Yard.state c.args.yard.now) (g.Y.Yard.state c.obey.new.yard) _ _ _ _ c.obey.result tells sound (λ same. ap g.Y.Yard.state same.1.0)
+    (unread_wants c.read_order-order.result _ _ _ _ _ _ _ _ c.obey.result is c.obey.ensures.obeys c.obey.ensures.idle))
     (named_so c.read_order-order.result c.args.words.now c.read_order-order.ensures.ok c.read_order-order.ensures.usage (Serve port conns places) names)
 
 pub returns-clause-read : goal.returns-clause-read

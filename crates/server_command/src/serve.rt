@@ -3,7 +3,7 @@ ghost use Rattle.std.specs.Prelude.{◌≡◌, ◌+◌, ℕ, IsTrue};
 ghost use Rattle.hk_base.specs.Faults.{Rose};
 ghost use Rattle.cell_server.specs.Connections.{ServesEnds};
 ghost use Rattle.server_run.specs.declared.run.RunEnd.TheVariants as run_end;
-ghost use Rattle.hkms_commands.specs.Serve.{ReportsRun, Serves, generator_of};
+ghost use Rattle.server_command.specs.Serve.{ReportsRun, Serves, generator_of};
 
 use command_io::{ReplayEnd, ended_by, ended_by_props, read_properties, report, show};
 use disk_kinds::ChaWords;

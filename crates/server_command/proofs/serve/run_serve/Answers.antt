@@ -1,5 +1,5 @@
-use Rattle.hkms_commands.proofs.ServeLemmas.{serves_under}
-use Rattle.hkms_commands.proofs.serve.run_serve.Goals as goal
+use Rattle.server_command.proofs.ServeLemmas.{serves_under}
+use Rattle.server_command.proofs.serve.run_serve.Goals as goal
 
 pub returns-clause-serves : goal.returns-clause-serves
 returns-clause-serves g c =

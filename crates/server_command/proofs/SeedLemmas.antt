@@ -1,7 +1,7 @@
 -- Words that are drawn one after another.
 use Rattle.std.proofs.Common.{◌≡◌, refl, ap, ◌∙◌, ℕ, ◌+◌, List, [], ◌∷◌, arith}
 use Rattle.rand_chacha.specs.ChaCha.{ChaCha}
-use Rattle.hkms_commands.specs.Serve.{generator_of}
+use Rattle.server_command.specs.Serve.{generator_of}
 
 -- words after words after words
 pub later : (a b c : ℕ → ℕ) (m n : ℕ) → ((k : ℕ) → b k ≡ a (k + m)) → ((k : ℕ) → c k ≡ b (k + n)) → (k : ℕ) → c k ≡ a (k + (n + m))

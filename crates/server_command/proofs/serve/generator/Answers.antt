@@ -1,5 +1,5 @@
-use Rattle.hkms_commands.proofs.SeedLemmas.{after_eight, seeded}
-use Rattle.hkms_commands.proofs.serve.generator.Goals as goal
+use Rattle.server_command.proofs.SeedLemmas.{after_eight, seeded}
+use Rattle.server_command.proofs.serve.generator.Goals as goal
 
 pub returns-clause-seed : goal.returns-clause-seed
 returns-clause-seed g c =

@@ -1,32 +1,21 @@
 -- What follows of what a server did.
-use Rattle.std.proofs.Common.{◌≡◌, ◌≢◌, ◌⊎◌, inl, inr, ℕ, ◌+◌, List, ap, ◌∙◌, subst, arith}
-use Rattle.std.specs.Prelude.{IfOk, Ok, Err, Option}
-use Rattle.clap.specs.Words.{Text}
+use Rattle.std.proofs.Common.{◌≡◌, ◌≢◌, inl, inr, ℕ, ◌+◌, List, ap, ◌∙◌, subst, arith}
+use Rattle.std.specs.Prelude.{Option}
 use Rattle.rand_chacha.specs.ChaCha.{ChaCha}
 use Rattle.hk_base.specs.Disk.{DiskState}
 use Rattle.prop_text.specs.declared.props.Props.{Props}
-use Rattle.command_line.specs.Orders.{Answers, Names}
-use Rattle.command_line.specs.declared.order.Order.TheVariants.{Replay, Pipe, Serve, Load, Help, Version}
-use Rattle.command_line.specs.declared.order.OrderFault.TheVariants.{Usage, NoMemory}
 use Rattle.server_parts.specs.Doors.{DoorState}
 use Rattle.server_parts.specs.Yards.{YardState}
 use Rattle.cell_server.specs.Connections.{Serving}
 use Rattle.server_run.specs.Runs.{EndsAs}
 use Rattle.server_run.specs.declared.run.RunEnd.{RunEnd}
 use Rattle.server_run.specs.declared.run.RunEnd.TheVariants as run_end
-use Rattle.command_io.specs.declared.ends.ReplayEnd.{ReplayEnd}
-use Rattle.hkms_commands.specs.Orders.{LeavesServing}
 use Rattle.command_io.specs.Properties.{ReadsProperties}
-use Rattle.command_io.specs.Ends.{Reports}
-use Rattle.hkms_commands.specs.Serve.{ReportsRun, Serves, generator_of, words_after}
-use Rattle.hkms_commands.proofs.OrderLemmas.{OrderRead, not_shown}
-use Rattle.hk_runs.proofs.PipeLemmas.{replay_is_no_usage}
-use Rattle.hkms_commands.proofs.SeedLemmas.{later}
+use Rattle.server_command.specs.Serve.{ReportsRun, Serves, generator_of, words_after}
+use Rattle.command_io.proofs.UsageLemmas.{not_shown, report_is_no_usage}
+use Rattle.server_command.proofs.SeedLemmas.{later}
 
 -- no server has the status of refused words
-
-report_is_no_usage : (end : ReplayEnd) (written now : Option (List ℕ)) (status : ℕ) → Reports end written now status → status ≢ 2
-report_is_no_usage end written now status r = replay_is_no_usage status r.how r.status_is
 
 not_two : (n : ℕ) → n ≡ 0 → n ≢ 2
 not_two n zero two = absurd (omega (arith, zero, two))
@@ -43,19 +32,6 @@ pub server_is_no_usage : {D I O : Type 0} (state : D → DiskState) (to_come : C
     (door door' : DoorState I O) (written now : Option (List ℕ)) (status : ℕ) → Serves state to_come serves same port conns acls acls' words words' yard yard' door door' written now status → status ≢ 2
 server_is_no_usage state to_come serves same port conns acls acls' words words' yard yard' door door' written now status (inl refused) = report_is_no_usage _ written now status refused.reports
 server_is_no_usage state to_come serves same port conns acls acls' words words' yard yard' door door' written now status (inr ran) = run_is_no_usage ran.end written now status ran.reports
-
--- words that give the order of a server name it
-pub serving_named : (order : OrderRead) (words : List Text) (idle : Type 0) → IfOk order (λ o. Answers o words) → LeavesServing order idle → ((port : ℕ) × (conns : ℕ) × (places : ℕ) × Names (Serve port conns places) words) ⊎ idle
-serving_named (Ok Replay) words idle answers leaves = inr leaves
-serving_named (Ok Pipe) words idle answers leaves = inr leaves
-serving_named (Ok (Serve port conns places)) words idle (inl read) leaves = inl (port, conns, places, record { no_fault = read.0; command = read.1 })
-serving_named (Ok (Serve port conns places)) words idle (inr (inl help)) leaves = absurd help.0
-serving_named (Ok (Serve port conns places)) words idle (inr (inr version)) leaves = absurd version.0
-serving_named (Ok (Load count)) words idle answers leaves = inr leaves
-serving_named (Ok (Help text)) words idle answers leaves = inr leaves
-serving_named (Ok (Version text)) words idle answers leaves = inr leaves
-serving_named (Err Usage) words idle answers leaves = inr leaves
-serving_named (Err NoMemory) words idle answers leaves = inr leaves
 
 module _ {D I O : Type 0} (state : D → DiskState) (to_come : ChaCha → ℕ → ℕ) (serves : Serving I O D ChaCha) where
   -- the server ran with generators that were drawn one after another

@@ -1,0 +1,2 @@
+mod SeedLemmas
+pub mod ServeLemmas

@@ -1,0 +1,7 @@
+//! The command `serve`: the properties are read, the server runs under them, and the last line says how it
+//! ended.
+#![tactic(auto)]
+
+mod serve;
+
+pub use serve::run_serve;
