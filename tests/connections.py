@@ -125,4 +125,22 @@ def failing():
     return "the requests were answered" if refused and ended else str(statuses)
 
 
+def listener():
+    """Creates a key, and makes connections until the server takes no more."""
+    client = connect()
+    body = b'{"name":"k"}'
+    made = ask(client, b"POST /kms/v1/keys?user.name=a HTTP/1.1\r\nContent-Length: %d\r\n\r\n%s" % (len(body), body))
+    client.close()
+    for _ in range(20):
+        try:
+            client = connect()
+            status = ask(client)
+            client.close()
+        except OSError:
+            status = None
+        if status is None:
+            return "the key was made, and then the server was gone" if made == 201 else "the key was not made: %s" % made
+    return "each was answered"
+
+
 print(globals()[sys.argv[2]]())

@@ -1,7 +1,8 @@
 #!/usr/bin/env bash
 # How `hkms serve` shares its places among connections. A connection that has ended gives its place back, whatever its age. A client
 # that comes while no place is free gets that of the one that has waited longest for a request. A client that sends little by little
-# stops nobody else. After a sync that failed the server answers what it has begun, and ends.
+# stops nobody else. After a sync that failed the server answers what it has begun, and ends. It ends too if its listener is lost, and
+# has what it answered before when it is started again.
 set -u
 . "$(dirname "${BASH_SOURCE[0]}")/room.bash"
 command -v python3 >/dev/null || { echo 'tests/connections.sh: skipped, the command python3 is not here'; exit 0; }
@@ -54,7 +55,7 @@ else
     echo 'tests/connections.sh: skipped a thousand clients, there are too few descriptors'
 fi
 
-# ---- a disk that fails
+# ---- a disk that fails, and a listener that is lost
 
 if command -v strace >/dev/null && strace -o /dev/null true 2>/dev/null; then
     # Calls are counted thread by thread. An opening syncs each log four times, so the ninth sync of a thread is one of a change.
@@ -66,8 +67,18 @@ if command -v strace >/dev/null && strace -o /dev/null true 2>/dev/null; then
     output=$(cat "$room/out")
     expect 'a sync that failed' 5 'store fault'
     same 'the message on standard error' 1 "$(grep -c 'sync failed' "$room/messages")"
+
+    # An accept ends once a second if nobody comes, so the tenth one fails after some connections.
+    before=(strace -f -o /dev/null -e trace=accept,accept4 -e 'inject=accept,accept4:error=EBADF:when=10+')
+    start
+    same 'clients of a listener that is lost' 'the key was made, and then the server was gone' "$(clients listener)"
+    wait "$server"
+    status=$?
+    output=$(cat "$room/out")
+    expect 'a listener that was lost' 9 'door fault'
+    same 'the key is there after it' '1 names k' "$(cd "$room" && printf 'kms a names\n' | "$program" replay)"
 else
-    echo 'tests/connections.sh: skipped a disk that fails, strace does not work here'
+    echo 'tests/connections.sh: skipped a disk that fails and a listener that is lost, strace does not work here'
 fi
 
 [ "$failures" -eq 0 ]

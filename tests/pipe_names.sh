@@ -4,12 +4,15 @@
 set -u
 . "$(dirname "${BASH_SOURCE[0]}")/room.bash"
 
-# The bytes of requests: names METHOD TARGET, and keys TARGET BODY.
+# The bytes of requests: names METHOD TARGET, keys TARGET BODY, and delete_key KEY.
 names() {
     printf '%s /nn/v1/%s HTTP/1.1\r\n\r\n' "$1" "$2"
 }
 keys() {
     printf 'POST /kms/v1/%s HTTP/1.1\r\nContent-Length: %s\r\n\r\n%s' "$1" "${#2}" "$2"
+}
+delete_key() {
+    printf 'DELETE /kms/v1/key/%s?user.name=alice HTTP/1.1\r\n\r\n' "$1"
 }
 
 # One connection with the requests of the input. The output has a line for each response: its status and its body.
@@ -39,6 +42,16 @@ encrypted_key() {
     field=${output##* }
     version=${field%%:*}
     sealed=${field#*:}
+}
+
+# expect_version VERSION FILE ..: each file has an encrypted key of the version.
+expect_version() {
+    local wanted=$1 file
+    shift
+    for file; do
+        encrypted_key "$file"
+        same "the key of $file" "$wanted" "$version"
+    done
 }
 
 # What an encrypted key opens to: the key, or why it does not open.
@@ -102,6 +115,7 @@ converse < <(
     names POST 'cancel?path=/z&user.name=hdfs'
     names POST 'reencrypt?path=/z/f&user.name=hdfs'
     names POST 'reencrypt?path=/&user.name=hdfs'
+    names POST 'reencrypt?path=/none&user.name=hdfs'
 )
 expect 'a re-encryption is completed before its response' 0 '200 {"material":"AAECAwQFBgcICQoLDA0ODw","name":"k@1"}
 '"$(error 403 NotSuperuser 'N6 NotSuperuser')"'
@@ -109,7 +123,8 @@ expect 'a re-encryption is completed before its response' 0 '200 {"material":"AA
 200 {"answer":"status Completed k@1 1 0 no f"}
 '"$(error 409 NotSubmitted 'N19 NotSubmitted')"'
 '"$(error 409 NotADirectory 'N4 NotADirectory')"'
-'"$(error 404 NotAZoneRoot 'N8 NotAZoneRoot')"
+'"$(error 404 NotAZoneRoot 'N8 NotAZoneRoot')
+$(error 404 NoSuchPath 'N2 NoSuchPath')"
 
 # It has another encrypted key, under the new version, and opens to the same data key; the file in the snapshot is as it was.
 encrypted_key
@@ -195,6 +210,7 @@ expect 'a zone of several batches' 0 '201 {"material":"K34VFiiu0qar9xWICc9PPA","
 200 {"material":"AAECAwQFBgcICQoLDA0ODw","name":"j@1"}
 200
 200 {"answer":"status Completed j@1 5 0 no e"}'
+expect_version j@1 /y%20z/{a,b,c,d,e}
 echo 'hadoop.kms.blacklist.GENERATE_EEK=hdfs' >>"$room/kms-acls.properties"
 converse < <(
     keys 'key/j?user.name=alice' '{"material":"K34VFiiu0qar9xWICc9PPA"}'
@@ -204,6 +220,44 @@ converse < <(
 expect 'a submission that is denied' 0 '200 {"material":"K34VFiiu0qar9xWICc9PPA","name":"j@2"}
 '"$(error 403 KeyRefused 'N21 KeyRefused K3 Denied ServiceBlacklist GENERATE_EEK')"'
 200 {"answer":"status Completed j@1 5 0 no e"}'
+
+# The key was deleted and created again with one version, so the call for each batch is refused: its files keep their keys, of a version
+# that is gone, and count as failed. A zone without files is completed too.
+fresh
+printf '%s\n' 'default.key.acl.MANAGEMENT=*' 'default.key.acl.GENERATE_EEK=*' 'default.key.acl.READ=*' 'hkms.reencrypt.batch=2' >"$room/kms-acls.properties"
+converse < <(
+    keys 'keys?user.name=alice' '{"name":"k","length":128,"material":"K34VFiiu0qar9xWICc9PPA"}'
+    keys 'key/k?user.name=alice' '{"material":"AAECAwQFBgcICQoLDA0ODw"}'
+    names POST 'mkdir?path=/z&user.name=alice'
+    names POST 'zone?path=/z&key=k&user.name=hdfs'
+    for file in a b c d e; do names POST "create?path=/z/$file&user.name=alice"; done
+    delete_key k
+    keys 'keys?user.name=alice' '{"name":"k","length":128,"material":"EBESExQVFhcYGRobHB0eHw"}'
+    names POST 'reencrypt?path=/z&user.name=hdfs'
+    names GET 'status?path=/z&user.name=hdfs'
+    names POST 'mkdir?path=/y&user.name=alice'
+    names POST 'zone?path=/y&key=k&user.name=hdfs'
+    names POST 'reencrypt?path=/y&user.name=hdfs'
+    names GET 'status?path=/y&user.name=hdfs'
+)
+expect 'a zone whose key was replaced, and one without files' 0 '201 {"material":"K34VFiiu0qar9xWICc9PPA","name":"k@0"}
+200 {"material":"AAECAwQFBgcICQoLDA0ODw","name":"k@1"}
+200
+200
+201
+201
+201
+201
+201
+200
+201 {"material":"EBESExQVFhcYGRobHB0eHw","name":"k@0"}
+200
+200 {"answer":"status Completed k@0 0 5 no e"}
+200
+200
+200
+200 {"answer":"status Completed k@0 0 0 no -"}'
+expect_version k@1 /z/{a,b,c,d,e}
 
 # A zone in a zone: a file is of the innermost one, and the submission of the outer one leaves it alone.
 fresh

@@ -109,16 +109,43 @@ requests() {
         ask GET "/kms/v1/key/k/_eek?eek_op=generate&num_keys=1&user.name=alice" | grep -c '"versionName":"k@1"'
     done
 }
+# Creates a key and rolls it.
+make_key() {
+    ask POST '/kms/v1/keys?user.name=alice' "{\"name\":\"$1\"}"
+    ask POST "/kms/v1/key/$1?user.name=alice" '{}'
+}
+# Makes and deletes a key again and again, and leaves it with two versions.
+replace_key() {
+    for _ in $(seq 10); do
+        make_key "$1"
+        ask DELETE "/kms/v1/key/$1?user.name=alice"
+    done
+    make_key "$1"
+}
+versions() {
+    ask GET "/kms/v1/key/$1/_versions?user.name=alice"
+}
 for worker in $(seq 24); do
     requests "$worker" >"$folder/worker-$worker" &
     workers[worker]=$!
+done
+for key in own1 own2; do
+    replace_key "$key" >"$folder/$key" &
+    workers+=($!)
 done
 wait "${workers[@]}"
 same 'each file was made' 480 "$(cat "$folder"/worker-* | grep -o ' 201' | wc -l)"
 same 'each key was generated' 480 "$(cat "$folder"/worker-* | sed 's/ 201//' | awk '{ n += $1 } END { print n }')"
 same 'all files are there' 485 "$(ask GET '/nn/v1/list?path=/z&user.name=alice' | sed 's/"} 200$//' | tr ' ' '\n' | grep -c '^[a-e0-9]')"
+declare -A shown
+for key in own1 own2; do
+    same "what came of $key" '11 created, 11 rolled, 10 deleted' \
+        "$(sed 's/ 20[01]/&\n/g' "$folder/$key" | awk '/@0.* 201$/ { c++ } /@1.* 200$/ { r++ } /^ 200$/ { d++ } END { print c " created, " r " rolled, " d " deleted" }')"
+    shown[$key]=$(versions "$key")
+    same "the versions of $key" 2 "$(grep -o "\"name\":\"$key@[01]\"" <<<"${shown[$key]}" | wc -l)"
+done
 
-# ---- kills under load: each file that was answered is there, and opens by the logs
+# ---- kills under load: each file that was answered is there, and opens by the logs; keys are as they were
 
 for round in 1 2 3 4 5 6; do
     for worker in 1 2 3 4; do
@@ -144,6 +171,9 @@ for round in 1 2 3 4 5 6; do
     done
     complete
     same "round $round: the re-encryption went on" Completed "$(ask GET '/nn/v1/status?path=/z&user.name=hdfs' | grep -o Completed)"
+done
+for key in own1 own2; do
+    same "the versions of $key after the kills" "${shown[$key]}" "$(versions "$key")"
 done
 kill -KILL "$server"
 finish 2>/dev/null

@@ -1,5 +1,5 @@
 -- What a call, or another pass, adds to the numbers that were issued.
-use Rattle.std.proofs.Common.{◌≡◌, ℕ, List, [], ◌∷◌, ◌++◌, Option, Some, None, IfSome, sym, ◌∙◌, subst, inl, inr, append_assoc}
+use Rattle.std.proofs.Common.{◌≡◌, ℕ, List, [], ◌∷◌, ◌++◌, Option, Some, None, IfSome, sym, ◌∙◌, subst, inl, inr}
 use Rattle.hist_cell.specs.declared.views.Entry.{Entry}
 use Rattle.hist_cell.specs.declared.views.Known.{Known}
 use Rattle.hist_cell.specs.History.{MakesEntry, Meets}
@@ -14,9 +14,6 @@ issued_end n (x ∷ es) e c r = inr (issued_end n es e c r)
 
 pub issues : (v w : Known IssuerCall (Option ℕ) Issuer) (n : ℕ) (r : Option ℕ) → r ≡ Some n → MakesEntry Steps Allows v Issue r w → Issued n w.seen
 issues v w n r is a = subst (Issued n) (sym a.seen) (issued_end n (v.seen ++ a.between) a.entry a.call_is (a.reply_is ∙ is))
-
-pub still : (v w : Known IssuerCall (Option ℕ) Issuer) (n : ℕ) (q : IssuerCall) (r : Option ℕ) → MakesEntry Steps Allows v q r w → Issued n v.seen → Issued n w.seen
-still v w n q r a i = Allows-grows v.seen w.seen (Redeem n) (a.between ++ a.entry ∷ [], sym (append_assoc v.seen a.between (a.entry ∷ [])) ∙ sym a.seen) i
 
 pub met : (v w into : Known IssuerCall (Option ℕ) Issuer) (number : Option ℕ) (n : ℕ) → number ≡ Some n → Meets v w into → IfSome number (λ k. Issued k w.seen) → Issued n into.seen
 met v w into None n is m i = absurd (cc is)

@@ -40,6 +40,7 @@ pub fn draw_and_register<M: Naming, N: Naming, R: Wait>(
     };
     let lent = with.count();
     let Some(number) = issuer.act(rt, &mut with, IssuerCall::Issue) else {
+        drop(with);
         return None;
     };
     let seen = registry.act_meeting(rt, pass, issuer, with, RegistryCall::Register(number));
@@ -77,6 +78,24 @@ pub struct Registrations {
     pub seen: u64,
 }
 
+/// Draws and registers a number in each of two threads, with passes that are split from this one and met
+/// into it again.
+fn work_in_two<M: Naming + Send + Sync, N: Naming + Send + Sync, R: Threads + Wait + Sync>(
+    rt: &R,
+    issuer: &Cell<Issuer, M>,
+    registry: &RegistryCell<M, N>,
+    mut first: RegistryPass<M, N>,
+) -> (RegistryPass<M, N>, Registered, Registered) {
+    let second = registry.split(rt, &mut first);
+    let ((mut pass, one), (other, two)) = join(
+        rt,
+        || work(rt, issuer, registry, first),
+        || work(rt, issuer, registry, second),
+    );
+    registry.meet(rt, &mut pass, other);
+    (pass, one, two)
+}
+
 fn register_in_two<M: Naming + Send + Sync, N: Naming + Send + Sync, R: Threads + Wait + Sync>(
     rt: &R,
     issuer: &Cell<Issuer, M>,
@@ -84,16 +103,8 @@ fn register_in_two<M: Naming + Send + Sync, N: Naming + Send + Sync, R: Threads 
 ) -> (Pass<Issuer, M>, Registrations)
     requires name { registry.table ≡ N.table }
 {
-    let (registry, mut first) = registry.named::<N>();
-    let second = registry.split(rt, &mut first);
-    let (a, b) = join(
-        rt,
-        || work(rt, issuer, &registry, first),
-        || work(rt, issuer, &registry, second),
-    );
-    let (mut pass, one) = a;
-    let (other, two) = b;
-    registry.meet(rt, &mut pass, other);
+    let (registry, pass) = registry.named::<N>();
+    let (pass, one, two) = work_in_two(rt, issuer, &registry, pass);
     let (pass, last) = work(rt, issuer, &registry, pass);
     let (kept, count) = registry.close(pass).into_parts();
     let seen = kept.count();

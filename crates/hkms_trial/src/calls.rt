@@ -13,16 +13,16 @@ pub enum Course {
 
 /// Counts the calls of a part, up to 2^64 - 1, and says how each goes.
 #[derive(Drop)]
-pub struct Calls {
+pub struct Calls<'a> {
     part: Part,
-    faults: Vec<FaultAt>,
+    faults: &'a [FaultAt],
     made: u64,
     stopped: bool,
 }
 
-impl Calls {
+impl<'a> Calls<'a> {
     /// The calls of a part, of which those with one of these faults fail.
-    pub fn new(part: Part, faults: Vec<FaultAt>) -> Calls {
+    pub fn new(part: Part, faults: &'a [FaultAt]) -> Calls<'a> {
         Calls {
             part,
             faults,
@@ -37,7 +37,7 @@ impl Calls {
     }
 
     fn is_hit(&self, wanted: Fault) -> bool {
-        for at in self.faults.iter() {
+        for at in self.faults {
             if at.part == self.part && at.fault == wanted && at.call == self.made {
                 return true;
             }

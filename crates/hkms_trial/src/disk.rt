@@ -12,16 +12,21 @@ use std::alloc::Global;
 /// Two files in memory. A write that fails writes the first half of its bytes; a call after a stop
 /// does nothing. A proof knows nothing of their content.
 #[derive(Drop)]
-pub struct TrialDisk {
+pub struct TrialDisk<'a> {
     keys: TrialFile,
     names: TrialFile,
-    calls: Calls,
+    calls: Calls<'a>,
     faults: u64,
 }
 
-impl TrialDisk {
+impl<'a> TrialDisk<'a> {
     /// A disk with these files, synced, on which the calls with one of these faults fail.
-    pub fn new(alloc: Global, keys: Vec<u8>, names: Vec<u8>, faults: Vec<FaultAt>) -> TrialDisk {
+    pub fn new(
+        alloc: Global,
+        keys: Vec<u8>,
+        names: Vec<u8>,
+        faults: &'a [FaultAt],
+    ) -> TrialDisk<'a> {
         TrialDisk {
             keys: TrialFile::new(alloc, keys),
             names: TrialFile::new(alloc, names),
@@ -31,8 +36,8 @@ impl TrialDisk {
     }
 
     /// Begins to count the calls anew, and lets none fail.
-    pub fn mend(&mut self, alloc: Global) {
-        self.calls = Calls::new(Part::Disk, Vec::new(alloc));
+    pub fn mend(&mut self) {
+        self.calls = Calls::new(Part::Disk, &[]);
     }
 
     /// How many calls were made.
@@ -133,7 +138,7 @@ impl TrialDisk {
     }
 }
 
-impl Disk for TrialDisk {
+impl Disk for TrialDisk<'_> {
     ghost state = { λ d. opaque d.faults };
 
     ghost counts_now = { λ d t c le now. tt };

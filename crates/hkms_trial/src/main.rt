@@ -69,7 +69,11 @@ fn run_trial(rt: &HostRuntime, trial: &Trial) -> u8 {
 /// Reads a trial and runs it.
 fn run_file(rt: &HostRuntime, path: &str, file: &[u8]) -> u8 {
     match reading::read_trial(rt.alloc(), file) {
-        Ok(trial) => run_trial(rt, &trial),
+        Ok(trial) => {
+            let status = run_trial(rt, &trial);
+            drop(trial);
+            status
+        }
         Err(fault) => {
             let _ = eprintln!(rt; "hkms_trial: {path}: {fault}");
             2

@@ -9,15 +9,15 @@ use std::alloc::Global;
 
 /// Bytes that are read in pieces, by calls of which some may fail.
 #[derive(Drop)]
-pub struct TrialSource {
+pub struct TrialSource<'a> {
     bytes: MemSource,
-    calls: Calls,
+    calls: Calls<'a>,
     faults: u64,
 }
 
-impl TrialSource {
+impl<'a> TrialSource<'a> {
     /// A source of which a read gives at most `most` bytes.
-    pub fn new(alloc: Global, bytes: Vec<u8>, most: usize, calls: Calls) -> TrialSource {
+    pub fn new(alloc: Global, bytes: Vec<u8>, most: usize, calls: Calls<'a>) -> TrialSource<'a> {
         TrialSource {
             bytes: MemSource::new(bytes, most.max(1), Vec::new(alloc)),
             calls,
@@ -39,7 +39,7 @@ impl TrialSource {
     }
 }
 
-impl Source for TrialSource {
+impl Source for TrialSource<'_> {
     ghost left = { λ s. None };
 
     ghost faults = { λ s. s.faults };
@@ -58,15 +58,15 @@ impl Source for TrialSource {
 
 /// Bytes that are written in pieces, by calls of which some may fail.
 #[derive(Drop)]
-pub struct TrialSink {
+pub struct TrialSink<'a> {
     bytes: MemSink,
-    calls: Calls,
+    calls: Calls<'a>,
     faults: u64,
 }
 
-impl TrialSink {
+impl<'a> TrialSink<'a> {
     /// A sink of which a write takes at most `most` bytes.
-    pub fn new(alloc: Global, most: usize, calls: Calls) -> TrialSink {
+    pub fn new(alloc: Global, most: usize, calls: Calls<'a>) -> TrialSink<'a> {
         TrialSink {
             bytes: MemSink::new(alloc, most.max(1), Vec::new(alloc)),
             calls,
@@ -92,7 +92,7 @@ impl TrialSink {
     }
 }
 
-impl Sink for TrialSink {
+impl Sink for TrialSink<'_> {
     ghost written = { λ s. None };
 
     ghost faults = { λ s. s.faults };

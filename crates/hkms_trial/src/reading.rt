@@ -62,6 +62,7 @@ impl Draft {
 /// Checks what the file as a whole must have.
 fn checked(trial: Trial) -> Result<Trial, TrialFault> {
     if trial.images && trial.inputs.len() != 2 {
+        drop(trial);
         return Err(TrialFault::ImagesThen);
     }
     Ok(trial)
@@ -72,14 +73,26 @@ fn fault_in(number: u64, mistake: Mistake) -> TrialFault {
     TrialFault::Line { number, mistake }
 }
 
-/// The trial of a file that was read to its end.
-fn finished(mut draft: Draft, number: u64) -> Result<Trial, TrialFault> {
-    let Some(input) = draft.input.take() else {
-        return Err(TrialFault::NoInput);
-    };
-    match draft.trial.inputs.push(input) {
-        Ok(()) => checked(draft.trial),
-        Err(_) => Err(fault_in(number, Mistake::NoMemory)),
+/// Adds the last input to a trial, after this many lines.
+fn finished(mut trial: Trial, input: Vec<u8>, number: u64) -> Result<Trial, TrialFault> {
+    match trial.inputs.push(input) {
+        Ok(()) => checked(trial),
+        Err(_) => {
+            drop(trial);
+            Err(fault_in(number, Mistake::NoMemory))
+        }
+    }
+}
+
+/// The trial of a file that was read to its end, after this many lines.
+fn trial_of(draft: Draft, number: u64) -> Result<Trial, TrialFault> {
+    let Draft { trial, input, .. } = draft;
+    match input {
+        Some(input) => finished(trial, input, number),
+        None => {
+            drop(trial);
+            Err(TrialFault::NoInput)
+        }
     }
 }
 
@@ -90,10 +103,13 @@ fn read_lines(mut draft: Draft, file: &[u8]) -> Result<Trial, TrialFault> {
         number = number.saturating_add(1);
         match draft.take_line(line) {
             Ok(()) => {}
-            Err(mistake) => return Err(fault_in(number, mistake)),
+            Err(mistake) => {
+                drop(draft);
+                return Err(fault_in(number, mistake));
+            }
         }
     }
-    finished(draft, number)
+    trial_of(draft, number)
 }
 
 /// Reads a trial file.

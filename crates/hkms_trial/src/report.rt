@@ -77,10 +77,23 @@ impl Report {
         disk: &mut TrialDisk,
     ) -> Result<usize, AllocError> {
         let mut outside = Outside::new(self.alloc, trial, input, faults, drawn)?;
+        let ran = self.run_in(&mut outside, trial, disk);
+        let drawn = drawn.saturating_add(outside.drawn());
+        drop(outside);
+        ran?;
+        Ok(drawn)
+    }
+
+    /// Runs the command in what surrounds it, and reports it.
+    fn run_in(
+        &mut self,
+        outside: &mut Outside,
+        trial: &Trial,
+        disk: &mut TrialDisk,
+    ) -> Result<(), AllocError> {
         let status = outside.run(self.alloc, trial.command, disk);
         self.transcript(outside.transcript())?;
-        self.outcome(trial, disk, status)?;
-        Ok(drawn.saturating_add(outside.drawn()))
+        self.outcome(trial, disk, status)
     }
 
     /// Reports a first run with these faults, and the runs after it.
@@ -89,11 +102,25 @@ impl Report {
             return Ok(());
         };
         let mut disk = first_disk(self.alloc, trial, faults)?;
-        let drawn = self.run(trial, first.as_slice(), faults, 0, &mut disk)?;
+        let ran = self.runs_on(trial, first.as_slice(), later, faults, &mut disk);
+        drop(disk);
+        ran
+    }
+
+    /// Reports a first run on a disk with these faults, and the runs after it.
+    fn runs_on(
+        &mut self,
+        trial: &Trial,
+        first: &[u8],
+        later: &[Vec<u8>],
+        faults: &[FaultAt],
+        disk: &mut TrialDisk,
+    ) -> Result<(), AllocError> {
+        let drawn = self.run(trial, first, faults, 0, disk)?;
         if trial.images {
-            self.images(trial, drawn, &disk)
+            self.images(trial, drawn, disk)
         } else {
-            self.later_runs(trial, later, drawn, &mut disk)
+            self.later_runs(trial, later, drawn, disk)
         }
     }
 
@@ -107,7 +134,7 @@ impl Report {
     ) -> Result<(), AllocError> {
         let mut drawn = drawn;
         for input in inputs {
-            disk.mend(self.alloc);
+            disk.mend();
             drawn = self.run(trial, input.as_slice(), &[], drawn, disk)?;
         }
         Ok(())
@@ -115,14 +142,48 @@ impl Report {
 
     /// Reports a run on each image that a crash may leave of the disk.
     fn images(&mut self, trial: &Trial, drawn: usize, disk: &TrialDisk) -> Result<(), AllocError> {
-        let all_keys = disk.keys().images()?;
-        let all_names = disk.names().images()?;
+        let names = disk.names().images()?;
+        let ran = self.images_with(trial, drawn, disk, names.as_slice());
+        drop(names);
+        ran
+    }
+
+    /// Reports a run on each image of the key log with each of these of the edit log.
+    fn images_with(
+        &mut self,
+        trial: &Trial,
+        drawn: usize,
+        disk: &TrialDisk,
+        names: &[Vec<u8>],
+    ) -> Result<(), AllocError> {
+        let keys = disk.keys().images()?;
         let mut number = 0u64;
-        for keys in all_keys.iter() {
-            for names in all_names.iter() {
-                number = number.saturating_add(1);
-                self.image(trial, drawn, number, keys.as_slice(), names.as_slice())?;
+        let mut ran = Ok(());
+        for image in keys.iter() {
+            ran = self.images_of(trial, drawn, number, image.as_slice(), names);
+            if ran.is_err() {
+                break;
             }
+            number = number.saturating_add(names.len() as u64);
+        }
+        drop(keys);
+        ran
+    }
+
+    /// Reports a run on this image of the key log with each of these of the edit log. `number` images came
+    /// before them.
+    fn images_of(
+        &mut self,
+        trial: &Trial,
+        drawn: usize,
+        number: u64,
+        keys: &[u8],
+        names: &[Vec<u8>],
+    ) -> Result<(), AllocError> {
+        let mut number = number;
+        for image in names {
+            number = number.saturating_add(1);
+            self.image(trial, drawn, number, keys, image.as_slice())?;
         }
         Ok(())
     }
@@ -141,7 +202,9 @@ impl Report {
             return Ok(());
         };
         let mut disk = image_disk(self.alloc, keys, names)?;
-        self.run(trial, input.as_slice(), &[], drawn, &mut disk)?;
+        let ran = self.run(trial, input.as_slice(), &[], drawn, &mut disk);
+        drop(disk);
+        ran?;
         Ok(())
     }
 
@@ -181,10 +244,10 @@ fn digits(alloc: Global, bytes: &[u8]) -> Result<String, AllocError> {
 }
 
 /// A disk that a crash left.
-fn image_disk(alloc: Global, keys: &[u8], names: &[u8]) -> Result<TrialDisk, AllocError> {
+fn image_disk(alloc: Global, keys: &[u8], names: &[u8]) -> Result<TrialDisk<'static>, AllocError> {
     let keys = keys.to_vec(alloc)?;
     let names = names.to_vec(alloc)?;
-    Ok(TrialDisk::new(alloc, keys, names, Vec::new(alloc)))
+    Ok(TrialDisk::new(alloc, keys, names, &[]))
 }
 
 /// How many calls of the part of a sweep the first run makes without the fault of the sweep.
@@ -192,11 +255,25 @@ fn count_calls(alloc: Global, trial: &Trial, sweep: Sweep) -> Result<u64, AllocE
     let Some(input) = trial.inputs.first() else {
         return Ok(0);
     };
-    let faults = trial.faults.as_slice();
-    let mut disk = first_disk(alloc, trial, faults)?;
-    let mut outside = Outside::new(alloc, trial, input.as_slice(), faults, 0)?;
-    outside.run(alloc, trial.command, &mut disk);
-    Ok(outside.calls(sweep.part, &disk))
+    let mut disk = first_disk(alloc, trial, trial.faults.as_slice())?;
+    let count = count_on(alloc, trial, sweep, input.as_slice(), &mut disk);
+    drop(disk);
+    count
+}
+
+/// How many calls of the part of a sweep a run on this disk makes without the fault of the sweep.
+fn count_on(
+    alloc: Global,
+    trial: &Trial,
+    sweep: Sweep,
+    input: &[u8],
+    disk: &mut TrialDisk,
+) -> Result<u64, AllocError> {
+    let mut outside = Outside::new(alloc, trial, input, trial.faults.as_slice(), 0)?;
+    outside.run(alloc, trial.command, disk);
+    let count = outside.calls(sweep.part, disk);
+    drop(outside);
+    Ok(count)
 }
 
 /// The faults of a trial, and that of its sweep at a call.

@@ -15,22 +15,17 @@ const PERMITTING: &[u8] = b"default.key.acl.MANAGEMENT=*\n\
 
 /// What surrounds a run beside its disk.
 #[derive(Drop)]
-pub struct Outside {
-    properties: TrialSource,
-    input: TrialSource,
-    output: TrialSink,
+pub struct Outside<'a> {
+    properties: TrialSource<'a>,
+    input: TrialSource<'a>,
+    output: TrialSink<'a>,
     words: CountedWords,
 }
 
-fn calls(alloc: Global, part: Part, faults: &[FaultAt]) -> Result<Calls, AllocError> {
-    Ok(Calls::new(part, faults.to_vec(alloc)?))
-}
-
 /// The words of a trial that are left after `drawn` of them.
-fn draws_after(alloc: Global, trial: &Trial, drawn: usize) -> Result<CountedWords, AllocError> {
+fn draws_after(alloc: Global, trial: &Trial, drawn: usize) -> Result<Vec<u32>, AllocError> {
     let begin = drawn.min(trial.draws.len());
-    let left = trial.draws[begin..].to_vec(alloc)?;
-    Ok(CountedWords::new(left))
+    trial.draws[begin..].to_vec(alloc)
 }
 
 fn properties_of(alloc: Global, trial: &Trial) -> Result<Vec<u8>, AllocError> {
@@ -40,27 +35,26 @@ fn properties_of(alloc: Global, trial: &Trial) -> Result<Vec<u8>, AllocError> {
     }
 }
 
-impl Outside {
+impl<'a> Outside<'a> {
     /// What surrounds a run with this input, of which the calls with one of these faults fail.
     pub fn new(
         alloc: Global,
         trial: &Trial,
         input: &[u8],
-        faults: &[FaultAt],
+        faults: &'a [FaultAt],
         drawn: usize,
-    ) -> Result<Outside, AllocError> {
+    ) -> Result<Outside<'a>, AllocError> {
         let properties = properties_of(alloc, trial)?;
-        let reads = calls(alloc, Part::Properties, faults)?;
-        let properties = TrialSource::new(alloc, properties, trial.read, reads);
-        let reads = calls(alloc, Part::Input, faults)?;
-        let input = TrialSource::new(alloc, input.to_vec(alloc)?, trial.read, reads);
-        let writes = calls(alloc, Part::Output, faults)?;
-        let output = TrialSink::new(alloc, trial.write, writes);
+        let input = input.to_vec(alloc)?;
+        let draws = draws_after(alloc, trial, drawn)?;
+        let calls = Calls::new(Part::Properties, faults);
+        let properties = TrialSource::new(alloc, properties, trial.read, calls);
+        let calls = Calls::new(Part::Input, faults);
         Ok(Outside {
             properties,
-            input,
-            output,
-            words: draws_after(alloc, trial, drawn)?,
+            input: TrialSource::new(alloc, input, trial.read, calls),
+            output: TrialSink::new(alloc, trial.write, Calls::new(Part::Output, faults)),
+            words: CountedWords::new(draws),
         })
     }
 
@@ -101,12 +95,12 @@ impl Outside {
 }
 
 /// The disk that a trial begins with.
-pub fn first_disk(
+pub fn first_disk<'a>(
     alloc: Global,
     trial: &Trial,
-    faults: &[FaultAt],
-) -> Result<TrialDisk, AllocError> {
+    faults: &'a [FaultAt],
+) -> Result<TrialDisk<'a>, AllocError> {
     let keys = trial.keys.to_vec(alloc)?;
     let names = trial.names.to_vec(alloc)?;
-    Ok(TrialDisk::new(alloc, keys, names, faults.to_vec(alloc)?))
+    Ok(TrialDisk::new(alloc, keys, names, faults))
 }

@@ -9,7 +9,7 @@ use std::{thread, time};
 const LOOKS: u32 = 20_000;
 
 /// What threads come to.
-#[derive(Clone, Copy)]
+#[derive(Clone, Copy, PartialEq, Eq)]
 pub enum Moment {
     /// A call was answered, and its response is not written yet.
     Reply,
@@ -17,14 +17,25 @@ pub enum Moment {
     Seal,
     /// The updater is about to deliver what came of a batch.
     Delivery,
-    /// The key management service draws its first random word.
+    /// The key management service draws a random word.
     Draw,
 }
 
-/// Counts how often threads came to each moment.
+/// Holds the thread that comes to a moment as the one of this number, counted from 1, until threads came
+/// to another moment so often.
+#[derive(Clone, Copy)]
+pub struct Hold {
+    pub at: Moment,
+    pub number: u32,
+    pub until: Moment,
+    pub times: u32,
+}
+
+/// Counts how often threads came to each moment, and holds some of them.
 #[derive(Drop)]
 pub struct Tally<C: time::Clock + Drop> {
     clock: C,
+    holds: &'static [Hold],
     replies: AtomicU32,
     seals: AtomicU32,
     deliveries: AtomicU32,
@@ -34,9 +45,10 @@ pub struct Tally<C: time::Clock + Drop> {
 }
 
 impl<C: time::Clock + Drop> Tally<C> {
-    pub fn new(clock: C) -> Tally<C> {
+    pub fn new(clock: C, holds: &'static [Hold]) -> Tally<C> {
         Tally {
             clock,
+            holds,
             replies: AtomicU32::new(0),
             seals: AtomicU32::new(0),
             deliveries: AtomicU32::new(0),
@@ -62,7 +74,7 @@ impl<C: time::Clock + Drop> Tally<C> {
     }
 
     /// Waits until threads came to a moment so often, but not forever.
-    fn hold(&self, moment: Moment, times: u32) {
+    fn wait(&self, moment: Moment, times: u32) {
         for _ in 0..LOOKS {
             if self.counter(moment).load(Ordering::SeqCst) >= times {
                 self.in_time.fetch_add(1, Ordering::SeqCst);
@@ -72,58 +84,43 @@ impl<C: time::Clock + Drop> Tally<C> {
         }
     }
 
+    /// Counts that a thread came to a moment, and holds it if it is one to be held.
+    fn come(&self, moment: Moment) {
+        let number = self.count(moment);
+        for hold in self.holds {
+            if hold.at == moment && hold.number == number {
+                self.wait(hold.until, hold.times);
+            }
+        }
+    }
+
     /// Returns how many threads were held and came free in time.
     pub fn in_time(&self) -> u32 {
         self.in_time.load(Ordering::SeqCst)
     }
 }
 
-/// Holds the reply of this number, counted from 1, until threads came to a moment so often.
-#[derive(Clone, Copy)]
-pub struct Hold {
-    pub reply: u32,
-    pub until: Moment,
-    pub times: u32,
-}
-
-/// A gate that holds replies.
+/// A gate that holds threads.
 #[derive(Drop)]
 pub struct HeldGate<'a, C: time::Clock + Drop> {
     pub tally: &'a Tally<C>,
-    pub holds: &'a [Hold],
-}
-
-impl<'a, C: time::Clock + Drop> HeldGate<'a, C> {
-    fn reply(&self) {
-        let number = self.tally.count(Moment::Reply);
-        for hold in self.holds {
-            if hold.reply == number {
-                self.tally.hold(hold.until, hold.times);
-            }
-        }
-    }
 }
 
 impl<'a, C: time::Clock + Drop> Gate for HeldGate<'a, C> {
     fn pass<R: Wait>(&self, _rt: &R, point: Point) {
         match point {
-            Point::BeforeReply => self.reply(),
-            Point::BeforeSeal => {
-                self.tally.count(Moment::Seal);
-            }
-            Point::BeforeDeliver => {
-                self.tally.count(Moment::Delivery);
-            }
+            Point::BeforeReply => self.tally.come(Moment::Reply),
+            Point::BeforeSeal => self.tally.come(Moment::Seal),
+            Point::BeforeDeliver => self.tally.come(Moment::Delivery),
             Point::BeforeServe => {}
         }
     }
 }
 
-/// Random words of which the first is held until so many calls were answered.
+/// Random words that hold whoever draws them.
 #[derive(Drop)]
 pub struct HeldWords<'a, C: time::Clock + Drop, W: Words> {
     pub tally: &'a Tally<C>,
-    pub replies: u32,
     pub words: W,
 }
 
@@ -131,9 +128,7 @@ impl<'a, C: time::Clock + Drop, W: Words> Words for HeldWords<'a, C, W> {
     ghost to_come = { λ w k. W.to_come w.words k };
 
     fn word(&mut self) -> u32 {
-        if self.tally.count(Moment::Draw) == 1 {
-            self.tally.hold(Moment::Reply, self.replies);
-        }
+        self.tally.come(Moment::Draw);
         self.words.word()
     }
 }

@@ -1,116 +1,178 @@
 //! Threads that are held until others have come to a certain point.
-use crate::gates::{HeldWords, Hold, Moment, Tally};
-use crate::scripts::Script;
-use crate::services::serve_held;
-use disk_kinds::ChaWords;
-use std::alloc::Global;
+use crate::gates::{Hold, Moment, Tally};
+use crate::requests::{Client, Request};
+use crate::services::serve;
 use std::process::Abort;
+use std::sync::Wait;
+use std::thread::Threads;
 use std::time;
 
-fn words() -> ChaWords {
-    ChaWords::from_seed([4; 32])
+/// What clients ask, and which threads are held meanwhile.
+struct Case {
+    clients: &'static [Client],
+    holds: &'static [Hold],
 }
 
-/// So many threads were held, and all came free in time.
-fn check_in_time<C: time::Clock + Drop>(rt: &impl Abort, tally: &Tally<C>, held: u32) {
-    assert_eq!(rt; tally.in_time(), held);
+const GENERATE: Request = Request {
+    line: "GET /kms/v1/key/k/_eek?eek_op=generate&user.name=alice",
+    body: "",
+    status: 200,
+    answer: "[{\"encryptedKeyVersion\":{\"material\":\"",
+};
+
+const ROLL: Request = Request {
+    line: "POST /kms/v1/key/k?user.name=alice",
+    body: "",
+    status: 200,
+    answer: "{\"material\":\"",
+};
+
+const DELETE_KEY: Request = Request {
+    line: "DELETE /kms/v1/key/k?user.name=alice",
+    body: "",
+    status: 200,
+    answer: "",
+};
+
+const CREATE_KEY: Request = Request {
+    line: "POST /kms/v1/keys?user.name=alice",
+    body: "{\"name\":\"k\"}",
+    status: 201,
+    answer: "{\"material\":\"",
+};
+
+const LIST: Request = Request {
+    line: "GET /nn/v1/list?path=/&user.name=bob",
+    body: "",
+    status: 200,
+    answer: "{\"answer\":\"list\"}",
+};
+
+const MAKE_DIRECTORY: Request = Request {
+    line: "POST /nn/v1/mkdir?path=/z&user.name=alice",
+    body: "",
+    status: 200,
+    answer: "",
+};
+
+const MAKE_ZONE: Request = Request {
+    line: "POST /nn/v1/zone?path=/z&key=k&user.name=hdfs",
+    body: "",
+    status: 200,
+    answer: "",
+};
+
+const MAKE_FILE: Request = Request {
+    line: "POST /nn/v1/create?path=/z/f&user.name=alice",
+    body: "",
+    status: 201,
+    answer: "",
+};
+
+const DELETE_FILE: Request = Request {
+    line: "POST /nn/v1/delete?path=/z/f&user.name=alice",
+    body: "",
+    status: 200,
+    answer: "",
+};
+
+const SUBMIT: Request = Request {
+    line: "POST /nn/v1/reencrypt?path=/z&user.name=hdfs",
+    body: "",
+    status: 200,
+    answer: "",
+};
+
+/// The first reply has the entries of the root. It is held until the other client's key is being generated,
+/// which is held until there is a second reply: the directory is made meanwhile.
+const DIRECTORY: Case = Case {
+    clients: &[&[GENERATE], &[LIST, MAKE_DIRECTORY]],
+    holds: &[
+        Hold {
+            at: Moment::Reply,
+            number: 1,
+            until: Moment::Draw,
+            times: 1,
+        },
+        Hold {
+            at: Moment::Draw,
+            number: 1,
+            until: Moment::Reply,
+            times: 2,
+        },
+    ],
+};
+
+/// The reply to the generate is held until a filler seals, which is held until the key was deleted and
+/// created again.
+const FILLER: Case = Case {
+    clients: &[&[GENERATE, DELETE_KEY, CREATE_KEY, GENERATE]],
+    holds: &[
+        Hold {
+            at: Moment::Reply,
+            number: 1,
+            until: Moment::Seal,
+            times: 1,
+        },
+        Hold {
+            at: Moment::Seal,
+            number: 1,
+            until: Moment::Reply,
+            times: 3,
+        },
+    ],
+};
+
+/// The reply to the submission is held until a batch is delivered, which is held until the key was rolled
+/// once more and the file deleted.
+const DELIVERY: Case = Case {
+    clients: &[&[
+        MAKE_DIRECTORY,
+        MAKE_ZONE,
+        MAKE_FILE,
+        ROLL,
+        SUBMIT,
+        ROLL,
+        DELETE_FILE,
+    ]],
+    holds: &[
+        Hold {
+            at: Moment::Reply,
+            number: 5,
+            until: Moment::Delivery,
+            times: 1,
+        },
+        Hold {
+            at: Moment::Delivery,
+            number: 1,
+            until: Moment::Reply,
+            times: 7,
+        },
+    ],
+};
+
+/// Serves the clients of a case. All threads that are to be held are held, and come free in time.
+fn check_case<R: Threads + Wait + Abort + AllocGlobal + Sync, C: time::Clock + Sync + Drop>(
+    rt: &R,
+    clock: C,
+    case: &Case,
+) {
+    let tally = Tally::new(clock, case.holds);
+    serve(rt, case.clients, &tally);
+    assert_eq!(rt; tally.in_time() as usize, case.holds.len());
 }
 
-/// A client that shows the root.
-fn look(rt: &impl Abort, alloc: Global) -> Script {
-    let mut script = Script::new(alloc);
-    script.close(rt);
-    script
-}
-
-/// The first reply is held until there is a second one.
-const SECOND_REPLY: &[Hold] = &[Hold {
-    reply: 1,
-    until: Moment::Reply,
-    times: 2,
-}];
-
-#[test]
-fn a_connection_is_held_until_another_was_answered(rt: HostRuntime) {
-    let tally = Tally::new(rt);
-    let scripts = [look(&rt, rt.alloc()), look(&rt, rt.alloc())];
-    serve_held(&rt, words(), &scripts, &tally, SECOND_REPLY);
-    check_in_time(&rt, &tally, 1);
-}
-
-/// A client that generates a key.
-fn generate(rt: &impl Abort, alloc: Global) -> Script {
-    let mut script = Script::new(alloc);
-    script.generate(rt, "k");
-    script
-}
-
-/// A client that shows the root, and makes a directory.
-fn show_and_make(rt: &impl Abort, alloc: Global) -> Script {
-    let mut script = Script::new(alloc);
-    script.name(
-        rt,
-        "GET list?path=/&user.name=bob",
-        200,
-        "{\"answer\":\"list\"}",
-    );
-    script.mkdir(rt, "/d");
-    script
-}
-
-/// The first reply is held until a word is drawn.
-const FIRST_DRAW: &[Hold] = &[Hold {
-    reply: 1,
-    until: Moment::Draw,
-    times: 1,
-}];
-
-/// The first reply shows the root. It is held until the other client's key is being generated, which
-/// is held until there is a second reply: the directory is made meanwhile.
 #[test]
 fn a_directory_is_made_while_a_key_is_generated(rt: HostRuntime) {
-    let tally = Tally::new(rt);
-    let held = HeldWords {
-        tally: &tally,
-        replies: 2,
-        words: words(),
-    };
-    let scripts = [generate(&rt, rt.alloc()), show_and_make(&rt, rt.alloc())];
-    serve_held(&rt, held, &scripts, &tally, FIRST_DRAW);
-    check_in_time(&rt, &tally, 2);
+    check_case(&rt, rt, &DIRECTORY);
 }
-
-/// A client that makes a zone with a file, rolls its key, generates a key and submits the zone: replies
-/// 5 and 6.
-fn use_workers(rt: &impl Abort, alloc: Global) -> Script {
-    let mut script = Script::new(alloc);
-    script.zone(rt, "/z", "k");
-    script.file(rt, "/z/f");
-    script.roll(rt, "k");
-    script.generate(rt, "k");
-    script.submit(rt, "/z");
-    script
-}
-
-/// The reply to the generate is held until a filler seals, that to the submission until a batch is
-/// delivered.
-const WORKERS: &[Hold] = &[
-    Hold {
-        reply: 5,
-        until: Moment::Seal,
-        times: 1,
-    },
-    Hold {
-        reply: 6,
-        until: Moment::Delivery,
-        times: 1,
-    },
-];
 
 #[test]
-fn fillers_and_batch_workers_work_beside_a_connection(rt: HostRuntime) {
-    let tally = Tally::new(rt);
-    let scripts = [use_workers(&rt, rt.alloc())];
-    serve_held(&rt, words(), &scripts, &tally, WORKERS);
-    check_in_time(&rt, &tally, 2);
+fn a_key_is_replaced_while_a_filler_seals(rt: HostRuntime) {
+    check_case(&rt, rt, &FILLER);
+}
+
+#[test]
+fn a_file_is_deleted_while_a_batch_is_delivered(rt: HostRuntime) {
+    check_case(&rt, rt, &DELIVERY);
 }

@@ -3,9 +3,9 @@ ghost use Rattle.std.specs.Prelude.{◌≡◌, []};
 ghost use Rattle.disk_kinds.specs.Plain.{state_of};
 ghost use Rattle.name_history.specs.Views.{NamesRunOn};
 
-use crate::gates::{HeldGate, Hold, Tally};
-use crate::runs::{PROPERTIES, Ticks, check_left, door};
-use crate::scripts::Script;
+use crate::clients::{check_left, door};
+use crate::gates::{HeldGate, HeldWords, Tally};
+use crate::requests::Client;
 use cell_server::{ServeEnd, serve_all};
 use disk_kinds::{ChaWords, PlainDisk};
 use door_kinds::MemDoor;
@@ -24,6 +24,23 @@ use std::sync::Wait;
 use std::thread::Threads;
 use std::time;
 
+/// Everybody may do everything. A full queue has 8 ready keys.
+const PROPERTIES: &[u8] =
+    b"default.key.acl.MANAGEMENT=*\ndefault.key.acl.GENERATE_EEK=*\ndefault.key.acl.DECRYPT_EEK=*\ndefault.key.acl.READ=*\nhkms.queue.size=8\nhkms.queue.watermark=4\n";
+
+/// A clock that counts how often it is read.
+#[derive(Drop)]
+struct Ticks {
+    now: u64,
+}
+
+impl Clock for Ticks {
+    fn now_ms(&mut self) -> u64 {
+        self.now = self.now.wrapping_add(1);
+        self.now
+    }
+}
+
 type TestSide<W> = KmsSide<PlainDisk, W, Ticks>;
 
 /// Starts the key management service on an empty disk.
@@ -33,7 +50,7 @@ fn start_keys(rt: &(impl Abort + AllocGlobal)) -> TestSide<ChaWords> {
     let acls = Acls::from_props(alloc, &props).expect(rt, "memory");
     let mut disk = PlainDisk::new(alloc);
     let kms = Kms::start(alloc, &mut disk, acls, props.sizes).expect(rt, "a start");
-    KmsSide::new(kms, disk, ChaWords::from_seed([1; 32]), Ticks::new())
+    KmsSide::new(kms, disk, ChaWords::from_seed([1; 32]), Ticks { now: 0 })
 }
 
 fn text(rt: &(impl Abort + AllocGlobal), text: &str) -> Text {
@@ -60,7 +77,7 @@ fn keys<W: Words + Drop>(rt: &(impl Abort + AllocGlobal), words: W) -> TestSide<
     let mut side = start_keys(rt);
     create_key(rt, &mut side);
     let (kms, disk) = side.into_parts();
-    KmsSide::new(kms, disk, words, Ticks::new())
+    KmsSide::new(kms, disk, words, Ticks { now: 0 })
 }
 
 /// Starts the namesystem on an empty disk.
@@ -134,22 +151,31 @@ fn serve_opened<
     serve_named::<M, Brand, R, D, W, C, G>(rt, cells, keys, door, conns, gate)
 }
 
-/// Serves the clients of these scripts with both services and the key `k`, through a gate that holds
-/// replies. All are served, and get their responses.
-pub fn serve_held<
-    R: Threads + Wait + Abort + AllocGlobal + Sync,
-    W: Words + Send + Drop,
-    C: time::Clock + Sync + Drop,
->(rt: &R, words: W, scripts: &[Script], tally: &Tally<C>, holds: &[Hold]) {
+/// Serves clients with both services and the key `k`, whose threads this tally counts and holds. All are
+/// served, and get their responses.
+pub fn serve<R: Threads + Wait + Abort + AllocGlobal + Sync, C: time::Clock + Sync + Drop>(
+    rt: &R,
+    clients: &[Client],
+    tally: &Tally<C>,
+) {
+    let words = HeldWords {
+        tally,
+        words: ChaWords::from_seed([4; 32]),
+    };
     let (names, disk) = names(rt);
     let opening = Opening::new(rt.alloc(), keys(rt, words), names, disk).expect(rt, "memory");
-    let mut door = door(rt, scripts, &[]);
-    let conns = u32::try_from(scripts.len()).expect(rt, "a number");
-    let gate = HeldGate { tally, holds };
-    let (closed, end) = serve_opened::<Brand, R, PlainDisk, W, Ticks, HeldGate<C>>(
-        rt, opening, &mut door, conns, &gate,
-    );
+    let mut door = door(rt, rt.alloc(), clients);
+    let conns = u32::try_from(clients.len()).expect(rt, "a number");
+    let gate = HeldGate { tally };
+    let (closed, end) = serve_opened::<
+        Brand,
+        R,
+        PlainDisk,
+        HeldWords<C, ChaWords>,
+        Ticks,
+        HeldGate<C>,
+    >(rt, opening, &mut door, conns, &gate);
     drop(closed);
     assert_eq!(rt; end, ServeEnd::Served);
-    check_left(rt, &door, scripts);
+    check_left(rt, &door, clients);
 }

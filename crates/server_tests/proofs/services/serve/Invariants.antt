@@ -1,4 +1,4 @@
-use Rattle.server_tests.proofs.services.serve_held.Given as goal
+use Rattle.server_tests.proofs.services.serve.Given as goal
 
 -- the name is that of the cell that was just made
 abbrev pub ghosts-serve_opened : goal.ghosts-serve_opened
