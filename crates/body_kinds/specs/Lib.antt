@@ -1,0 +1,3 @@
+pub mod MemVaults
+pub mod Opaque
+pub mod Shelves

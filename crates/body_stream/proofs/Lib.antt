@@ -1,0 +1,4 @@
+mod FormLemmas
+mod LawLemmas
+mod PutLemmas
+mod ReadLemmas

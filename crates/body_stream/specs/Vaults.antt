@@ -1,0 +1,35 @@
+-- How contracts see a vault of bodies, and what each call does to it.
+use Rattle.std.specs.Prelude.{◌≡◌, ◌≢◌, ℕ, Bool, IsTrue, List, ◌++◌}
+
+-- The view of a vault in proofs.
+pub record VaultState : Type 0 where
+  -- whether a proof knows what it holds
+  pub tells : Bool
+  -- the body of each id, if `tells`; an id never written has an empty one
+  pub bodies : ℕ → List ℕ
+  -- the number of its failures
+  pub faults : ℕ
+
+abbrev pub TellsBodies : VaultState → Type 0
+TellsBodies v = IsTrue v.tells
+
+-- the bodies of all other ids are unchanged
+abbrev pub OthersStay : ℕ → (ℕ → List ℕ) → (ℕ → List ℕ) → Type 0
+OthersStay id old new = (j : ℕ) → j ≢ id → new j ≡ old j
+
+-- these bytes were appended to the body of an id
+pub record Grows (id : ℕ) (bytes : List ℕ) (old new : ℕ → List ℕ) : Type 0 where
+  pub body : new id ≡ old id ++ bytes
+  pub others : OthersStay id old new
+
+-- a prefix of these bytes was appended to the body of an id
+pub record GrowsInPart (id : ℕ) (bytes : List ℕ) (old new : ℕ → List ℕ) : Type 0 where
+  pub front : List ℕ
+  pub more : List ℕ
+  pub whole : front ++ more ≡ bytes
+  pub grows : Grows id front old new
+
+-- a call that changes no body
+pub record KeepsBodies (old new : VaultState) : Type 0 where
+  pub tells : new.tells ≡ old.tells
+  pub bodies : TellsBodies old → (j : ℕ) → new.bodies j ≡ old.bodies j
