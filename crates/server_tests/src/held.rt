@@ -84,7 +84,8 @@ const SUBMIT: Request = Request {
 };
 
 /// The first reply has the entries of the root. It is held until the other client's key is being generated,
-/// which is held until there is a second reply: the directory is made meanwhile.
+/// which is held at its first random word until there is a second reply: the directory is made meanwhile.
+/// Four words were drawn for the material of the key `k`.
 const DIRECTORY: Case = Case {
     clients: &[&[GENERATE], &[LIST, MAKE_DIRECTORY]],
     holds: &[
@@ -92,11 +93,11 @@ const DIRECTORY: Case = Case {
             at: Moment::Reply,
             number: 1,
             until: Moment::Draw,
-            times: 1,
+            times: 5,
         },
         Hold {
             at: Moment::Draw,
-            number: 1,
+            number: 5,
             until: Moment::Reply,
             times: 2,
         },

@@ -45,13 +45,12 @@ struct Response<'a> {
 
 /// Returns the length that a head says.
 fn length_in(rt: &impl Abort, head: &str) -> usize {
-    for line in head.lines() {
-        match line.strip_prefix("Content-Length: ") {
-            Some(digits) => return digits.parse::<usize>().expect(rt, "a number"),
-            None => {}
-        }
-    }
-    panic!(rt; "no length")
+    let (_, rest) = head.split_once("Content-Length: ").expect(rt, "a length");
+    let digits = match rest.split_once("\r\n") {
+        Some((digits, _)) => digits,
+        None => rest,
+    };
+    digits.parse::<usize>().expect(rt, "a number")
 }
 
 /// Returns the status in a head.

@@ -43,41 +43,33 @@ impl Clock for Ticks {
 
 type TestSide<W> = KmsSide<PlainDisk, W, Ticks>;
 
-/// Starts the key management service on an empty disk.
-fn start_keys(rt: &(impl Abort + AllocGlobal)) -> TestSide<ChaWords> {
+/// Starts the key management service on an empty disk. It draws from these words.
+fn start_keys<W: Words + Drop>(rt: &(impl Abort + AllocGlobal), words: W) -> TestSide<W> {
     let alloc = rt.alloc();
     let props = read_props(alloc, PROPERTIES).expect(rt, "properties");
     let acls = Acls::from_props(alloc, &props).expect(rt, "memory");
     let mut disk = PlainDisk::new(alloc);
     let kms = Kms::start(alloc, &mut disk, acls, props.sizes).expect(rt, "a start");
-    KmsSide::new(kms, disk, ChaWords::from_seed([1; 32]), Ticks { now: 0 })
+    KmsSide::new(kms, disk, words, Ticks { now: 0 })
 }
 
 fn text(rt: &(impl Abort + AllocGlobal), text: &str) -> Text {
     Text::of(String::from_str(rt.alloc(), text).expect(rt, "memory"))
 }
 
-/// Creates the key `k`.
-fn create_key(rt: &(impl Abort + AllocGlobal), side: &mut TestSide<ChaWords>) {
+/// Creates the key `k`, whose material takes four random words.
+fn create_key<W: Words + Drop>(rt: &(impl Abort + AllocGlobal), side: &mut TestSide<W>) {
     let call = KmsCall::Create {
         name: KeyName::read(b"k").expect(rt, "a name"),
         bits: 128,
         material: None,
-        description: Description::of(text(rt, "")).expect(rt, "a description"),
+        description: Description::empty(rt.alloc()),
     };
     let user = text(rt, "alice");
     match side.act(KmsAct::Call { user, call }) {
         KmsActed::Call(KmsReply::Version { .. }) => {}
         _ => panic!(rt; "no key"),
     }
-}
-
-/// Starts the key management service with a key. It draws from these words after that.
-fn keys<W: Words + Drop>(rt: &(impl Abort + AllocGlobal), words: W) -> TestSide<W> {
-    let mut side = start_keys(rt);
-    create_key(rt, &mut side);
-    let (kms, disk) = side.into_parts();
-    KmsSide::new(kms, disk, words, Ticks { now: 0 })
 }
 
 /// Starts the namesystem on an empty disk.
@@ -162,8 +154,10 @@ pub fn serve<R: Threads + Wait + Abort + AllocGlobal + Sync, C: time::Clock + Sy
         tally,
         words: ChaWords::from_seed([4; 32]),
     };
+    let mut keys = start_keys(rt, words);
+    create_key(rt, &mut keys);
     let (names, disk) = names(rt);
-    let opening = Opening::new(rt.alloc(), keys(rt, words), names, disk).expect(rt, "memory");
+    let opening = Opening::new(rt.alloc(), keys, names, disk).expect(rt, "memory");
     let mut door = door(rt, rt.alloc(), clients);
     let conns = u32::try_from(clients.len()).expect(rt, "a number");
     let gate = HeldGate { tally };

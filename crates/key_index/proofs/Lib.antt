@@ -1,0 +1,9 @@
+pub mod Standing
+pub mod Searches
+pub mod Commands
+pub mod Sounds
+pub mod Lookups
+pub mod Holding
+pub mod LogLemmas
+pub mod CacheLemmas
+pub mod Entries

@@ -1,0 +1,6 @@
+pub mod Index
+pub mod Sound
+pub mod Held
+pub mod Cache
+pub mod Laws
+pub mod Examples
