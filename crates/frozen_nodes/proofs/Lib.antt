@@ -1,7 +1,11 @@
+pub mod Blocks
+pub mod Copying
 pub mod Found
 pub mod Grown
 pub mod Kids
+pub mod Moving
 pub mod PackedLemmas
+pub mod PathFacts
 pub mod Preorder
 pub mod Slides
 pub mod Sought

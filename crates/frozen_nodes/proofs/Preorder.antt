@@ -1,5 +1,5 @@
 -- Rows in path order, each with its directory: the row after the rows below another is below it if and only if it is deeper, and then it is its child.
-use Rattle.std.proofs.Common.{◌≡◌, ℕ, ◌+◌, ◌<◌, ◌≤◌, zero, suc, Bool, true, false, cond, ◌&&◌, List, [], ◌∷◌, ◌++◌, length, get_or, take, Some, refl, sym, ◌∙◌, ap, subst, arith, inl, inr, Ordering}
+use Rattle.std.proofs.Common.{◌≡◌, ℕ, ◌+◌, ◌<◌, ◌≤◌, zero, suc, Bool, true, false, cond, ◌&&◌, List, [], ◌∷◌, length, get_or, take, Some, refl, sym, ◌∙◌, ap, subst, arith, inl, inr, Ordering}
 use Rattle.std.specs.Prelude.{◌-◌}
 use Rattle.std.specs.Cmp.{IsTotalOrder}
 use Rattle.std.specs.declared.cmp.Ordering.TheVariants.{Less, Equal, Greater}
@@ -17,7 +17,7 @@ use Rattle.inode_tree.proofs.Blocks.{between, prefix-not-before}
 abbrev pub path_at : List Entry → Entry → ℕ → List (List ℕ)
 path_at rows d k = (get_or rows k d).path
 
-after-at : (p : List (List ℕ)) (es : List Entry) (d : Entry) (k : ℕ) → AllAfter p es → k < length es → is_before p (path_at es d k) ≡ true
+pub after-at : (p : List (List ℕ)) (es : List Entry) (d : Entry) (k : ℕ) → AllAfter p es → k < length es → is_before p (path_at es d k) ≡ true
 after-at p [] d k a lt = absurd (omega arith)
 after-at p (e ∷ es) d zero a lt = a.0
 after-at p (e ∷ es) d (suc k) a lt = after-at p es d k a.1 (omega arith)
@@ -30,7 +30,7 @@ rising-at (e ∷ es) d zero (suc k) r lt h = after-at e.path es d k r.0 (omega a
 rising-at (e ∷ es) d (suc j) zero r lt h = absurd (omega arith)
 rising-at (e ∷ es) d (suc j) (suc k) r lt h = rising-at es d j k r.1 (omega arith) (omega arith)
 
-same-is : (p q : List (List ℕ)) → same_path p q ≡ true → p ≡ q
+pub same-is : (p q : List (List ℕ)) → same_path p q ≡ true → p ≡ q
 same-is [] [] h = refl
 same-is [] (y ∷ q) h = cc
 same-is (x ∷ p) [] h = cc
@@ -101,7 +101,7 @@ take-length-is (suc n) (y ∷ p) le = ap suc (take-length-is n p (omega arith))
 path_total : IsTotalOrder path_cmp
 path_total = lists_total nat_list_cmp_total
 
-later-not-before : (p q : List (List ℕ)) → is_before p q ≡ true → is_before q p ≡ false
+pub later-not-before : (p q : List (List ℕ)) → is_before p q ≡ true → is_before q p ≡ false
 later-not-before p q h = go (path_cmp p q) refl h
   where
     go : (o : Ordering) → path_cmp p q ≡ o → is_lt o ≡ true → is_before q p ≡ false

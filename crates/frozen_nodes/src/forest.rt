@@ -10,7 +10,9 @@ use inode_tree::Row;
 use std::alloc::Global;
 use std::marker::Model;
 
+mod copies;
 mod lookups;
+mod moves;
 
 /// The maximum number of nodes.
 pub const MOST_NODES: usize = 4_294_967_295;
@@ -127,7 +129,8 @@ impl Forest {
 
     /// Returns the name of a node, or no bytes if there is no such node.
     pub fn name(&self, n: u32) -> &[u8]
-        ensures { result.now ≡ (node_at self.now.nodes n).name }
+        ensures name { result.now ≡ (node_at self.now.nodes n).name }
+        ensures short { length result.now ≤ 255 }
     {
         if (n as usize) < self.nodes.len() {
             self.nodes[n as usize].name(&self.names)
@@ -138,7 +141,8 @@ impl Forest {
 
     /// Returns the kids of a node, or none if there is no such node.
     pub fn kids(&self, n: u32) -> &[u32]
-        ensures { result.now ≡ (node_at self.now.nodes n).kids }
+        ensures kids { result.now ≡ (node_at self.now.nodes n).kids }
+        ensures few { length result.now ≤ 4294967295 }
     {
         if (n as usize) < self.nodes.len() {
             self.nodes[n as usize].kids(&self.kids)

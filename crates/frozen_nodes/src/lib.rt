@@ -4,5 +4,7 @@
 mod forest;
 mod nodes;
 mod same;
+mod takes;
 
 pub use forest::{Forest, MOST_NODES};
+pub use takes::{CopyBuffer, reserve_take, take};

@@ -1,0 +1,148 @@
+-- Paths of rows in path order: names, prefixes and what comes before what.
+use Rattle.std.proofs.Common.{◌≡◌, ℕ, ◌+◌, ◌<◌, ◌≤◌, zero, suc, Bool, true, ◌&&◌, List, [], ◌∷◌, ◌++◌, length, map, drop, refl, sym, ◌∙◌, ap, subst, arith, inl, inr, Ordering}
+use Rattle.std.proofs.lemmas.Bool.{cases_lt}
+use Rattle.std.specs.Ordering.{is_lt, nat_cmp, ordering_then}
+use Rattle.std.specs.Prelude.{◌-◌, ◌↔◌, nat_lt, IsTrue}
+use Rattle.std.specs.List.{list_all}
+use Rattle.std.proofs.lemmas.Bool.Decides.{nat_tests}
+use Rattle.std.specs.Cmp.Lexicographic.{slice_cmp}
+use Rattle.std.specs.Str.{bytes_eq}
+use Rattle.std.specs.declared.cmp.Ordering.TheVariants.{Less, Equal, Greater}
+use Rattle.std.proofs.lemmas.Cmp.{nat_list_cmp_total, tied_itself}
+use Rattle.std.proofs.lemmas.List.{append-nil}
+use Rattle.std.proofs.lemmas.Slice.Eq.{bytes_eq-Decides}
+use Rattle.name_calls.specs.Paths.{is_before, is_component, is_prefix, is_relative, is_short, last_name, parent, path_cmp}
+use Rattle.name_calls.proofs.PathLemmas.{and-parts}
+use Rattle.inode_tree.proofs.PathBytes.{name-short}
+use Rattle.inode_tree.specs.Below.{seen_from}
+use Rattle.inode_tree.specs.Rows.{Entry}
+use Rattle.inode_tree.specs.Written.{path_bytes}
+use Rattle.frozen_nodes.specs.Copies.{AllAtOrBelow}
+use Rattle.frozen_nodes.specs.Forest.{under}
+
+-- a path is its parent's with one more name
+pub parent-last : (p : List (List ℕ)) → 0 < length p → p ≡ parent p ++ last_name p ∷ []
+parent-last [] lt = absurd (omega arith)
+parent-last (x ∷ []) lt = refl
+parent-last (x ∷ y ∷ p) lt = λ i. x ∷ parent-last (y ∷ p) (omega arith) i
+
+-- the bytes of the last name
+pub tail-bytes : (p : List (List ℕ)) (u : ℕ) → length p ≡ u + 1 → path_bytes (drop u p) ≡ length (last_name p) ∷ last_name p
+tail-bytes [] u e = absurd (omega arith)
+tail-bytes (x ∷ []) zero e = ap (λ (ys : List ℕ). length x ∷ ys) (append-nil x)
+tail-bytes (x ∷ []) (suc u) e = absurd (omega arith)
+tail-bytes (x ∷ y ∷ p) zero e = absurd (omega arith)
+tail-bytes (x ∷ y ∷ p) (suc u) e = tail-bytes (y ∷ p) u (omega arith)
+
+pub no-tail : (p : List (List ℕ)) (u : ℕ) → length p ≤ u → drop u p ≡ []
+no-tail [] zero e = refl
+no-tail [] (suc u) e = refl
+no-tail (x ∷ p) zero e = absurd (omega arith)
+no-tail (x ∷ p) (suc u) e = no-tail p u (omega arith)
+
+pub last-ruled : (p : List (List ℕ)) → is_relative p ≡ true → 0 < length p → is_component (last_name p) ≡ true
+last-ruled p h lt = go p (and-parts (list_all is_component p) (is_short p) h).0 lt
+  where
+    go : (q : List (List ℕ)) → list_all is_component q ≡ true → 0 < length q → is_component (last_name q) ≡ true
+    go [] h lt = absurd (omega arith)
+    go (x ∷ []) h lt = (and-parts (is_component x) true h).0
+    go (x ∷ y ∷ q) h lt = go (y ∷ q) (and-parts (is_component x) (list_all is_component (y ∷ q)) h).1 (omega arith)
+
+pub last-short : (p : List (List ℕ)) → is_relative p ≡ true → length (last_name p) ≤ 255
+last-short [] h = omega arith
+last-short (x ∷ p) h =
+    let lt = name-short (parent (x ∷ p)) (last_name (x ∷ p)) (subst (λ (q : List (List ℕ)). is_relative q ≡ true) (parent-last (x ∷ p) (omega arith)) h) in omega arith
+
+-- the last name takes at most 256 bytes
+pub tail-short : (p : List (List ℕ)) (u : ℕ) → is_relative p ≡ true → length p ≤ u + 1 → length (path_bytes (drop u p)) ≤ 256
+tail-short p u h le = elim (cases_lt u (length p)) [
+  | inl lt ↦ let e : length (path_bytes (drop u p)) ≡ length (length (last_name p) ∷ last_name p) = ap length (tail-bytes p u (omega arith)) in omega (arith, e, last-short p h)
+  | inr most ↦ let e : length (path_bytes (drop u p)) ≡ 0 = ap (λ (q : List (List ℕ)). length (path_bytes q)) (no-tail p u most) in omega (arith, e)
+]
+
+-- there are such bytes if and only if the path is longer
+pub tail-some : (p : List (List ℕ)) (u : ℕ) → u < length p → 0 < length (path_bytes (drop u p))
+tail-some [] u lt = absurd (omega arith)
+tail-some (x ∷ p) zero lt = omega arith
+tail-some (x ∷ p) (suc u) lt = tail-some p u (omega arith)
+
+-- the name after the number of its bytes
+name-of : (p : List (List ℕ)) (u : ℕ) → length p ≡ u + 1 → drop 1 (path_bytes (drop u p)) ≡ last_name p
+name-of p u e = ap (drop 1) (tail-bytes p u e)
+
+written-name : (p : List (List ℕ)) (u : ℕ) → u ≡ length p - 1 → drop 1 (path_bytes (drop u p)) ≡ last_name p
+written-name [] u e = ap (λ (q : List (List ℕ)). drop 1 (path_bytes q)) (no-tail [] u (omega arith))
+written-name (x ∷ p) u e = name-of (x ∷ p) u (omega (arith, e))
+
+pub row-name : (p : List (List ℕ)) (u depth : ℕ) (bytes name : List ℕ) → u ≡ depth - 1 → depth ≡ length p → bytes ≡ path_bytes (drop u p) → name ≡ drop 1 bytes → name ≡ last_name p
+row-name p u depth bytes name e d b n = n ∙ ap (drop 1) b ∙ written-name p u (e ∙ ap (λ (k : ℕ). k - 1) d)
+
+above-zero : (n : ℕ) → nat_lt 0 n ≡ true → 0 < n
+above-zero n h = grind (arith, nat_tests)
+
+tests-above : (n : ℕ) → 0 < n → nat_lt 0 n ≡ true
+tests-above n h = grind (arith, nat_tests)
+
+-- names are left if and only if there are bytes
+pub bytes-tell : (p : List (List ℕ)) (u n : ℕ) → n ≡ length (path_bytes (drop u p)) → IsTrue (nat_lt 0 n) ↔ (u < length p)
+bytes-tell p u n e = (
+  λ h. elim (cases_lt u (length p)) [
+    | inl lt ↦ lt
+    | inr most ↦ let z : length (path_bytes (drop u p)) ≡ 0 = ap (λ (q : List (List ℕ)). length (path_bytes q)) (no-tail p u most) in let some = above-zero n h in absurd (omega (arith, e, z, some))
+  ],
+  λ lt. tests-above n (let some = tail-some p u lt in omega (arith, e, some)),
+)
+
+pub prefix-trans : (p q r : List (List ℕ)) → is_prefix p q ≡ true → is_prefix q r ≡ true → is_prefix p r ≡ true
+prefix-trans [] q r h k = refl
+prefix-trans (x ∷ p) [] r h k = cc
+prefix-trans (x ∷ p) (y ∷ q) [] h k = cc
+prefix-trans (x ∷ p) (y ∷ q) (z ∷ r) h k =
+    let v = and-parts (bytes_eq x y) (is_prefix p q) h in
+    let w = and-parts (bytes_eq y z) (is_prefix q r) k in
+    let same : x ≡ z = (bytes_eq-Decides x y).0 v.0 ∙ (bytes_eq-Decides y z).0 w.0 in
+    ap (λ (t : Bool). t && is_prefix p r) ((bytes_eq-Decides x z).1 same) ∙ prefix-trans p q r v.1 w.1
+
+pub all-above : (p q : List (List ℕ)) (es : List Entry) → is_prefix p q ≡ true → AllAtOrBelow q es → AllAtOrBelow p es
+all-above p q [] h a = tt
+all-above p q (e ∷ es) h a = (prefix-trans p q e.path h a.0, all-above p q es h a.1)
+
+pub all-joined : (p : List (List ℕ)) (es fs : List Entry) → AllAtOrBelow p es → AllAtOrBelow p fs → AllAtOrBelow p (es ++ fs)
+all-joined p [] fs a b = b
+all-joined p (e ∷ es) fs a b = (a.0, all-joined p es fs a.1 b)
+
+same_bytes : (x : List ℕ) → bytes_eq x x ≡ true
+same_bytes x = (bytes_eq-Decides x x).1 refl
+
+pub prefix-more : (p : List (List ℕ)) (x : List ℕ) → is_prefix p (p ++ x ∷ []) ≡ true
+prefix-more [] x = refl
+prefix-more (y ∷ p) x = ap (λ (t : Bool). t && is_prefix p (p ++ x ∷ [])) (same_bytes y) ∙ prefix-more p x
+
+-- a path below p/x, seen from p
+pub seen-name : (p : List (List ℕ)) (x : List ℕ) (q : List (List ℕ)) (m : ℕ) → m ≡ length p + 1 → is_prefix (p ++ x ∷ []) q ≡ true → x ∷ drop m q ≡ drop (length p) q
+seen-name p x q zero e h = absurd (omega arith)
+seen-name [] x [] (suc m) e h = cc
+seen-name [] x (y ∷ q) (suc m) e h =
+    let zero_is : m ≡ 0 = omega arith in
+    let w = and-parts (bytes_eq x y) true h in
+    λ i. (bytes_eq-Decides x y).0 w.0 i ∷ drop (zero_is i) q
+seen-name (z ∷ p) x [] (suc m) e h = cc
+seen-name (z ∷ p) x (y ∷ q) (suc m) e h = seen-name p x q m (omega arith) (and-parts (bytes_eq z y) (is_prefix (p ++ x ∷ []) q) h).1
+
+pub seen-under : (p : List (List ℕ)) (x : List ℕ) (m : ℕ) (es : List Entry) → m ≡ length p + 1 → AllAtOrBelow (p ++ x ∷ []) es → map (under x) (map (seen_from m) es) ≡ map (seen_from (length p)) es
+seen-under p x m [] e a = refl
+seen-under p x m (f ∷ es) e a = λ i. record { path = seen-name p x f.path m e a.0 i; row = f.row } ∷ seen-under p x m es e a.1 i
+
+pub drop-all : (p : List (List ℕ)) → drop (length p) p ≡ []
+drop-all [] = refl
+drop-all (x ∷ p) = drop-all p
+
+-- of two entries of a directory, the one with the smaller name comes first
+pub snoc-before : (p : List (List ℕ)) (x y : List ℕ) → is_before (p ++ x ∷ []) (p ++ y ∷ []) ≡ true → is_lt (slice_cmp nat_cmp x y) ≡ true
+snoc-before [] x y h = go (slice_cmp nat_cmp x y) h
+  where
+    go : (o : Ordering) → is_lt (ordering_then o Equal) ≡ true → is_lt o ≡ true
+    go Less h = refl
+    go Equal h = cc
+    go Greater h = cc
+snoc-before (z ∷ p) x y h = snoc-before p x y (sym (ap (λ (o : Ordering). is_lt (ordering_then o (path_cmp (p ++ x ∷ []) (p ++ y ∷ [])))) (tied_itself nat_list_cmp_total z)) ∙ h)

@@ -1,0 +1,25 @@
+use Rattle.std.proofs.Common.{◌≡◌, ◌-◌, ap, arith}
+use Rattle.std.specs.Vec.{vec_capacity, vec_len}
+use Rattle.frozen_nodes.specs.Copies.{CopyRoom}
+use Rattle.frozen_nodes.proofs.Blocks.{block-count, copied-block}
+use Rattle.frozen_nodes.proofs.takes.CopyBuffer.copy.Goals as goal
+
+pub copy-copied-requires-clause-room : goal.copy-copied-requires-clause-room
+copy-copied-requires-clause-room c =
+    let count = block-count c.args.tree.now.rows c.rows-count.ensures.rules c.args.path.now c.args.at c.args.end c.requires.block in
+    record {
+      nodes_fit = omega (arith, count, c.requires.room.nodes_fit.nodes_fit);
+      kids_fit = omega (arith, count, c.requires.room.nodes_fit.kids_fit);
+      bytes_fit = omega (arith, count, c.requires.room.nodes_fit.bytes_fit);
+    }
+
+pub copy-copied-requires-clause-kids_room : goal.copy-copied-requires-clause-kids_room
+copy-copied-requires-clause-kids_room c =
+    let count = block-count c.args.tree.now.rows c.rows-count.ensures.rules c.args.path.now c.args.at c.args.end c.requires.block in
+    let room : vec_capacity c.self.inside.kids - vec_len c.self.inside.kids ≡ c.args.self.now.kids = ap (λ (r : CopyRoom). r.kids) c.self.view_is in
+    omega (arith, count, room, c.requires.room.kids_fit, c.requires.block.after)
+
+pub returns-clause-rows : goal.returns-clause-rows
+returns-clause-rows c =
+    copied-block c.args.tree.now.rows c.rows-count.ensures.rules c.args.path.now c.args.at c.args.end c.requires.block
+    c.args.forest.now.nodes c.copy-copied.new.self.nodes c.copy-copied.result.node c.copy-copied.result.next c.len.result c.len.ensures.len c.copy-copied.ensures.copy
