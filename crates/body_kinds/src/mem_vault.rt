@@ -1,5 +1,5 @@
 //! A vault in memory.
-ghost use Rattle.std.specs.Prelude.{◌≡◌, ◌↔◌, ◌≤◌, ◌-◌, [], min, length, take, IfOk, IsErr, OnErr, OnOk};
+ghost use Rattle.std.specs.Prelude.{◌≡◌, ◌↔◌, ◌≤◌, ◌-◌, ℕ, [], min, length, take, IfOk, IsErr, OnErr, OnOk};
 ghost use Rattle.hk_base.specs.Disk.{piece};
 ghost use Rattle.hk_base.specs.Faults.{HasCause};
 ghost use Rattle.disk_kinds.specs.Fakes.{CallMade, FollowsPlan, NextFails};
@@ -25,7 +25,7 @@ impl MemVault {
     /// So does a write whose allocation fails, which is counted apart. A call that fails changes no
     /// body.
     pub fn new(alloc: Global, failing: Vec<u64>) -> MemVault
-        ensures bodies { body_of result ≡ λ id. [] }
+        ensures bodies { (id : ℕ) → body_of result id ≡ [] }
         ensures failing { (plan_of result).failing ≡ failing.items }
         ensures made { (plan_of result).made ≡ 0 }
         ensures faults { (plan_of result).faults ≡ 0 }
