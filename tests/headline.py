@@ -216,7 +216,8 @@ class Row:
 
 @dataclass
 class Status:
-    """The last re-encryption of a zone, and the ids of the files that were there when it was submitted."""
+    """The last re-encryption of a zone, the ids of the files that were there when it was submitted, and the path up to which they are
+    done."""
 
     session: int
     key: str
@@ -226,6 +227,7 @@ class Status:
     failed: int = 0
     is_completed: bool = False
     is_cancelled: bool = False
+    mark: tuple = None
 
 
 def is_below(path, above):
@@ -371,7 +373,7 @@ class Names(Replayed):
 
     def update(self, record):
         session, changed, failed = record.number(8), record.number(4), record.number(4)
-        record.maybe(lambda: record.path(is_from_root=False))
+        mark = record.maybe(lambda: record.path(is_from_root=False))
         count = record.number(4)
         need(count == changed <= 1000, "an update has another number of files")
         new = [(record.number(8), record.edek()) for _ in range(count)]
@@ -385,6 +387,7 @@ class Names(Replayed):
             self.rows[files[number]] = replace(row, edek=edek)
         status.changed += changed
         status.failed += failed
+        status.mark = status.mark if mark is None else mark
 
     def cancel(self, record):
         status = self.going(record.number(8))[1]

@@ -1,5 +1,5 @@
 #!/usr/bin/env bash
-# Keys at their limits and key logs with each byte changed or cut off, as the built program reads them.
+# Keys at their limits and key logs with each value of a gate, as the built program reads them.
 set -u
 . "$(dirname "${BASH_SOURCE[0]}")/room.bash"
 
@@ -140,9 +140,9 @@ echo 'group.g2500=bob' >>"$room/kms-acls.properties"
 run_here <<<'kms u4321 current k4321'
 expect 'a name that 10000 lines repeat' 3 'acl line 10001 repeated'
 
-# ---- each byte of a log
+# ---- each value of a gate
 
-# The log of an opening, the creation of a key and its second version. Its gates lie at 8, 18, 62 and 94.
+# The log of an opening, the creation of a key and its second version, whose gate lies at 62.
 run <<EOT
 kms a create k 128 $material
 kms a roll k $sealed
@@ -151,74 +151,15 @@ cp "$room/keys.log" "$folder/two"
 output=$(stat -c %s "$folder/two") status=0
 expect 'the length of the log' 0 95
 
-# gate_before PLACE: the gate at the place, or the last one before it.
-gate_before() {
-    local gate found=8
-    for gate in 8 18 62 94; do
-        [ "$gate" -gt "$1" ] || found=$gate
-    done
-    echo "$found"
-}
-
-# changed LENGTH PLACE BYTE: makes a folder with the log, cut to the length, with the byte at the place.
-changed() {
-    rm -rf "$room"
-    mkdir "$room" || exit 1
-    head -c "$1" "$folder/two" >"$room/keys.log"
-    # shellcheck disable=SC2059
-    [ -z "$3" ] || printf "\\x$3" | dd of="$room/keys.log" bs=1 seek="$2" conv=notrunc status=none
-    cp "$room/keys.log" "$folder/before"
-}
-
-# still NAME: a log that is damaged stays as it is.
-still() {
-    cmp -s "$folder/before" "$room/keys.log" || {
-        echo "tests/keys.sh: $1: the log changed"
-        failures=$((failures + 1))
-    }
-}
-
-for ((length = 0; length < 95; length++)); do
-    changed "$length" 0 ''
-    run_here <<<'kms a names'
-    if [ "$length" -le 9 ]; then
-        expect "a log cut to $length bytes" 0 '1 names'
-    else
-        expect "a log cut to $length bytes" 4 "damaged keys $(gate_before $((length - 1)))"
-        still "a log cut to $length bytes"
-    fi
-done
-
-# A changed byte of a payload is another record, or damage at the gate of its frame or a later one.
 both="1 versions k@0:$material k@1:$sealed"
 one="1 versions k@0:$material"
-for ((place = 0; place < 95; place++)); do
-    name="a log with ff at $place"
-    gate=$(gate_before "$place")
-    changed 95 "$place" ff
-    run_here <<<'kms a versions k'
-    case $place in
-    [0-7]) expect "$name" 4 'damaged keys 0' ;;
-    8 | 18) expect "$name" 0 '1 refused K4 NoSuchKey' ;;
-    62) expect "$name" 0 "$one" ;;
-    94) expect "$name" 0 "$both" ;;
-    9 | 1[0-2] | 19 | 2[0-2] | 6[3-6]) expect "$name" 4 "damaged keys $gate" ;;
-    *)
-        damage=${output#damaged keys }
-        if [ "$status" -eq 4 ] && [ "$damage" != "$output" ]; then
-            [ "$damage" -ge "$gate" ] || expect "$name" 4 "damaged keys $gate"
-        else
-            output=$(wc -w <<<"$output")
-            expect "$name" 0 4
-        fi
-        ;;
-    esac
-    [ "$status" -ne 4 ] || still "$name"
-done
-
 # The gate of the second version: it is kept exactly if the byte is 1.
 for ((gate = 0; gate < 256; gate++)); do
-    changed 95 62 "$(printf %02x "$gate")"
+    rm -rf "$room"
+    mkdir "$room" || exit 1
+    cp "$folder/two" "$room/keys.log"
+    # shellcheck disable=SC2059
+    printf "\\x$(printf %02x "$gate")" | dd of="$room/keys.log" bs=1 seek=62 conv=notrunc status=none
     run_here <<<'kms a versions k'
     if [ "$gate" -eq 1 ]; then
         expect "the gate $gate" 0 "$both"

@@ -1,6 +1,6 @@
 #!/usr/bin/env bash
 # The namesystem over its log, from outside: the worked example, what a restart and the next run find, the bytes of
-# names.log, and that file damaged, cut short, changed byte by byte, and full.
+# names.log, and that file damaged and full.
 set -u
 . "$(dirname "${BASH_SOURCE[0]}")/room.bash"
 
@@ -541,83 +541,6 @@ expect 'a log of updates made by hand' 0 '1 status Processing k@1 3 4294967298 n
 5 noneleft 1
 6 done
 7 status Completed k@1 3 4294967298 yes .reserved/g'
-
-# ---- a log of all kinds of records, cut at each length, and with each byte changed
-
-run <<'EOT'
-kms a create k 128 2b7e151628aed2a6abf7158809cf4f3c
-nn a mkdir /z
-ask hdfs zone /z k
-draw 1
-finish 1
-ask a create /z/f
-draw 2
-finish 2
-nn a mkdir /d
-nn a delete /d
-nn hdfs allow /z
-nn a snap /z s
-nn a unsnap /z s
-nn hdfs disallow /z
-nn a rename /z/f /z/g
-ask hdfs submit /z
-draw 3
-finish 3
-nn hdfs cancel /z
-ask hdfs submit /z
-draw 4
-finish 4
-kms a roll k 000102030405060708090a0b0c0d0e0f
-walk /z
-serve 1
-deliver 5
-nn a delete /z/g
-walk /z
-EOT
-output=$(stat -c %s "$room/names.log")
-expect 'the log of all kinds of records' 0 359
-cp "$room/names.log" "$folder/all"
-gates=(8 18 36 48 106 124 134 144 157 170 180 198 220 234 256 332 344 358)
-
-room=$quick
-# Runs the program on a log that is made of standard input.
-run_on() {
-    cat >"$room/names.log"
-    run_here <<<'nn a list /'
-}
-
-for ((length = 0; length <= 358; length++)); do
-    head -c "$length" "$folder/all" >"$folder/cut"
-    run_on <"$folder/cut"
-    if [ "$length" -le 9 ]; then
-        expect "cut to $length bytes" 0 '1 list'
-        continue
-    fi
-    # The first frame that does not lie in the file, with the gate behind it, is the one at fault.
-    for ((k = 0; gates[k + 1] < length; k++)); do :; done
-    expect "cut to $length bytes" 4 "damaged names ${gates[k]}"
-done
-
-# Where a byte of a length is changed, what stands behind the shorter or longer frame is taken for its next gate.
-moved=()
-for gate in "${gates[@]}"; do
-    moved+=($((gate + 1)) $((gate + 2)) $((gate + 3)) $((gate + 4)))
-done
-
-whole=$(digits "$folder/all")
-for ((at = 0; at < 359; at++)); do
-    for change in 1 255; do
-        changed=$(printf %02x $((16#${whole:2 * at:2} ^ change)))
-        bytes "${whole:0:2 * at}$changed${whole:2 * at + 2}" >"$folder/changed"
-        run_on <"$folder/changed"
-        [[ $status = 0 && $output == '1 list'* ]] && continue
-        if [[ $status = 4 && $output == 'damaged names '* ]]; then
-            [[ " 0 ${gates[*]} " == *" ${output##* } "* || " ${moved[*]} " == *" $at "* ]] && continue
-        fi
-        echo "tests/names.sh: byte $at changed to $changed: status $status, output: $output"
-        failures=$((failures + 1))
-    done
-done
 
 # ---- a full disk: what does not fit is refused, and all that was answered is there, now and in the next run
 

@@ -5,9 +5,8 @@
 # line `each fail disk` that is run for each pair of calls of the disk: both fail, and its check reads all the reports.
 set -u
 . "$(dirname "${BASH_SOURCE[0]}")/room.bash"
+. tests/trial_program.bash
 
-trial=$PWD/crates/hkms_trial/out/hkms_trial
-stamp=$trial.built
 results=$folder/results
 mkdir "$results" || exit 1
 
@@ -15,18 +14,6 @@ mkdir "$results" || exit 1
 complain() {
     echo "tests/trials.sh: $1"
     failures=$((failures + 1))
-}
-
-# Whether the program for trials is missing, or older than its sources.
-is_old() {
-    [ ! -x "$trial" ] || [ ! -e "$stamp" ] ||
-        [ -n "$(find crates.txt crates/*/src crates/*/specs crates/*/proofs -newer "$stamp" -type f -print -quit 2>/dev/null)" ]
-}
-
-build() {
-    : >"$folder/started"
-    tools/build_program hkms_trial </dev/null >"$folder/log" 2>&1 || { cat "$folder/log"; return 1; }
-    mv "$folder/started" "$stamp"
 }
 
 # Runs the trial $1 once for each call of the disk that it makes: that call fails, and another one, each in turn. $2 is the
@@ -74,8 +61,6 @@ keep_failure() {
 }
 export -f run_pairs run_any run_trial keep_failure
 export trial folder results
-
-! is_old || build || exit 1
 
 trials=0
 for file in tests/trials/*; do
