@@ -8,109 +8,11 @@ use name_calls::Delivered;
 use std::process::Abort;
 use std::sync::Wait;
 
-/// What comes of a delivery.
-#[derive(Clone, Copy)]
-enum Came {
-    /// So many files get other keys, and so many are skipped.
-    Applied { changed: u32, skipped: u32 },
-    /// It is ignored.
-    Ignored,
-}
-
-/// All three files of a batch get other keys.
-const THREE: Option<Came> = Some(Came::Applied {
-    changed: 3,
-    skipped: 0,
-});
-
-/// A case, and what must come of it.
-struct Row {
-    case: Case,
-    /// What comes of the first two deliveries.
-    deliveries: [Option<Came>; 2],
-    /// Whether the zone has another re-encryption at the end than at first.
-    is_submitted_again: bool,
-    /// How many files there are at the end, and the number of the version of their encrypted keys.
-    files: (usize, u16),
-    /// The number of the current version of the key at the end.
-    current: u16,
-    /// The number of outstanding batches at the end, or `None` if a file is left to be walked.
-    outstanding: Option<u32>,
-}
-
-const ROWS: &[Row] = &[
-    // A delivery waits while the key is rolled.
-    Row {
-        case: Case::Changed(Change::RollKey),
-        deliveries: [THREE, None],
-        is_submitted_again: false,
-        files: (3, 1),
-        current: 2,
-        outstanding: Some(0),
-    },
-    // A delivery waits while the zone is submitted again.
-    Row {
-        case: Case::Changed(Change::SubmitAgain),
-        deliveries: [Some(Came::Ignored), None],
-        is_submitted_again: true,
-        files: (3, 0),
-        current: 1,
-        outstanding: None,
-    },
-    // A delivery waits while its file is deleted.
-    Row {
-        case: Case::Changed(Change::DeleteFile),
-        deliveries: [
-            Some(Came::Applied {
-                changed: 2,
-                skipped: 1,
-            }),
-            None,
-        ],
-        is_submitted_again: false,
-        files: (2, 1),
-        current: 1,
-        outstanding: Some(0),
-    },
-    // Batches are delivered in either order.
-    Row {
-        case: Case::EitherOrder,
-        deliveries: [THREE, THREE],
-        is_submitted_again: false,
-        files: (6, 1),
-        current: 1,
-        outstanding: Some(0),
-    },
-    // A delivery with another front is ignored.
-    Row {
-        case: Case::OtherFront,
-        deliveries: [Some(Came::Ignored), None],
-        is_submitted_again: false,
-        files: (3, 0),
-        current: 1,
-        outstanding: Some(1),
-    },
-];
-
-/// The answer to a delivery of which this came, if the last re-encryption of the zone has this id.
-fn answer_of(came: Option<Came>, session: u64) -> Option<Delivered> {
-    match came {
-        Some(Came::Applied { changed, skipped }) => Some(Delivered::Applied {
-            changed,
-            skipped,
-            failed: 0,
-        }),
-        Some(Came::Ignored) => Some(Delivered::Ignored { session }),
-        None => None,
-    }
-}
-
-/// The deliveries were answered so.
-fn check_answers(rt: &impl Abort, row: &Row, outcome: &Outcome) {
-    let session = outcome.after.session;
-    for (answer, came) in outcome.answers.iter().zip(row.deliveries) {
-        assert_eq!(rt; *answer, answer_of(came, session));
-    }
+/// Runs a case over empty disks, and drops these afterwards.
+fn outcome_of<R: Wait + Abort + AllocGlobal>(rt: &R, case: Case) -> Outcome {
+    let Left { outcome, disks } = run(rt, Disks::empty(rt), 1, case);
+    drop(disks);
+    outcome
 }
 
 /// The encrypted key of a file is of this version. It is the one that the file had before, which is of
@@ -136,36 +38,76 @@ fn check_files(
     }
 }
 
-/// The key and the re-encryption of the zone are so.
-fn check_services(rt: &impl Abort, row: &Row, outcome: &Outcome) {
-    let is_another = outcome.after.session != outcome.before.session;
-    assert_eq!(rt; is_another, row.is_submitted_again);
-    assert_eq!(rt; outcome.current, row.current);
-    assert_eq!(rt; outcome.outstanding, row.outstanding);
-}
-
-/// Runs a case over empty disks, and compares what came of it.
-fn check<R: Wait + Abort + AllocGlobal>(rt: &R, row: &Row) {
-    let Left { outcome, disks } = run(rt, Disks::empty(rt), 1, row.case);
-    drop(disks);
-    check_answers(rt, row, &outcome);
-    let (count, number) = row.files;
+/// The deliveries were answered so, and the files at the end are as `check_files` says.
+fn check(
+    rt: &impl Abort,
+    outcome: &Outcome,
+    answers: [Option<Delivered>; 2],
+    count: usize,
+    number: u16,
+) {
+    assert_eq!(rt; outcome.answers, answers);
     let files = outcome.after.files.as_slice();
     check_files(rt, files, outcome.before.files.as_slice(), count, number);
-    check_services(rt, row, &outcome);
+}
+
+/// The answer if these files got other keys, these were skipped, and none failed.
+fn applied(changed: u32, skipped: u32) -> Option<Delivered> {
+    Some(Delivered::Applied {
+        changed,
+        skipped,
+        failed: 0,
+    })
+}
+
+fn ignored(session: u64) -> Option<Delivered> {
+    Some(Delivered::Ignored { session })
+}
+
+#[test]
+fn a_delivery_waits_while_the_key_is_rolled(rt: HostRuntime) {
+    let outcome = outcome_of(&rt, Case::Changed(Change::RollKey));
+    check(&rt, &outcome, [applied(3, 0), None], 3, 1);
+    assert_eq!(rt; outcome.current, 2);
     drop(outcome);
 }
 
 #[test]
-fn each_case_comes_to_this(rt: HostRuntime) {
-    for row in ROWS {
-        check(&rt, row);
-    }
+fn a_delivery_waits_while_the_zone_is_submitted_again(rt: HostRuntime) {
+    let outcome = outcome_of(&rt, Case::Changed(Change::SubmitAgain));
+    let second = outcome.after.session;
+    assert!(rt; second != outcome.before.session);
+    check(&rt, &outcome, [ignored(second), None], 3, 0);
+    drop(outcome);
+}
+
+#[test]
+fn a_delivery_waits_while_its_file_is_deleted(rt: HostRuntime) {
+    let outcome = outcome_of(&rt, Case::Changed(Change::DeleteFile));
+    check(&rt, &outcome, [applied(2, 1), None], 2, 1);
+    drop(outcome);
+}
+
+#[test]
+fn batches_are_delivered_in_either_order(rt: HostRuntime) {
+    let outcome = outcome_of(&rt, Case::EitherOrder);
+    check(&rt, &outcome, [applied(3, 0), applied(3, 0)], 6, 1);
+    assert_eq!(rt; outcome.outstanding, Some(0));
+    drop(outcome);
+}
+
+#[test]
+fn a_delivery_with_another_front_is_ignored(rt: HostRuntime) {
+    let outcome = outcome_of(&rt, Case::OtherFront);
+    check(&rt, &outcome, [ignored(outcome.before.session), None], 3, 0);
+    assert_eq!(rt; outcome.outstanding, Some(1));
+    drop(outcome);
 }
 
 #[test]
 fn every_file_opens_after_the_cells_were_closed(rt: HostRuntime) {
-    let Left { outcome, disks } = run(&rt, Disks::empty(&rt), 1, Case::EitherOrder);
+    let first = run(&rt, Disks::empty(&rt), 1, Case::EitherOrder);
+    let Left { outcome, disks } = first;
     let left = run(&rt, disks, 2, Case::Read);
     let files = left.outcome.after.files.as_slice();
     check_files(&rt, files, outcome.before.files.as_slice(), 6, 1);

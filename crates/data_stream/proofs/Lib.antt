@@ -1,0 +1,10 @@
+mod CauseLemmas
+mod CommandLemmas
+mod EndLemmas
+mod KeyLemmas
+mod LawLemmas
+mod OpenLemmas
+mod OrderLemmas
+mod RunLemmas
+mod StepLemmas
+mod StoreLemmas

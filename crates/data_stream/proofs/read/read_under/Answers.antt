@@ -1,0 +1,47 @@
+use Rattle.std.proofs.Common.{◌∙◌, ⊎_elim, ap, inl, inr, refl, sym}
+use Rattle.hk_runs.proofs.BeganLemmas.{not_opened}
+use Rattle.data_stream.proofs.CauseLemmas.{closed_long, closed_read, closed_vault, counted, opening_read, opening_write, reported_long, reported_read, reported_vault}
+use Rattle.data_stream.proofs.CommandLemmas.{read_ran, reported}
+use Rattle.data_stream.proofs.read.read_under.Goals as goal
+
+pub returns-in-Err-clause-read : goal.returns-in-Err-clause-read
+returns-in-Err-clause-read g c = inl (record {
+  file = c.in-Err.why.file;
+  fault = c.in-Err.why.fault;
+  not_opened = not_opened _ _ c.start.result c.in-Err.why c.in-Err.is c.start.ensures.opens;
+  untouched = (refl, refl, refl);
+  reports = reported _ _ _ _ _ c.ended_by.ensures c.report.ensures.reports;
+})
+
+pub returns-in-Ok-clause-read : goal.returns-in-Ok-clause-read
+returns-in-Ok-clause-read g c =
+    let did = c.read_in-how.ensures.reads in
+    let ran = read_ran g.D.Disk.state g.W.Words.to_come c.args.props.now (g.D.Disk.state c.args.disk.now) (record { disk = c.start.new.disk; world = c.in-Ok.world; words = c.args.rand.now })
+    (record { disk = c.read_in-how.new.disk; world = did.1; words = c.read_in-how.new.rand }) c.in-Ok.ensures.began c.start.ensures.opens.any_moment c.start.ensures.opens.run c.in-Ok.ensures.lists c.args.user.now c.args.path.now did.0 c.read_in-how.result _ _ _ _ c.args.from c.args.count did.2 in
+    inr (record { how = c.read_in-how.result; body = _; worked = ran.0; moment = did.0; reads = ran.1; closes = c.close.ensures.closes })
+
+pub returns-in-Err-clause-read_fault : goal.returns-in-Err-clause-read_fault
+returns-in-Err-clause-read_fault g c is = absurd (opening_read c.in-Err.why.file c.in-Err.why.fault (reported_read _ _ _ _ (reported _ _ _ _ _ c.ended_by.ensures c.report.ensures.reports) is))
+
+pub returns-in-Err-clause-write_fault : goal.returns-in-Err-clause-write_fault
+returns-in-Err-clause-write_fault g c is = ⊎_elim (λ same. absurd (opening_write c.in-Err.why.file c.in-Err.why.fault (sym c.ended_by.ensures ∙ same))) (λ rose. rose) (c.report.ensures.write is)
+
+pub returns-in-Err-clause-vault_fault : goal.returns-in-Err-clause-vault_fault
+returns-in-Err-clause-vault_fault g c is = absurd (reported_vault _ _ _ _ (reported _ _ _ _ _ c.ended_by.ensures c.report.ensures.reports) is)
+
+pub returns-in-Err-clause-long : goal.returns-in-Err-clause-long
+returns-in-Err-clause-long g c is = absurd (reported_long _ _ _ _ (reported _ _ _ _ _ c.ended_by.ensures c.report.ensures.reports) is)
+
+pub returns-in-Ok-clause-read_fault : goal.returns-in-Ok-clause-read_fault
+returns-in-Ok-clause-read_fault g c is = c.read_in-how.ensures.own.0 (closed_read c.read_in-how.result _ _ _ c.close.ensures.closes is)
+
+pub returns-in-Ok-clause-write_fault : goal.returns-in-Ok-clause-write_fault
+returns-in-Ok-clause-write_fault g c is =
+    counted _ _ _ c.read_in-how.ensures.out_later
+    (⊎_elim (λ same. inl (c.read_in-how.ensures.write same, ap g.K.Sink.faults (c.close.ensures.quiet same))) (λ rose. inr rose) (c.close.ensures.write is))
+
+pub returns-in-Ok-clause-vault_fault : goal.returns-in-Ok-clause-vault_fault
+returns-in-Ok-clause-vault_fault g c is = c.read_in-how.ensures.vault (closed_vault c.read_in-how.result _ _ _ c.close.ensures.closes is)
+
+pub returns-in-Ok-clause-long : goal.returns-in-Ok-clause-long
+returns-in-Ok-clause-long g c is = c.read_in-how.ensures.own.1 (closed_long c.read_in-how.result _ _ _ c.close.ensures.closes is)

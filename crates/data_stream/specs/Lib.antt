@@ -1,0 +1,5 @@
+pub mod Bodies
+pub mod Commands
+pub mod Ends
+pub mod Laws
+pub mod Runs

@@ -1,0 +1,151 @@
+//! The command line.
+ghost use Rattle.std.specs.Prelude.{◌≡◌, ◌⊎◌, ◌<◌, ℕ, List, Err, Some, length, string_bytes};
+ghost use Rattle.body_stream.specs.Transfers.{longest_body};
+ghost use Rattle.body_stream.specs.Vaults.{TellsBodies};
+ghost use Rattle.file_orders.specs.Bodies.{HadBody};
+ghost use Rattle.hk_base.specs.Disk.{Tells};
+ghost use Rattle.hk_base.specs.Faults.{Rose};
+ghost use Rattle.world_run.specs.Ledger.{Past};
+ghost use Rattle.world_run.specs.Linked.{StartsSound};
+ghost use Rattle.command_io.specs.Ends.{Shows};
+ghost use Rattle.hk_runs.specs.Headline.{NothingHappened};
+ghost use Rattle.fs_command_line.specs.Orders.{FindsHelp, FindsVersion, IsMistake, Names, line_fault};
+ghost use Rattle.fs_command_line.specs.declared.order.FsOrder.TheVariants as order;
+ghost use Rattle.data_stream.specs.Commands.{Obeys, PutKept, PutsFile, ReadKept, ReadsFile, Refuses, ShowsText, WantsMemory};
+
+use crate::put::run_put;
+use crate::read::run_read;
+use body_stream::Vault;
+use command_io::show;
+use fs_command_line::{FsOrder, OrderFault, read_order};
+use hk_base::{Clock, Disk, Sink, Source, Text, Words};
+use std::alloc::Global;
+
+/// Writes a text and drops it. Returns 0, or 8 if the output fails.
+fn show_made<K: Sink>(out: &mut K, text: String) -> u8
+    ensures shows { Shows (string_bytes text) 0 (K.written out.old) (K.written out.new) result }
+    ensures write { result ≡ 8 → Rose (K.faults out.old) (K.faults out.new) }
+{
+    let status = show(out, text.as_bytes(), 0);
+    drop(text);
+    status
+}
+/// Carries out an order, with the contract of `hkfs`.
+fn obey<A: Source, S: Source, K: Sink, D: Disk, V: Vault, W: Words, C: Clock>(
+    alloc: Global,
+    order: Result<FsOrder, OrderFault>,
+    acls: &mut A,
+    input: &mut S,
+    out: &mut K,
+    disk: &mut D,
+    vault: &mut V,
+    rand: &mut W,
+    clock: &mut C,
+) -> u8
+    ensures obeys { Obeys order
+        (λ user path. PutsFile (disk.new ≡ disk.old) ((input.new ≡ input.old) × (vault.new ≡ vault.old) × (rand.new ≡ rand.old) × (clock.new ≡ clock.old)) user path (D.state disk.old) (D.state disk.new) (A.left acls.old) (A.left acls.new) (W.to_come rand.old) (W.to_come rand.new) (S.left input.old) (S.left input.new) (V.state vault.old) (V.state vault.new) (K.written out.old) (K.written out.new) result)
+        (λ user path from count. ReadsFile (disk.new ≡ disk.old) ((vault.new ≡ vault.old) × (rand.new ≡ rand.old) × (clock.new ≡ clock.old)) user path from count (D.state disk.old) (D.state disk.new) (A.left acls.old) (A.left acls.new) (W.to_come rand.old) (W.to_come rand.new) (V.state vault.old) (V.state vault.new) (K.written out.old) (K.written out.new) result × (input.new ≡ input.old))
+        ((disk.new ≡ disk.old) × (acls.new ≡ acls.old) × (input.new ≡ input.old) × (vault.new ≡ vault.old) × (rand.new ≡ rand.old) × (clock.new ≡ clock.old))
+        (K.written out.old) (K.written out.new) result }
+    ensures kept { Tells (D.state disk.old) → (past : Past) → StartsSound (D.state disk.old) past → Obeys order
+        (λ user path. NothingHappened ((input.new ≡ input.old) × (vault.new ≡ vault.old) × (rand.new ≡ rand.old) × (clock.new ≡ clock.old)) past (D.state disk.old) (D.state disk.new)
+        ⊎ PutKept past user path (D.state disk.old) (D.state disk.new) (A.left acls.old) (A.left acls.new) (W.to_come rand.old) (W.to_come rand.new) (S.left input.old) (S.left input.new) (V.state vault.old) (V.state vault.new) (K.written out.old) (K.written out.new) result)
+        (λ user path from count. NothingHappened ((vault.new ≡ vault.old) × (rand.new ≡ rand.old) × (clock.new ≡ clock.old)) past (D.state disk.old) (D.state disk.new)
+        ⊎ ReadKept past user path from count (D.state disk.old) (D.state disk.new) (A.left acls.old) (A.left acls.new) (W.to_come rand.old) (W.to_come rand.new) (V.state vault.old) (V.state vault.new) (K.written out.old) (K.written out.new) result)
+        ((disk.new ≡ disk.old) × (acls.new ≡ acls.old) × (input.new ≡ input.old) × (vault.new ≡ vault.old) × (rand.new ≡ rand.old) × (clock.new ≡ clock.old))
+        (K.written out.old) (K.written out.new) result }
+    ensures own { result ≡ 2 → order ≡ Err OrderFault.Usage }
+    ensures read_fault { result ≡ 7 → Rose (S.faults input.old) (S.faults input.new) ⊎ Rose (A.faults acls.old) (A.faults acls.new) }
+    ensures write_fault { result ≡ 8 → Rose (K.faults out.old) (K.faults out.new) }
+    ensures vault_fault { result ≡ 12 → Rose (V.state vault.old).faults (V.state vault.new).faults ⊎ (TellsBodies (V.state vault.old) → HadBody (V.state vault.old)) }
+    ensures long { result ≡ 13 → (all : List ℕ) → S.left input.old ≡ Some all → longest_body < length all }
+{
+    match order {
+        Ok(FsOrder::Put { user, path }) => run_put(
+            alloc, &user, &path, acls, input, out, disk, vault, rand, clock,
+        ),
+        Ok(
+            FsOrder::Read {
+                user,
+                path,
+                from,
+                count,
+            },
+        ) => run_read(
+            alloc, &user, &path, from, count, acls, out, disk, vault, rand, clock,
+        ),
+        Ok(FsOrder::Help(text)) => show_made(out, text),
+        Ok(FsOrder::Version(text)) => show_made(out, text),
+        Err(OrderFault::Usage) => show(out, b"usage refused\n", 2),
+        Err(OrderFault::NoMemory) => show(out, b"no memory\n", 6),
+    }
+}
+
+/// Carries out a command line and returns the exit status.
+///
+/// `put USER PATH` makes a file for a user, and stores the input as its body, to its end. In an encryption
+/// zone the body is encrypted in counter mode under the data encryption key of the file, which is decrypted
+/// as the user. It writes `put` and the number of bytes. `read USER PATH FROM COUNT` writes that range of a
+/// file, cut at its end. Both use the key log on file 0 of the disk and the edit log on file 1, as `hkms`
+/// does, and the properties of `acls`.
+///
+/// The clauses `put_kept` and `read_kept` say what is kept: the promise of `hkms` on files holds in every
+/// world of the run and after every crash, and a body is stored under the draw of its file. What was put is
+/// read back by any later run: `bodies_are_read_back`.
+///
+/// Help and version are printed with status 0, whatever other words there are. A mistake in the words
+/// gives status 2 and the line `usage refused`. If allocation fails while the words are read, the status
+/// is 6 and the line is `no memory`. All these use the output alone. The other statuses:
+///
+/// - 0: the body was stored, or the range was written.
+/// - 3: the properties were refused.
+/// - 4: a log is damaged.
+/// - 5: the disk failed.
+/// - 6: allocation failed.
+/// - 7: the properties or the input could not be read.
+/// - 8: the output failed.
+/// - 10: the last opening of a log is used up.
+/// - 11: an event was refused, or the path is that of a directory.
+/// - 12: the vault failed, or it had a body for the new file.
+/// - 13: the input has more than 2^40 bytes.
+pub fn hkfs<A: Source, S: Source, K: Sink, D: Disk, V: Vault, W: Words, C: Clock>(
+    alloc: Global,
+    words: &[Text],
+    acls: &mut A,
+    input: &mut S,
+    out: &mut K,
+    disk: &mut D,
+    vault: &mut V,
+    rand: &mut W,
+    clock: &mut C,
+) -> u8
+    ensures usage { IsMistake (line_fault words.now) →
+        Refuses ((disk.new ≡ disk.old) × (acls.new ≡ acls.old) × (input.new ≡ input.old) × (vault.new ≡ vault.old) × (rand.new ≡ rand.old) × (clock.new ≡ clock.old)) (K.written out.old) (K.written out.new) result
+        ⊎ WantsMemory ((disk.new ≡ disk.old) × (acls.new ≡ acls.old) × (input.new ≡ input.old) × (vault.new ≡ vault.old) × (rand.new ≡ rand.old) × (clock.new ≡ clock.old)) (K.written out.old) (K.written out.new) result }
+    ensures usage_only { result ≡ 2 → IsMistake (line_fault words.now) }
+    ensures help { FindsHelp words.now ⊎ FindsVersion words.now →
+        ShowsText ((disk.new ≡ disk.old) × (acls.new ≡ acls.old) × (input.new ≡ input.old) × (vault.new ≡ vault.old) × (rand.new ≡ rand.old) × (clock.new ≡ clock.old)) (K.written out.old) (K.written out.new) result
+        ⊎ WantsMemory ((disk.new ≡ disk.old) × (acls.new ≡ acls.old) × (input.new ≡ input.old) × (vault.new ≡ vault.old) × (rand.new ≡ rand.old) × (clock.new ≡ clock.old)) (K.written out.old) (K.written out.new) result }
+    ensures put { (user path : List ℕ) → Names (order.Put user path) words.now →
+        (PutsFile (disk.new ≡ disk.old) ((input.new ≡ input.old) × (vault.new ≡ vault.old) × (rand.new ≡ rand.old) × (clock.new ≡ clock.old)) user path (D.state disk.old) (D.state disk.new) (A.left acls.old) (A.left acls.new) (W.to_come rand.old) (W.to_come rand.new) (S.left input.old) (S.left input.new) (V.state vault.old) (V.state vault.new) (K.written out.old) (K.written out.new) result)
+        ⊎ WantsMemory ((disk.new ≡ disk.old) × (acls.new ≡ acls.old) × (input.new ≡ input.old) × (vault.new ≡ vault.old) × (rand.new ≡ rand.old) × (clock.new ≡ clock.old)) (K.written out.old) (K.written out.new) result }
+    ensures put_kept { (user path : List ℕ) → Names (order.Put user path) words.now → Tells (D.state disk.old) → (past : Past) → StartsSound (D.state disk.old) past →
+        (NothingHappened ((input.new ≡ input.old) × (vault.new ≡ vault.old) × (rand.new ≡ rand.old) × (clock.new ≡ clock.old)) past (D.state disk.old) (D.state disk.new)
+        ⊎ PutKept past user path (D.state disk.old) (D.state disk.new) (A.left acls.old) (A.left acls.new) (W.to_come rand.old) (W.to_come rand.new) (S.left input.old) (S.left input.new) (V.state vault.old) (V.state vault.new) (K.written out.old) (K.written out.new) result)
+        ⊎ WantsMemory ((disk.new ≡ disk.old) × (acls.new ≡ acls.old) × (input.new ≡ input.old) × (vault.new ≡ vault.old) × (rand.new ≡ rand.old) × (clock.new ≡ clock.old)) (K.written out.old) (K.written out.new) result }
+    ensures read { (user path : List ℕ) (from count : ℕ) → Names (order.Read user path from count) words.now →
+        (ReadsFile (disk.new ≡ disk.old) ((vault.new ≡ vault.old) × (rand.new ≡ rand.old) × (clock.new ≡ clock.old)) user path from count (D.state disk.old) (D.state disk.new) (A.left acls.old) (A.left acls.new) (W.to_come rand.old) (W.to_come rand.new) (V.state vault.old) (V.state vault.new) (K.written out.old) (K.written out.new) result × (input.new ≡ input.old))
+        ⊎ WantsMemory ((disk.new ≡ disk.old) × (acls.new ≡ acls.old) × (input.new ≡ input.old) × (vault.new ≡ vault.old) × (rand.new ≡ rand.old) × (clock.new ≡ clock.old)) (K.written out.old) (K.written out.new) result }
+    ensures read_kept { (user path : List ℕ) (from count : ℕ) → Names (order.Read user path from count) words.now → Tells (D.state disk.old) → (past : Past) → StartsSound (D.state disk.old) past →
+        (NothingHappened ((vault.new ≡ vault.old) × (rand.new ≡ rand.old) × (clock.new ≡ clock.old)) past (D.state disk.old) (D.state disk.new)
+        ⊎ ReadKept past user path from count (D.state disk.old) (D.state disk.new) (A.left acls.old) (A.left acls.new) (W.to_come rand.old) (W.to_come rand.new) (V.state vault.old) (V.state vault.new) (K.written out.old) (K.written out.new) result)
+        ⊎ WantsMemory ((disk.new ≡ disk.old) × (acls.new ≡ acls.old) × (input.new ≡ input.old) × (vault.new ≡ vault.old) × (rand.new ≡ rand.old) × (clock.new ≡ clock.old)) (K.written out.old) (K.written out.new) result }
+    ensures read_fault { result ≡ 7 → Rose (S.faults input.old) (S.faults input.new) ⊎ Rose (A.faults acls.old) (A.faults acls.new) }
+    ensures write_fault { result ≡ 8 → Rose (K.faults out.old) (K.faults out.new) }
+    // The vault failed, or it had a body under an id that was new.
+    ensures vault_fault { result ≡ 12 → Rose (V.state vault.old).faults (V.state vault.new).faults ⊎ (TellsBodies (V.state vault.old) → HadBody (V.state vault.old)) }
+    ensures long { result ≡ 13 → (all : List ℕ) → S.left input.old ≡ Some all → longest_body < length all }
+{
+    let order = read_order(alloc, words);
+    obey(alloc, order, acls, input, out, disk, vault, rand, clock)
+}

@@ -1,0 +1,4 @@
+pub mod Bodies
+pub mod Ends
+pub mod Events
+pub mod Opening

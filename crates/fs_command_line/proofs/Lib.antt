@@ -1,0 +1,6 @@
+mod EnteredLemmas
+mod KindLemmas
+mod OrderLemmas
+mod PlainLemmas
+mod SpellingLemmas
+mod ValueLemmas

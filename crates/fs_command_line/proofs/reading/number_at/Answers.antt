@@ -1,0 +1,9 @@
+use Rattle.std.proofs.Common.{rules, sym}
+use Rattle.fs_command_line.proofs.ValueLemmas.{number_read, number_refused}
+use Rattle.fs_command_line.proofs.reading.number_at.Goals as goal
+
+pub returns-then-number : goal.returns-then-number
+returns-then-number c = sym (number_refused c.in-Some.number c.args.text.now (search rules) (search rules) (search rules))
+
+pub returns-else-number : goal.returns-else-number
+returns-else-number c = sym (number_read c.in-Some.number c.args.text.now (search rules) (search rules))

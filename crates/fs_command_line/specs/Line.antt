@@ -1,0 +1,33 @@
+-- The program's commands, as clap's parse of its words sees them.
+use Rattle.std.specs.Prelude.{codes, true}
+use Rattle.clap.specs.Words.{App, Rule, Text, new_app, new_rule, with_rule, with_subcommand}
+
+-- the program's own name is not among the words, a command is required, and there is no command `help`
+abbrev pub top : App
+top =
+    let new = new_app (codes "hkfs") in
+    record new {
+      top = record new.top { no_binary_name = true; subcommand_required = true; disable_help_subcommand = true; has_version = true };
+    }
+
+-- a word that a command needs, under this id; clap takes any word for it
+abbrev pub word : Text → Rule
+word id = record (new_rule id) { value_names = 1; required = true }
+
+abbrev pub put : App
+put = with_rule (with_rule (new_app (codes "put")) (word (codes "user"))) (word (codes "path"))
+
+-- one more command, which is `put`
+abbrev pub with_put : App → App
+with_put program = with_subcommand program put.top
+
+abbrev pub read : App
+read = with_rule (with_rule (with_rule (with_rule (new_app (codes "read")) (word (codes "user"))) (word (codes "path"))) (word (codes "from"))) (word (codes "count"))
+
+-- one more command, which is `read`
+abbrev pub with_read : App → App
+with_read program = with_subcommand program read.top
+
+-- the program with its commands
+abbrev pub hkfs : App
+hkfs = with_read (with_put top)

@@ -1,0 +1,82 @@
+//! The commands of the program, as declared to `clap`.
+ghost use Rattle.std.specs.Prelude.{◌≡◌, IfOk, false};
+ghost use Rattle.clap.specs.Words.{app_of, rule_of};
+ghost use Rattle.fs_command_line.specs.Line as line;
+
+use crate::help;
+use clap::{Arg, Command};
+use std::alloc::{AllocError, Global};
+
+/// Declares the program without its commands. A command is required, and `help` is not a command.
+fn top<'a>(alloc: Global) -> Result<Command<'a>, AllocError>
+    ensures { IfOk result (λ r. app_of r ≡ line.top) }
+{
+    Command::new(alloc, "hkfs")
+        .about(help::PROGRAM)
+        .after_help(help::PROGRAM_NOTES)
+        .version(help::VERSION)
+        .no_binary_name(true)
+        .subcommand_required(true)
+        .disable_help_subcommand(true)
+        .bin_name("hkfs")
+}
+
+/// Declares a word that a command needs. `clap` takes any word for it.
+fn word<'a>(alloc: Global, id: &'a str, name: &'a str, help: &'a str) -> Arg<'a>
+    ensures rule { rule_of result ≡ line.word id.entry.now }
+    ensures local { result.global ≡ false }
+{
+    Arg::new(alloc, id)
+        .value_name(name)
+        .help(help)
+        .required(true)
+}
+
+/// Declares `put` with its words.
+fn put<'a>(alloc: Global) -> Result<Command<'a>, AllocError>
+    ensures { IfOk result (λ r. app_of r ≡ line.put) }
+{
+    let plain = Command::new(alloc, "put")
+        .about(help::PUT)
+        .after_help(help::PUT_NOTES);
+    let half = plain.arg(word(alloc, "user", "USER", help::USER))?;
+    half.arg(word(alloc, "path", "PATH", help::NEW_PATH))
+}
+
+/// Adds the command `put`.
+fn with_put<'a>(alloc: Global, program: Command<'a>) -> Result<Command<'a>, AllocError>
+    ensures { IfOk result (λ r. app_of r ≡ line.with_put (app_of program.entry)) }
+{
+    let put = put(alloc)?;
+    program.subcommand(put)
+}
+
+/// Declares `read` with its words.
+fn read<'a>(alloc: Global) -> Result<Command<'a>, AllocError>
+    ensures { IfOk result (λ r. app_of r ≡ line.read) }
+{
+    let plain = Command::new(alloc, "read")
+        .about(help::READ)
+        .after_help(help::READ_NOTES);
+    let one = plain.arg(word(alloc, "user", "USER", help::USER))?;
+    let two = one.arg(word(alloc, "path", "PATH", help::PATH))?;
+    let three = two.arg(word(alloc, "from", "FROM", help::FROM))?;
+    three.arg(word(alloc, "count", "COUNT", help::COUNT))
+}
+
+/// Adds the command `read`.
+fn with_read<'a>(alloc: Global, program: Command<'a>) -> Result<Command<'a>, AllocError>
+    ensures { IfOk result (λ r. app_of r ≡ line.with_read (app_of program.entry)) }
+{
+    let read = read(alloc)?;
+    program.subcommand(read)
+}
+
+/// Declares the program with its commands.
+pub(crate) fn hkfs<'a>(alloc: Global) -> Result<Command<'a>, AllocError>
+    ensures { IfOk result (λ r. app_of r ≡ line.hkfs) }
+{
+    let program = top(alloc)?;
+    let half = with_put(alloc, program)?;
+    with_read(alloc, half)
+}

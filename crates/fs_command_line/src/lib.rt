@@ -1,0 +1,12 @@
+//! The command line of `hkfs`, parsed by `clap`.
+#![tactic(auto)]
+
+mod commands;
+mod help;
+mod laws;
+mod order;
+mod reading;
+
+pub use laws::{other_words_are_refused, words_name_their_order};
+pub use order::{FsOrder, OrderFault};
+pub use reading::read_order;
