@@ -5,6 +5,7 @@ set -u
 . "$(dirname "${BASH_SOURCE[0]}")/room.bash"
 
 hkfs=${HKFS:-$PWD/hkfs}
+openssl=$(command -v openssl) || echo "$0: what is stored is not decrypted, the command openssl is not here"
 
 # Replays these lines in this folder.
 lines() {
@@ -43,10 +44,11 @@ look() {
 
 # Compares a body, decrypted by openssl under the key of a decrypt line, with the bytes that were put.
 same_stored() {
+    [ -n "$openssl" ] || return 0
     look "$1"
     local key
     read -r _ _ key < <(echo "kms alice decrypt $version $vector $sealed" | lines)
-    openssl enc -d "-aes-$((${#key} * 4))-ctr" -K "$key" -iv "$vector" -in "$room/bodies/$id" -out "$folder/opened" || failures=$((failures + 1))
+    "$openssl" enc -d "-aes-$((${#key} * 4))-ctr" -K "$key" -iv "$vector" -in "$room/bodies/$id" -out "$folder/opened" || failures=$((failures + 1))
     if ! cmp -s "$folder/opened" "$2"; then
         echo "FAILED: the body of $1 isn't its bytes under its key"
         failures=$((failures + 1))
