@@ -111,4 +111,42 @@ expect 'a user who may decrypt' 0 ''
 look /z128/denied
 [ ! -e "$room/bodies/$id" ] || { echo 'FAILED: a body after a denied decryption'; failures=$((failures + 1)); }
 
+# same_prefix PATH FILE: what is stored of a file that was cut short reads as a prefix of these bytes, and some of it is there.
+same_prefix() {
+    (cd "$room" && "$hkfs" read alice "$1" 0 9223372036854775807 >"$folder/range" 2>"$folder/errors")
+    local got=$? size
+    size=$(stat -c %s "$folder/range")
+    if [ "$got" != 0 ] || [ "$size" -eq 0 ] || [ "$size" -ge "$(stat -c %s "$2")" ] || ! cmp -s -n "$size" "$folder/range" "$2"; then
+        echo "FAILED: $1 is no prefix of what was put, status $got, $size bytes"
+        failures=$((failures + 1))
+    fi
+}
+
+# A body that outgrows what a file may have: the put ends with 12, and the body is a prefix.
+rm "$room/kms-acls.properties"
+output=$(cd "$room" && trap '' XFSZ && ulimit -f 1000 && "$hkfs" put alice /z128/cut <"$folder/bytes.3000000" 2>"$folder/errors")
+status=$?
+expect 'a body that outgrows the largest file' 12 'vault fault'
+grep -q '^bodies/[0-9]*: write failed: ' "$folder/errors" || { echo 'FAILED: no message of the write that failed'; failures=$((failures + 1)); }
+same_prefix /z128/cut "$folder/bytes.3000000"
+
+# A put that is killed in the middle: the file is there, and its body is a prefix. It can be deleted and put again.
+mkfifo "$folder/input"
+touch "$folder/mark"
+(cd "$room" && exec "$hkfs" put alice /z256/killed <"$folder/input" >"$folder/killed" 2>&1) &
+put=$!
+exec 9>"$folder/input"
+head -c 1000000 "$folder/bytes.3000000" >&9
+for _ in $(seq 100); do
+    [ -n "$(find "$room/bodies" -newer "$folder/mark" -size +0)" ] && break
+    sleep 0.1
+done
+kill -9 "$put"
+wait "$put" 2>/dev/null
+exec 9>&-
+same_prefix /z256/killed "$folder/bytes.3000000"
+printf 'nn alice delete /z256/killed\n' | lines >/dev/null
+put /z256/killed "$folder/bytes.3000000"
+same_range /z256/killed "$folder/bytes.3000000" 999990 20
+
 [ "$failures" -eq 0 ]
