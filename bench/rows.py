@@ -60,6 +60,17 @@ def removal_records(paths):
     return b"".join([record.pack(1, 3 + length, 4, length, path) for path in paths])
 
 
+def snapshot_record(number):
+    name = str(number).encode()
+    return b"\x09" + path_bytes(b"/zone") + path_bytes(name)
+
+
+def renamed(path):
+    """The other one of two paths that a file has in turn."""
+    above, _, name = path.rpartition(b"/")
+    return above + b"/" + (name[1:] if name.startswith(b"-") else b"-" + name)
+
+
 class Rows:
     """What a log makes: the zone /zone, directories in it, and files in these. Directories come before what is in them. Those of the
     inner zones are among the directories."""
@@ -312,21 +323,50 @@ class Bench:
         print_row(refused, microseconds("mkdir", "mkdir of the root"), "the most that is wanted for one find", 1.5)
 
     def print_snapshots(self, files):
-        """Measures snapshots of a directory of so many rows, each taken and removed."""
+        """Measures snapshots of a directory of so many rows: a first one, one more of the same rows, and its removal."""
         rows = in_any_order(rows_in("/zone", [], files))
         self.clear()
         with open(self.names, "wb") as file:
             file.write(rows.log())
         session = Session(self.program, self.folder)
         session.run([ROOT_LINE, "nn hdfs allow /zone\n"], ["dir 0 - -", "done"])
-        taken, removed = [], []
+        first, again, removed = [], [], []
         for _ in range(5):
-            taken.append(session.run(["nn a snap /zone s\n"], ["done"]))
-            removed.append(session.run(["nn a unsnap /zone s\n"], ["done"]))
+            first.append(session.run(["nn a snap /zone s\n"], ["done"]))
+            again.append(session.run(["nn a snap /zone t\n"], ["done"]))
+            removed.append(session.run(["nn a unsnap /zone t\n"], ["done"]))
+            session.run(["nn a unsnap /zone s\n"], ["done"])
         session.end()
         most = "the most that is wanted"
-        print_row(f"a snapshot of {files:,} files, ms", min(taken) * 1e3, most, 100, 0)
-        print_row("its removal, ms", min(removed) * 1e3, most, 100, 0)
+        print_row(f"a first snapshot of {files:,} files, ms", min(first) * 1e3, most, 60, 0)
+        print_row("another one, if nothing changed, ms", min(again) * 1e3, most, 15, 0)
+        print_row("its removal, ms", min(removed) * 1e3, most, 10, 0)
+
+    def open_snapshots(self, files, count):
+        """Opens a log with so many snapshots of a zone, with 1 of 100 files renamed between two. Returns the seconds and the memory after it."""
+        rows, renaming = rows_in("/zone", [], files), random.Random(count)
+        paths = list(rows.files)
+        self.clear()
+        with open(self.names, "wb") as file:
+            file.write(rows.log()[:-1] + frames([b"\x07" + path_bytes(b"/zone"), snapshot_record(0)]))
+            for number in range(1, count):
+                for at in renaming.sample(range(files), files // 100):
+                    old, paths[at] = paths[at], renamed(paths[at])
+                    file.write(frames([b"\x05" + path_bytes(old) + path_bytes(paths[at])]))
+                file.write(frames([snapshot_record(number)]))
+            file.write(b"\0")
+        path = f"/zone/.snapshot/{count - 1}{paths[-1].decode()[5:]}"
+        ids = rows.first_file() + files - 1
+        seconds, (_, held) = open_once(self.program, self.folder, f"nn a info {path}\n", f"file {ids} /zone {EDEK_TEXT}")
+        return seconds - self.start, held
+
+    def print_many_snapshots(self, files, count):
+        """Measures what many snapshots that differ a little take beyond one."""
+        alone, one = self.open_snapshots(files, 1)
+        seconds, many = self.open_snapshots(files, count)
+        what = f"{count} snapshots of {files:,} files, 1 % renamed between two"
+        print_row(f"memory of {what}, beyond one, MB", (many - one) / 1e6, "the most that is wanted", 400, 0)
+        print_row("opening of that log, s", seconds, "the same with one snapshot", alone)
 
     def walk_seconds(self, rows, runs):
         """The processor time of a walk in the zone /zone, the mean of those that give a batch."""
@@ -396,6 +436,7 @@ def main():
     ):
         bench.opening(what, made, 2, 3)
     bench.print_snapshots(min(files, 100_000))
+    bench.print_many_snapshots(min(files, 500_000), 100)
     bench.print_renames(min(files, 500_000))
     bench.print_walks(files)
     bench.print_walks_beside_inner_zones(min(files, 500_000))

@@ -18,7 +18,6 @@ from dataclasses import dataclass, field, replace
 
 from headline import Keys, Names, Wrong, count_completed, path_text, read_log
 
-NAMES = "abc"
 DEPTH = 4
 BATCH = 2
 MATERIALS = {"k": "2b7e151628aed2a6abf7158809cf4f3c", "j": "000102030405060708090a0b0c0d0e0f"}
@@ -419,9 +418,11 @@ class Script:
     """The events of a run, with the answers of the model. `least` is for events that ask for a file after a re-encryption of its zone:
     it has the zone, and the number of the least version that the file may be on."""
 
-    def __init__(self, seed):
+    names = "abc"
+
+    def __init__(self, seed, model=None):
         self.random = random.Random(seed)
-        self.model = Model()
+        self.model = model or Model()
         self.lines, self.answers, self.least = [], [], {}
         for key, material in MATERIALS.items():
             self.lines.append(f"kms a create {key} 128 {material}")
@@ -445,7 +446,7 @@ class Script:
         return self.random.choice(paths) if paths else self.any_path()
 
     def any_path(self):
-        return tuple(self.random.choice(NAMES) for _ in range(self.random.randint(1, DEPTH)))
+        return tuple(self.random.choice(self.names) for _ in range(self.random.randint(1, DEPTH)))
 
     def old_path(self, chance=0.9):
         return self.pick(list(self.model.rows)) if self.random.random() < chance else self.any_path()
@@ -457,7 +458,7 @@ class Script:
         if beside is not None and self.random.random() < 0.7:
             zone = model.zone_of(beside[:-1])
             above = [it for it in above if model.zone_of(it) == zone]
-        free = [it + (name,) for it in above for name in NAMES if it + (name,) not in rows]
+        free = [it + (name,) for it in above for name in self.names if it + (name,) not in rows]
         return self.pick(free) if self.random.random() < 0.95 else self.any_path()
 
     def empty_directory(self):

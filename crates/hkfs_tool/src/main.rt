@@ -3,7 +3,6 @@
 
 ghost use Rattle.std.specs.Prelude.{◌≡◌};
 ghost use Rattle.fs_command_line.specs.Orders.{IsMistake, line_fault};
-ghost use Rattle.hkfs_tool.specs.Starting.{EndsBy, EndsWith};
 
 mod opening;
 
@@ -12,67 +11,27 @@ use body_stream::Vault;
 use data_stream::hkfs;
 use disk_kinds::{ChaWords, PlainDisk, Reading, WallClock, Writing};
 use fs_command_line::{FsOrder, OrderFault, read_order};
-use hk_base::{Disk, Source, Text, write_all};
-use opening::{BODIES, Opened, PROPERTIES, Unopened, fill_standard, open_all};
-use std::alloc::Global;
-use std::env;
-use std::fs::File;
-use std::io::{self, ErrorKind, Read};
+use hk_base::{Disk, Source, Text};
+use opening::{BODIES, Opened, Unopened, open_all};
+use program_start::{PROPERTIES, end_by, end_with, fill_standard, random_seed, words_given};
+use std::io;
 use std::process::ExitCode;
-use std::rt::{Env, Files};
-
-/// Returns the words of the command line without the program's own name. Fails if a word is not UTF-8.
-fn words_given(rt: &(impl Env + Alloc<A = Global>)) -> io::Result<Vec<Text>> {
-    let mut words = Vec::new(rt.alloc());
-    for word in env::args(rt)?.skip(1) {
-        words.push(Text::of(word))?;
-    }
-    Ok(words)
-}
-
-/// 32 bytes of the system's random source.
-fn random_seed<R: Files>(rt: &R) -> io::Result<[u8; 32]> {
-    let mut seed = [0u8; 32];
-    File::open(rt, "/dev/urandom")?.read_exact(&mut seed)?;
-    Ok(seed)
-}
-
-/// Tells of a fault that comes before the input is read, by a last line, and returns the status.
-fn report_fault(rt: &HostRuntime, line: &[u8], status: u8) -> u8
-    ensures { EndsWith status result }
-{
-    let mut out = Writing::new(rt.stdout());
-    match write_all(&mut out, line) {
-        Ok(()) => status,
-        Err(_) => 8,
-    }
-}
-
-/// Tells of an error that comes before the input is read, as `report_fault` does. A failed allocation
-/// has a line and a status of its own.
-fn report_error(rt: &HostRuntime, error: &io::Error, line: &[u8], status: u8) -> u8
-    ensures { EndsBy status error.now result }
-{
-    if error.kind() == ErrorKind::OutOfMemory {
-        return report_fault(rt, b"no memory\n", 6);
-    }
-    report_fault(rt, line, status)
-}
 
 /// Tells which files could not be opened, also on standard error.
 fn report_unopened(rt: &HostRuntime, unopened: &Unopened) -> u8 {
+    let mut out = Writing::new(rt.stdout());
     match unopened {
         Unopened::Properties(error) => {
             let _ = eprintln!(rt; "hkfs: {PROPERTIES} cannot be opened here: {error}");
-            report_error(rt, error, b"read fault\n", 7)
+            end_by(&mut out, error, b"read fault\n", 7)
         }
         Unopened::Logs(error) => {
             let _ = eprintln!(rt; "hkfs: keys.log and names.log cannot be opened here: {error}");
-            report_error(rt, error, b"store fault\n", 5)
+            end_by(&mut out, error, b"store fault\n", 5)
         }
         Unopened::Bodies(error) => {
             let _ = eprintln!(rt; "hkfs: {BODIES} cannot be opened here: {error}");
-            report_error(rt, error, b"vault fault\n", 12)
+            end_by(&mut out, error, b"vault fault\n", 12)
         }
     }
 }
@@ -136,7 +95,7 @@ fn run(rt: &HostRuntime, words: &[Text], seed: [u8; 32]) -> u8 {
     match read_order(rt.alloc(), words) {
         Ok(FsOrder::Put { .. }) => run_in_folder(rt, words, seed),
         Ok(FsOrder::Read { .. }) => run_in_folder(rt, words, seed),
-        Err(OrderFault::NoMemory) => report_fault(rt, b"no memory\n", 6),
+        Err(OrderFault::NoMemory) => end_with(&mut Writing::new(rt.stdout()), b"no memory\n", 6),
         _ => run_without_files(rt, words, seed),
     }
 }
@@ -146,14 +105,13 @@ fn run(rt: &HostRuntime, words: &[Text], seed: [u8; 32]) -> u8 {
 fn run_words(rt: &HostRuntime, words: io::Result<Vec<Text>>, seed: [u8; 32]) -> u8 {
     match words {
         Ok(words) => run(rt, words.as_slice(), seed),
-        Err(error) => report_error(rt, &error, b"usage refused\n", 2),
+        Err(error) => end_by(&mut Writing::new(rt.stdout()), &error, b"usage refused\n", 2),
     }
 }
 
 /// Tells that the program can't begin.
 fn report_no_start(rt: &HostRuntime, line: &[u8]) -> ExitCode {
-    let mut out = Writing::new(rt.stdout());
-    let _ = write_all(&mut out, line);
+    let _ = end_with(&mut Writing::new(rt.stdout()), line, 7);
     ExitCode::from(7)
 }
 

@@ -3,7 +3,8 @@
 
 ghost use Rattle.std.specs.Prelude.{◌≡◌, ◌≢◌, IfErr, IfOk, IsTrue, MatchResult};
 ghost use Rattle.command_line.specs.Orders.{IsMistake, line_fault};
-ghost use Rattle.hkms_tool.specs.Starting.{EndsBy, EndsUnopened, EndsWith};
+ghost use Rattle.hkms_tool.specs.Starting.{EndsUnopened};
+ghost use Rattle.program_start.specs.Starting.{EndsBy, EndsWith};
 
 mod announcing;
 mod opening;
@@ -13,35 +14,17 @@ use announcing::Announcing;
 use command_line::{Order, OrderFault, read_order};
 use disk_kinds::{Alarm, ChaWords, PlainDisk, Reading, WallClock, Writing};
 use door_kinds::{MemDoor, MemYard};
-use hk_base::{Disk, Source, Text, write_all};
+use hk_base::{Disk, Source, Text};
 use hkms_commands::hkms;
-use opening::{PROPERTIES, Unopened, fill_standard, open_disk, open_yard};
+use opening::{Unopened, open_disk, open_yard};
+use program_start::{PROPERTIES, end_with, fill_standard, random_seed, words_given};
 use server_parts::{Door, Yard};
 use std::alloc::Global;
-use std::env;
-use std::fs::File;
-use std::io::{self, ErrorKind, Read};
+use std::io::{self, ErrorKind};
 use std::process::ExitCode;
-use std::rt::{Env, Files};
 use std::sync::{Arc, Wait};
 use std::thread::Threads;
 use stopping::watch_stop;
-
-/// Returns the words of the command line without the program's own name. Fails if a word is not UTF-8.
-fn words_given(rt: &(impl Env + Alloc<A = Global>)) -> io::Result<Vec<Text>> {
-    let mut words = Vec::new(rt.alloc());
-    for word in env::args(rt)?.skip(1) {
-        words.push(Text::of(word))?;
-    }
-    Ok(words)
-}
-
-/// 32 bytes of the system's random source.
-fn random_seed<R: Files>(rt: &R) -> io::Result<[u8; 32]> {
-    let mut seed = [0u8; 32];
-    File::open(rt, "/dev/urandom")?.read_exact(&mut seed)?;
-    Ok(seed)
-}
 
 /// What a command writes to the output.
 #[derive(Clone, Copy)]
@@ -59,11 +42,7 @@ fn report_fault(rt: &HostRuntime, output: Output, line: &[u8], status: u8) -> u8
     if matches!(output, Output::Responses) {
         return status;
     }
-    let mut out = Writing::new(rt.stdout());
-    match write_all(&mut out, line) {
-        Ok(()) => status,
-        Err(_) => 8,
-    }
+    end_with(&mut Writing::new(rt.stdout()), line, status)
 }
 
 /// Tells of an error that comes before the input is read, as `report_fault` does. A failed allocation
@@ -301,8 +280,7 @@ fn run_words<T: Threads + Wait + Sync>(
 
 /// Tells that the program can't begin.
 fn report_no_start(rt: &HostRuntime, line: &[u8]) -> ExitCode {
-    let mut out = Writing::new(rt.stdout());
-    let _ = write_all(&mut out, line);
+    let _ = end_with(&mut Writing::new(rt.stdout()), line, 7);
     ExitCode::from(7)
 }
 

@@ -1,4 +1,4 @@
-use Rattle.std.proofs.Common.{◌≡◌, ap, inl, ⊎_elim}
+use Rattle.std.proofs.Common.{◌≡◌, ap, ⊎_elim}
 use Rattle.command_io.proofs.UsageLemmas.{status_is_no_usage}
 use Rattle.command_line.specs.declared.order.Order.TheVariants.{Load, Pipe, Replay, Serve}
 use Rattle.hk_runs.proofs.HeadlineLemmas.{unmoved}

@@ -1,4 +1,4 @@
--- How the program ends if it cannot read its words, or open its files.
+-- How a program ends if its command cannot run.
 use Rattle.std.specs.Prelude.{◌≡◌, ◌≢◌, ◌⊎◌, ℕ}
 use Rattle.std.specs.IoError.{error_kind}
 use Rattle.std.specs.declared.io.Error.{Error}

@@ -1,0 +1,11 @@
+//! What each program does before its command runs: it takes its words and a seed, opens what all
+//! programs have, and tells of faults.
+#![tactic(auto)]
+
+mod ends;
+mod files;
+mod words;
+
+pub use ends::{end_by, end_with};
+pub use files::{PROPERTIES, PropertyBytes, Standard, fill_standard, open_properties};
+pub use words::{random_seed, words_given};
