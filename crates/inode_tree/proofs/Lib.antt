@@ -6,6 +6,7 @@ pub mod Firsts
 pub mod Grown
 pub mod Grows
 pub mod HintLemmas
+pub mod Insides
 pub mod Joins
 pub mod Lasts
 pub mod Listings

@@ -1,5 +1,5 @@
 //! The tree of inodes.
-ghost use Rattle.std.specs.Prelude.{ℕ, Option, false, ◌≡◌, ◌<◌, ◌≤◌, ◌-◌, [], Some, None, length, slice_index_or, slice_set, take, string_bytes, string_capacity, vec_capacity, vec_len, IsSome, IsOk, IsTrue, OnOk, OnErr, IfOk, if◌then◌else◌};
+ghost use Rattle.std.specs.Prelude.{ℕ, Option, false, ◌≡◌, ◌<◌, ◌≤◌, ◌-◌, ◌++◌, ◌∷◌, [], Some, None, length, slice_index_or, slice_set, take, string_bytes, string_capacity, vec_capacity, vec_len, IsSome, IsOk, IsTrue, OnOk, OnErr, IfOk, if◌then◌else◌};
 ghost use Rattle.std.specs.HashMap.{get, spare};
 ghost use Rattle.std.specs.Bool.{nat_eq};
 ghost use Rattle.std.specs.List.{insert};
@@ -75,10 +75,7 @@ impl Tree {
         let mut order = Order::new(alloc);
         let mut places = HashMap::new(alloc);
         let mut free = Vec::new(alloc);
-        nodes.reserve()?;
-        order.reserve()?;
-        places.reserve(1)?;
-        free.reserve(1)?;
+        reserve_root(&mut nodes, &mut order, &mut places, &mut free)?;
         first(&mut nodes, &mut order, &mut places);
         Ok(Tree {
             alloc,
@@ -440,6 +437,26 @@ fn give(places: &mut HashMap<u64, u32>, id: u64, n: u32)
     let _ = places.insert(id, n);
 }
 
+/// Reserves memory for the root. Returns `NoMemory` if allocation fails.
+fn reserve_root(
+    nodes: &mut Nodes,
+    order: &mut Order,
+    places: &mut HashMap<u64, u32>,
+    free: &mut Vec<u32>,
+) -> Result<(), NoMemory>
+    ensures nodes { nodes.new.items ≡ nodes.old.items }
+    ensures order { order.new.items ≡ order.old.items }
+    ensures places { (q : ℕ) → get nat_eq places.new q ≡ get nat_eq places.old q }
+    ensures free { free.new.items ≡ free.old.items }
+    ensures ok { OnOk result ((0 < nodes.new.spare) × (0 < order.new.spare) × (0 < spare places.new) × (1 ≤ vec_capacity free.new)) }
+{
+    nodes.reserve()?;
+    order.reserve()?;
+    places.reserve(1)?;
+    free.reserve(1)?;
+    Ok(())
+}
+
 /// Adds the root, in reserved memory.
 fn first(nodes: &mut Nodes, order: &mut Order, places: &mut HashMap<u64, u32>)
     requires nodes { (nodes.old.items ≡ []) × (0 < nodes.old.spare) }
@@ -577,6 +594,14 @@ fn build(alloc: Global, nodes: &Nodes, n: u32) -> Result<NPath, NoMemory>
     }
     let link = nodes.link(n);
     let mut path = build(alloc, nodes, link.parent)?;
-    path.push(copy_of(alloc, &link.name)?)?;
+    extend(alloc, &mut path, &link.name)?;
     Ok(path)
+}
+
+/// Appends a copy of a name to a path.
+fn extend(alloc: Global, path: &mut NPath, name: &NodeName) -> Result<(), NoMemory>
+    requires { IsTrue (is_relative (path.old ++ name.now ∷ [])) }
+    ensures { OnOk result (path.new ≡ path.old ++ name.now ∷ []) }
+{
+    path.push(copy_of(alloc, name)?)
 }

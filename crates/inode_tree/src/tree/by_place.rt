@@ -5,10 +5,9 @@ ghost use Rattle.inode_tree.specs.Arena.{IsLinked, path_of, rank};
 ghost use Rattle.inode_tree.specs.Below.{at_or_above, at_or_below};
 ghost use Rattle.name_calls.specs.Paths.{is_prefix, is_relative};
 
-use super::Tree;
+use super::{Tree, extend};
 use crate::climbs::{above, below, depth};
 use crate::hints::place;
-use crate::names::copy_of;
 use crate::nodes::Nodes;
 use crate::rows::Row;
 use hk_base::NoMemory;
@@ -85,6 +84,6 @@ fn build_last(alloc: Global, nodes: &Nodes, n: u32, count: usize) -> Result<NPat
     }
     let link = nodes.link(n);
     let mut path = build_last(alloc, nodes, link.parent, count - 1)?;
-    path.push(copy_of(alloc, &link.name)?)?;
+    extend(alloc, &mut path, &link.name)?;
     Ok(path)
 }

@@ -38,3 +38,6 @@ returns-clause-flat c =
     c.mend-3.ensures.flat ∙ c.mend-2.ensures.flat ∙ c.mend.ensures.flat ∙ ap flat c.turn.ensures.pieces
     ∙ turned-flat c.cut-last.new.pieces.items _ _ _ c.args.a c.args.b c.args.c first middle c.cut-last.ensures.cut (omega arith) (omega arith)
     ∙ ap (turned c.args.a c.args.b c.args.c) (c.cut-last.ensures.flat ∙ c.cut-middle.ensures.flat ∙ c.cut-first.ensures.flat)
+
+pub cut-first-requires-clause-count : goal.cut-first-requires-clause-count
+cut-first-requires-clause-count c = c.requires.count

@@ -7,10 +7,10 @@ invariant_of-result c = (
   record {
     tree = c.first.ensures.tree;
     free = subst (IsFree c.first.new.nodes.items c.first.new.order.items) (sym none) c.first.ensures.free;
-    capacity = let one = c.first.ensures.one in let ok = c.in_ok-reserve-4.ensures.ok in omega arith;
+    capacity = let one = c.first.ensures.one in let ok = c.in_ok-reserve_root.ensures.ok.3 in omega arith;
   },
   c.new.ensures.bytes,
 )
   where
-    none : c.reserve-4.new.self.items ≡ []
-    none = c.reserve-4.ensures.items ∙ c.new-free.ensures.items
+    none : c.reserve_root.new.free.items ≡ []
+    none = c.reserve_root.ensures.free ∙ c.new-free.ensures.items

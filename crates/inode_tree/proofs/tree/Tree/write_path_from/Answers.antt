@@ -6,6 +6,9 @@ use Rattle.inode_tree.specs.Rows.{Entry, TreeState}
 use Rattle.inode_tree.specs.Written.{last_bytes, path_bytes}
 use Rattle.inode_tree.specs.declared.rows.Node.{Node}
 use Rattle.inode_tree.proofs.Places.{at-place, from-end, live-at}
+use Rattle.std.specs.HashMap.{get}
+use Rattle.std.specs.Bool.{nat_eq}
+use Rattle.inode_tree.proofs.Insides.{fewer, node-relative, node-within}
 use Rattle.inode_tree.proofs.tree.Tree.write_path_from.Goals as goal
 
 -- the last names of the node are those of the row at the place
@@ -37,3 +40,27 @@ returns-clause-full c = λ e found.
     subst (λ (bytes : List ℕ). OnErr c.write_last.result (vec_capacity c.args.out.now < vec_len c.args.out.now + length bytes))
     (bytes-at c.self.inside.nodes.items c.self.inside.order.items c.args.self.now.rows c.args.at c.get-n.result c.args.from c.depth.result c.saturating_sub-count.result e (ap (λ (s : TreeState). s.rows) c.self.view_is) c.requires c.get-n.ensures c.depth.ensures c.saturating_sub-count.ensures found)
     c.write_last.ensures.full
+
+pub get-n-requires : goal.get-n-requires
+get-n-requires c = live-at _ _ c.args.self.now.rows c.args.at (ap (λ (s : TreeState). s.rows) c.self.view_is) c.requires
+
+pub depth-requires-clause-linked : goal.depth-requires-clause-linked
+depth-requires-clause-linked c = c.self.invariant.0.tree.linked
+
+pub depth-requires-clause-live : goal.depth-requires-clause-live
+depth-requires-clause-live c = node-within c.self.inside.nodes.items c.self.inside.order.items (get nat_eq c.self.inside.places) c.self.invariant.0.tree c.args.at c.get-n.result (live-at _ _ c.args.self.now.rows c.args.at (ap (λ (s : TreeState). s.rows) c.self.view_is) c.requires) c.get-n.ensures
+
+pub write_last-requires-clause-linked : goal.write_last-requires-clause-linked
+write_last-requires-clause-linked c = c.self.invariant.0.tree.linked
+
+pub write_last-requires-clause-live : goal.write_last-requires-clause-live
+write_last-requires-clause-live c = node-within c.self.inside.nodes.items c.self.inside.order.items (get nat_eq c.self.inside.places) c.self.invariant.0.tree c.args.at c.get-n.result (live-at _ _ c.args.self.now.rows c.args.at (ap (λ (s : TreeState). s.rows) c.self.view_is) c.requires) c.get-n.ensures
+
+pub write_last-requires-clause-rule : goal.write_last-requires-clause-rule
+write_last-requires-clause-rule c = node-relative c.self.inside.nodes.items c.self.inside.order.items (get nat_eq c.self.inside.places) c.self.invariant.0.tree c.args.at c.get-n.result (live-at _ _ c.args.self.now.rows c.args.at (ap (λ (s : TreeState). s.rows) c.self.view_is) c.requires) c.get-n.ensures
+
+pub write_last-requires-clause-count : goal.write_last-requires-clause-count
+write_last-requires-clause-count c = fewer c.depth.result c.args.from c.saturating_sub-count.result _ c.saturating_sub-count.ensures c.depth.ensures
+
+pub returns-clause-capacity : goal.returns-clause-capacity
+returns-clause-capacity c = c.write_last.ensures.capacity

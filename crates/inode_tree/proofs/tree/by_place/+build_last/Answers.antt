@@ -41,14 +41,13 @@ build_last-requires t c = (
   ),
 )
 
-pub push-requires : goal.push-requires
-push-requires t c =
-    ap is_relative (ap (λ (p : List (List ℕ)). p ++ c.in_ok-copy_of.field-0 ∷ []) c.in_ok-path.ensures ∙ ap (λ (x : List ℕ). drop (length (path_of c.args.nodes.now.items c.link-link.result.now.parent) - (c.args.count - 1)) (path_of c.args.nodes.now.items c.link-link.result.now.parent) ++ x ∷ []) c.in_ok-copy_of.ensures
-    ∙ sym (split c.args.nodes.now.items c.requires.linked c.args.n c.args.count c.link-link.result.now c.requires.live c.link-link.ensures c.if-count-eq0.false c.requires.count))
+pub extend-requires : goal.extend-requires
+extend-requires t c =
+    ap is_relative (ap (λ (p : List (List ℕ)). p ++ c.link-link.result.now.name ∷ []) c.in_ok-path.ensures ∙ sym (split c.args.nodes.now.items c.requires.linked c.args.n c.args.count c.link-link.result.now c.requires.live c.link-link.ensures c.if-count-eq0.false c.requires.count))
     ∙ relative-drop (length (path_of c.args.nodes.now.items c.args.n) - c.args.count) (path_of c.args.nodes.now.items c.args.n) c.requires.rule
 
 pub returns : goal.returns
 returns t c =
-    c.in_ok-push.ensures.ok
-    ∙ ap (λ (p : List (List ℕ)). p ++ c.in_ok-copy_of.field-0 ∷ []) c.in_ok-path.ensures ∙ ap (λ (x : List ℕ). drop (length (path_of c.args.nodes.now.items c.link-link.result.now.parent) - (c.args.count - 1)) (path_of c.args.nodes.now.items c.link-link.result.now.parent) ++ x ∷ []) c.in_ok-copy_of.ensures
+    c.in_ok-extend.ensures
+    ∙ ap (λ (p : List (List ℕ)). p ++ c.link-link.result.now.name ∷ []) c.in_ok-path.ensures
     ∙ sym (split c.args.nodes.now.items c.requires.linked c.args.n c.args.count c.link-link.result.now c.requires.live c.link-link.ensures c.if-count-eq0.false c.requires.count)

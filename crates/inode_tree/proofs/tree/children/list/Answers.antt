@@ -10,6 +10,7 @@ use Rattle.inode_tree.specs.Rows.{is_dir}
 use Rattle.inode_tree.proofs.Listings.{children-past, children-rank, passed, taken}
 use Rattle.inode_tree.proofs.Pasts.{past-most, rank-past}
 use Rattle.inode_tree.proofs.Ranks.{length-rows}
+use Rattle.inode_tree.proofs.Insides.{after, at-most, nearer, node-within}
 use Rattle.inode_tree.proofs.tree.children.list.Goals as goal
 
 -- a place before the last below the path
@@ -73,3 +74,33 @@ returns c =
     sym (append-nil c.each.list)
     ∙ ap (λ (cs : List Child). c.each.list ++ cs) (sym (children-past (rows_of c.args.nodes.now.items c.args.order.now.items) c.args.path.now c.each.at c.requires.tree.1.rising (let e = c.past-end.ensures in let t = c.each-test.false in omega arith)))
     ∙ c.each.invariant.rest
+
+pub place-at-requires-clause-upto : goal.place-at-requires-clause-upto
+place-at-requires-clause-upto c = at-most _ _ c.len.ensures.len
+
+pub past-end-requires-clause-linked : goal.past-end-requires-clause-linked
+past-end-requires-clause-linked c = c.requires.tree.1.linked
+
+pub past-end-requires-clause-within : goal.past-end-requires-clause-within
+past-end-requires-clause-within c = c.requires.tree.1.within
+
+pub past-end-requires-clause-rising : goal.past-end-requires-clause-rising
+past-end-requires-clause-rising c = c.requires.tree.1.rising
+
+pub depth-requires-clause-linked : goal.depth-requires-clause-linked
+depth-requires-clause-linked c = c.requires.tree.1.linked
+
+pub depth-requires-clause-live : goal.depth-requires-clause-live
+depth-requires-clause-live c = node-within c.args.nodes.now.items c.args.order.now.items c.requires.tree.0 c.requires.tree.1 c.each.at c.get-n.result (inside c.args.nodes.now.items c.args.order.now.items c.args.path.now c.each.at c.past-end.result c.past-end.ensures c.each-test.true) c.get-n.ensures
+
+pub link-requires : goal.link-requires
+link-requires c = node-within c.args.nodes.now.items c.args.order.now.items c.requires.tree.0 c.requires.tree.1 c.each.at c.get-n.result (inside c.args.nodes.now.items c.args.order.now.items c.args.path.now c.each.at c.past-end.result c.past-end.ensures c.each-test.true) c.get-n.ensures
+
+pub row-requires : goal.row-requires
+row-requires c = node-within c.args.nodes.now.items c.args.order.now.items c.requires.tree.0 c.requires.tree.1 c.each.at c.get-n.result (inside c.args.nodes.now.items c.args.order.now.items c.args.path.now c.each.at c.past-end.result c.past-end.ensures c.each-test.true) c.get-n.ensures
+
+pub each-smaller : goal.each-smaller
+each-smaller c = nearer c.each.at (c.each.at + 1) c.past-end.result (after c.each.at) c.each-test.true
+
+pub each-smaller-then-depth-len : goal.each-smaller-then-depth-len
+each-smaller-then-depth-len c = nearer c.each.at c.in_ok-at.at c.past-end.result c.in_ok-at.ensures.after c.each-test.true

@@ -12,6 +12,8 @@ use Rattle.inode_tree.proofs.MovedPlaces.{rank-upto}
 use Rattle.inode_tree.proofs.Pasts.{block-at, past-most, rank-past}
 use Rattle.inode_tree.proofs.Ranks.{length-rows, rows-at}
 use Rattle.inode_tree.proofs.ZoneLemmas.{prefix-length}
+use Rattle.inode_tree.proofs.Insides.{at-most, fewer, node-within, shorter}
+use Rattle.std.proofs.Common.{refl}
 use Rattle.inode_tree.proofs.tree.lengths.scan.Goals as goal
 
 -- values that the code reads, over plain variables
@@ -119,3 +121,33 @@ pub past-at-requires-clause-from : goal.past-at-requires-clause-from
 past-at-requires-clause-from c =
     let e = c.place-from.ensures ∙ ap (rank (rows_of c.args.nodes.now.items c.args.order.now.items)) (take_all c.len.result c.args.path.now (let l = c.len.ensures.len in omega arith)) in
     let f = rank-past (rows_of c.args.nodes.now.items c.args.order.now.items) c.args.path.now in omega arith
+
+pub place-from-requires-clause-upto : goal.place-from-requires-clause-upto
+place-from-requires-clause-upto c = at-most _ _ c.len.ensures.len
+
+pub past-at-requires-clause-linked : goal.past-at-requires-clause-linked
+past-at-requires-clause-linked c = c.requires.tree.1.linked
+
+pub past-at-requires-clause-within : goal.past-at-requires-clause-within
+past-at-requires-clause-within c = c.requires.tree.1.within
+
+pub past-at-requires-clause-rising : goal.past-at-requires-clause-rising
+past-at-requires-clause-rising c = c.requires.tree.1.rising
+
+pub depth-requires-clause-linked : goal.depth-requires-clause-linked
+depth-requires-clause-linked c = c.requires.tree.1.linked
+
+pub depth-requires-clause-live : goal.depth-requires-clause-live
+depth-requires-clause-live c = node-within c.args.nodes.now.items c.args.order.now.items c.requires.tree.0 c.requires.tree.1 (c.rows.at - 1) c.get-n.result (inside c.args.nodes.now.items c.args.order.now.items c.requires.tree.0 c.requires.tree.1 c.args.path.now c.place-from.result c.rows.at (start c.args.nodes.now.items c.args.order.now.items c.args.path.now c.len.result c.place-from.result c.len.ensures.len c.place-from.ensures) c.rows.invariant.low c.rows.invariant.high c.rows-test.true) c.get-n.ensures
+
+pub last_size-requires-clause-linked : goal.last_size-requires-clause-linked
+last_size-requires-clause-linked c = c.requires.tree.1.linked
+
+pub last_size-requires-clause-live : goal.last_size-requires-clause-live
+last_size-requires-clause-live c = node-within c.args.nodes.now.items c.args.order.now.items c.requires.tree.0 c.requires.tree.1 (c.rows.at - 1) c.get-n.result (inside c.args.nodes.now.items c.args.order.now.items c.requires.tree.0 c.requires.tree.1 c.args.path.now c.place-from.result c.rows.at (start c.args.nodes.now.items c.args.order.now.items c.args.path.now c.len.result c.place-from.result c.len.ensures.len c.place-from.ensures) c.rows.invariant.low c.rows.invariant.high c.rows-test.true) c.get-n.ensures
+
+pub last_size-requires-clause-count : goal.last_size-requires-clause-count
+last_size-requires-clause-count c = fewer c.depth.result c.len-in-rows.result _ _ refl c.depth.ensures
+
+pub rows-smaller : goal.rows-smaller
+rows-smaller c = shorter _ c.rows.at c.rows-test.true

@@ -6,6 +6,7 @@ use Rattle.inode_tree.specs.declared.rows.Node.{Node}
 use Rattle.inode_tree.specs.Arena.{IsFree, IsTree, node_at, number_of, rows_of, with_place}
 use Rattle.inode_tree.proofs.Lasts.{last-name}
 use Rattle.inode_tree.proofs.MovedTrees.{found-from, found-into, moves, node-below, to-deep}
+use Rattle.inode_tree.proofs.Insides.{at-most, one-less}
 use Rattle.inode_tree.proofs.tree.moves.relocate.Goals as goal
 
 pub unreachable-requires : goal.unreachable-requires
@@ -69,3 +70,24 @@ returns-clause-rows c =
     (into c.args.nodes.now.items c.args.order.now.items c.args.to.now c.len-upto.result c.in-Some-seek.n c.seek-2.result c.len-upto.ensures.len c.seek-2.ensures c.in-Some-seek.is) in
     let e = placed c.args.nodes.now.items c.set_link.new.self.items c.in-Some.n c.in-Some-seek.n c.len-upto.result c.args.to.now c.name_in-name.result c.name.result.now c.set_link.ensures c.name_in-name.ensures.name c.name.ensures c.len-upto.ensures.len in
     ap (λ (ns : List Node). rows_of ns c.shift.new.order.items) e ∙ ap (rows_of (with_place c.args.nodes.now.items c.in-Some.n c.in-Some-seek.n (get_or c.args.to.now (length c.args.to.now - 1) []))) c.shift.ensures ∙ w.rows
+
+pub seek-requires-clause-tree : goal.seek-requires-clause-tree
+seek-requires-clause-tree c = (get nat_eq c.args.places.now, c.requires.kept.tree)
+
+pub seek-requires-clause-upto : goal.seek-requires-clause-upto
+seek-requires-clause-upto c = at-most _ _ c.len.ensures.len
+
+pub seek-requires-2-clause-tree : goal.seek-requires-2-clause-tree
+seek-requires-2-clause-tree c = (get nat_eq c.args.places.now, c.requires.kept.tree)
+
+pub seek-requires-2-clause-upto : goal.seek-requires-2-clause-upto
+seek-requires-2-clause-upto c = one-less _ _ c.len-upto.ensures.len
+
+pub shift-requires-clause-tree : goal.shift-requires-clause-tree
+shift-requires-clause-tree c = (get nat_eq c.args.places.now, c.requires.kept.tree)
+
+pub shift-requires-clause-can : goal.shift-requires-clause-can
+shift-requires-clause-can c = c.requires.can
+
+pub shift-requires-clause-room : goal.shift-requires-clause-room
+shift-requires-clause-room c = c.requires.room.0

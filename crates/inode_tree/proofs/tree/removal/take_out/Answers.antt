@@ -5,6 +5,7 @@ use Rattle.inode_tree.specs.Arena.{IsFree, IsTree, blank, node_at, rows_of}
 use Rattle.inode_tree.specs.declared.rows.Node.{Node}
 use Rattle.inode_tree.specs.declared.rows.Row.{Row}
 use Rattle.inode_tree.proofs.Shrunk.{free-shrunk, shrunk, rows-shrunk}
+use Rattle.inode_tree.proofs.Insides.{node-within}
 use Rattle.inode_tree.proofs.tree.removal.take_out.Goals as goal
 
 -- the parts after a row was taken out, over plain variables
@@ -38,3 +39,15 @@ returns-clause-rows c =
     ap (λ (ms : List Node). rows_of ms c.remove.new.self.items) (c.set.ensures ∙ ap (set c.args.nodes.now.items c.get-n.result) c.blank_node.ensures)
     ∙ ap (rows_of (set c.args.nodes.now.items c.get-n.result blank)) c.remove.ensures
     ∙ rows-shrunk c.args.nodes.now.items c.args.order.now.items (get nat_eq c.args.places.now) c.args.at c.get-n.result c.requires.kept.tree c.requires.leaf c.get-n.ensures
+
+pub row-requires : goal.row-requires
+row-requires c = node-within c.args.nodes.now.items c.args.order.now.items (get nat_eq c.args.places.now) c.requires.kept.tree c.args.at c.get-n.result c.requires.leaf.inside c.get-n.ensures
+
+pub set-requires : goal.set-requires
+set-requires c = node-within c.args.nodes.now.items c.args.order.now.items (get nat_eq c.args.places.now) c.requires.kept.tree c.args.at c.get-n.result c.requires.leaf.inside c.get-n.ensures
+
+pub remove-requires-clause-within : goal.remove-requires-clause-within
+remove-requires-clause-within c = c.requires.leaf.inside
+
+pub remove-requires-clause-count : goal.remove-requires-clause-count
+remove-requires-clause-count c = c.requires.kept.tree.few
