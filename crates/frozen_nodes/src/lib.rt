@@ -7,4 +7,4 @@ mod same;
 mod takes;
 
 pub use forest::{Forest, MOST_NODES};
-pub use takes::{CopyBuffer, reserve_take, take};
+pub use takes::{CopyBuffer, FrozenRows, reserve_take, take};

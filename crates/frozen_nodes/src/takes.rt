@@ -18,6 +18,13 @@ const MOST_NAME: usize = 256;
 /// The maximum number of bytes of a name.
 const MOST_BYTES: usize = 255;
 
+/// Rows that have nodes: the node of their directory, and the number of rows at and below it.
+#[derive(Clone, Copy)]
+pub struct FrozenRows {
+    pub root: u32,
+    pub count: u32,
+}
+
 /// Memory that copies of rows need apart from that of their nodes.
 #[derive(Drop)]
 pub struct CopyBuffer {
@@ -123,7 +130,8 @@ struct Block {
 /// Returns the places of the rows at and below a path.
 fn block_of(tree: &Tree, path: &NPath) -> Block
     requires { IsSome (row_at tree.now.rows path.now) }
-    ensures { IsBlock tree.now.rows path.now result.at result.end }
+    ensures block { IsBlock tree.now.rows path.now result.at result.end }
+    ensures count { result.at + length (rows_below tree.now.rows path.now) ≡ result.end }
 {
     let _count = tree.rows();
     let at = tree.place(path);
@@ -137,7 +145,6 @@ fn row_count(tree: &Tree, path: &NPath) -> usize
     ensures count { result ≡ length (rows_below tree.now.rows path.now) }
     ensures most { result ≤ 4294967295 }
 {
-    let _count = tree.rows();
     let block = block_of(tree, path);
     (block.end - block.at) as usize
 }
@@ -171,25 +178,29 @@ pub fn reserve_take(
     reserve_rows(forest, buffer, row_count(tree, path))
 }
 
-/// Returns a node that has copies of the rows at and below a path, which must have a row. The other
-/// nodes keep their rows. A row and the rows below it that are the same as those of the node `near`,
-/// or at the same place below it, get that node once more. Returns `NoMemory` if allocation fails;
-/// the nodes are then unchanged. It does not allocate if the memory was reserved.
+/// Returns a node that has copies of the rows at and below a path, which must have a row, and the
+/// number of these rows. The other nodes keep their rows. A row and the rows below it that are the
+/// same as those of the node `near`, or at the same place below it, get that node once more. Returns
+/// `NoMemory` if allocation fails; the nodes are then unchanged. It does not allocate if the memory
+/// was reserved.
 pub fn take(
     forest: &mut Forest,
     buffer: &mut CopyBuffer,
     tree: &Tree,
     path: &NPath,
     near: u32,
-) -> Result<u32, NoMemory>
+) -> Result<FrozenRows, NoMemory>
     requires { IsSome (row_at tree.now.rows path.now) }
-    ensures rows { IfOk result (λ n. rows_from forest.new.nodes n ≡ rows_below tree.now.rows path.now) }
-    ensures within { IfOk result (λ n. n < length forest.new.nodes) }
+    ensures rows { IfOk result (λ frozen. rows_from forest.new.nodes frozen.root ≡ rows_below tree.now.rows path.now) }
+    ensures count { IfOk result (λ frozen. frozen.count ≡ length (rows_below tree.now.rows path.now)) }
+    ensures within { IfOk result (λ frozen. frozen.root < length forest.new.nodes) }
     ensures others { KeepsNodes forest.old.nodes forest.new.nodes }
     ensures err { OnErr result (forest.new.nodes ≡ forest.old.nodes) }
     ensures room { FitsCopies (length (rows_below tree.now.rows path.now)) forest.old.room buffer.old → IsOk result }
 {
     reserve_take(forest, buffer, tree, path)?;
     let block = block_of(tree, path);
-    Ok(buffer.copy(forest, tree, path, block.at, block.end, near))
+    let root = buffer.copy(forest, tree, path, block.at, block.end, near);
+    let count = block.end - block.at;
+    Ok(FrozenRows { root, count })
 }

@@ -7,8 +7,8 @@ use Rattle.std.proofs.lemmas.Bool.Decides.{nat_tests}
 use Rattle.std.specs.Str.{bytes_eq}
 use Rattle.std.proofs.lemmas.Cmp.{nat_cmp_total}
 use Rattle.std.proofs.lemmas.Slice.Eq.{bytes_eq-Decides}
-use Rattle.std.specs.Option.{option_map, option_map_or}
-use Rattle.inode_tree.specs.Rows.{Entry, row_at}
+use Rattle.std.specs.Option.{option_map_or}
+use Rattle.inode_tree.specs.Rows.{row_at}
 use Rattle.name_calls.proofs.PathLemmas.{and-parts}
 use Rattle.snap_store.specs.Ordered.{IsRisingBy, put_by}
 use Rattle.snap_store.specs.Snapshots.{IsSnapshots, Snapshot, count_of, is_among, is_named, is_of, key_of, put_snapshot, rows_in, snapshot_cmp, snapshot_named, with_id, without_id, without_snapshot}
@@ -174,13 +174,6 @@ find-all p q (y ∷ ys) x h e = go (q y) (and-parts (p y) (list_all p ys) h) e (
     go true w f ih = let g : y ≡ x = cc in subst (λ (z : Snapshot). p z ≡ true) g w.0
     go false w f ih = ih w.1 f
 
-pub rows-found : (xs : List Snapshot) (dir : ℕ) (name : List ℕ) (rows : List Entry) → Some rows ≡ option_map (λ (s : Snapshot). s.rows) (snapshot_named xs dir name) → rows ≡ rows_in xs dir name
-rows-found xs dir name rows h = go (snapshot_named xs dir name) h
-  where
-    go : (o : Option Snapshot) → Some rows ≡ option_map (λ (s : Snapshot). s.rows) o → rows ≡ option_map_or (λ s. s.rows) o []
-    go None f = cc
-    go (Some x) f = cc
-
 -- a snapshot exists exactly if it has the directory's own row
 pub named-look : (xs : List Snapshot) (dir : ℕ) (name : List ℕ) → list_all (λ t. is_some (row_at t.rows [])) xs ≡ true → is_some (row_at (rows_in xs dir name) []) ≡ is_some (snapshot_named xs dir name)
 named-look xs dir name h = go (snapshot_named xs dir name) refl
@@ -223,7 +216,7 @@ module _ (ids : List ℕ) (xs : List Snapshot) (s : IsSnapshots ids xs) where
     few = λ d. let a = count-filter (λ t. not (is_named dir name t)) xs d in let b = s.few d in omega arith;
   }
 
-  put-kept : (t : Snapshot) → is_among ids t.dir ≡ true → snapshot_named xs t.dir t.name ≡ None → count_of xs t.dir < 65536 → is_some (row_at t.rows []) ≡ true → IsSnapshots ids (put_snapshot t xs)
+  pub put-kept : (t : Snapshot) → is_among ids t.dir ≡ true → snapshot_named xs t.dir t.name ≡ None → count_of xs t.dir < 65536 → is_some (row_at t.rows []) ≡ true → IsSnapshots ids (put_snapshot t xs)
   put-kept t h n b own = record {
     ids = s.ids;
     order = rising-put snapshot_cmp snapshot-total t xs s.order (sym (named-sought xs t.dir t.name) ∙ n);
@@ -238,10 +231,6 @@ module _ (ids : List ℕ) (xs : List Snapshot) (s : IsSnapshots ids xs) where
       go : (d : ℕ) (u : Bool) → (t.dir == d) ≡ u → count_of (put_snapshot t xs) d ≡ cond u (suc (count_of xs d)) (count_of xs d) → count_of (put_snapshot t xs) d ≤ 65536
       go d true e f = let g : count_of xs d < 65536 = subst (λ (k : ℕ). count_of xs k < 65536) (same t.dir d e) b in omega arith
       go d false e f = let g = s.few d in omega arith
-
-  pub kept-take : {A E : Type 0} (r : Result A E) (t : Snapshot) (new : List Snapshot) → is_among ids t.dir ≡ true → snapshot_named xs t.dir t.name ≡ None → count_of xs t.dir < 65536 → is_some (row_at t.rows []) ≡ true
-      → OnOk r (new ≡ put_snapshot t xs) → OnErr r (new ≡ xs) → IsSnapshots ids new
-  kept-take r t new h n b own ok err = either (λ (ys : List Snapshot). IsSnapshots ids ys) r new (put_snapshot t xs) xs ok err (put-kept t h n b own) s
 
 find-put : (q : Snapshot → Bool) (z : Snapshot) (xs : List Snapshot) → q z ≡ false → find q (put_snapshot z xs) ≡ find q xs
 find-put q z [] e = ap (λ (t : Bool). cond t (Some z) None) e
@@ -280,10 +269,13 @@ own-name t = both (t.dir == t.dir) (bytes_eq t.name t.name) (yes t.dir) ((bytes_
 pub others-remove : (xs : List Snapshot) (dir : ℕ) (name : List ℕ) (d : ℕ) (n : List ℕ) → is_named dir name (key_of d n) ≡ false → snapshot_named (without_snapshot xs dir name) d n ≡ snapshot_named xs d n
 others-remove xs dir name d n h = find-filter (λ s. not (is_named dir name s)) (is_named d n) xs (λ x e. ap not (other dir name d n x h e))
 
-pub others-take : {A E : Type 0} (xs : List Snapshot) (r : Result A E) (t : Snapshot) (new : List Snapshot) → OnOk r (new ≡ put_snapshot t xs) → OnErr r (new ≡ xs)
-    → (d : ℕ) (n : List ℕ) → is_named t.dir t.name (key_of d n) ≡ false → snapshot_named new d n ≡ snapshot_named xs d n
-others-take xs r t new ok err d n h = either (λ (ys : List Snapshot). snapshot_named ys d n ≡ snapshot_named xs d n) r new (put_snapshot t xs) xs ok err (find-put (is_named d n) t xs (no (is_named d n t) refl)) refl
+pub others-put : (xs : List Snapshot) (t : Snapshot) (d : ℕ) (n : List ℕ) → is_named t.dir t.name (key_of d n) ≡ false → snapshot_named (put_snapshot t xs) d n ≡ snapshot_named xs d n
+others-put xs t d n h = find-put (is_named d n) t xs (no (is_named d n t) refl)
   where
     no : (b : Bool) → is_named d n t ≡ b → b ≡ false
     no true e = let f : is_named t.dir t.name t ≡ false = other t.dir t.name d n t h e in let g = own-name t in cc
     no false e = refl
+
+pub others-take : {A E : Type 0} (xs : List Snapshot) (r : Result A E) (t : Snapshot) (new : List Snapshot) → OnOk r (new ≡ put_snapshot t xs) → OnErr r (new ≡ xs)
+    → (d : ℕ) (n : List ℕ) → is_named t.dir t.name (key_of d n) ≡ false → snapshot_named new d n ≡ snapshot_named xs d n
+others-take xs r t new ok err d n h = either (λ (ys : List Snapshot). snapshot_named ys d n ≡ snapshot_named xs d n) r new (put_snapshot t xs) xs ok err (others-put xs t d n h) refl

@@ -1,13 +1,8 @@
 pub mod Blocks
-pub mod Compares
 pub mod Counts
 pub mod Kept
-pub mod Kids
-pub mod Lookups
 pub mod OrderLemmas
-pub mod PathNames
 pub mod PathsOf
-pub mod Positions
-pub mod Spaces
+pub mod StoredLemmas
 pub mod Taken
 pub mod Zones

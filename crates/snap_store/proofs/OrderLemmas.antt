@@ -4,18 +4,15 @@ use Rattle.std.specs.declared.cmp.Ordering.TheVariants.{Less, Equal, Greater}
 use Rattle.std.specs.Cmp.{IsTotalOrder}
 use Rattle.std.specs.List.{filter, find, insert, remove}
 use Rattle.std.specs.List.Sorted.{IsPartitionPoint, IsPartitionedBy}
+use Rattle.std.specs.Option.{option_and_then, option_map, option_map_or}
 use Rattle.std.specs.Ordering.{is_eq, is_lt, ordering_reverse}
+use Rattle.std.specs.Prelude.{slice_get}
 use Rattle.snap_store.specs.Ordered.{AllAfterBy, IsRisingBy, put_by}
 
 lt-less : (o : Ordering) → is_lt o ≡ true → o ≡ Less
 lt-less Less h = refl
 lt-less Equal h = cc
 lt-less Greater h = cc
-
-eq-not-lt : (o : Ordering) → is_eq o ≡ true → is_lt o ≡ false
-eq-not-lt Less h = cc
-eq-not-lt Equal h = refl
-eq-not-lt Greater h = cc
 
 lt-not-eq : (o : Ordering) → is_lt o ≡ true → is_eq o ≡ false
 lt-not-eq Less h = refl
@@ -148,6 +145,57 @@ module _ {A : Type 0} (R : A → A → Ordering) (total : IsTotalOrder R) where
       split : (t : Bool) → x ∷ cond t (remove xs i) xs ≡ cond t (x ∷ remove xs i) (x ∷ xs)
       split true = refl
       split false = refl
+
+  -- the index of the first that is the same
+  abbrev pub index : A → List A → Option ℕ
+  index key [] = None
+  index key (x ∷ xs) = cond (same x key) (Some 0) (option_map suc (index key xs))
+
+  index-after : (key : A) (xs : List A) → AllAfterBy R key xs → index key xs ≡ None
+  index-after key [] a = refl
+  index-after key (x ∷ xs) a = ap (λ (t : Bool). cond t (Some 0) (option_map suc (index key xs))) (not-back key x a.0).1 ∙ ap (option_map suc) (index-after key xs a.1)
+
+  pub index-past : (key : A) (xs : List A) (i : ℕ) → length xs ≤ i → Parted key xs i → index key xs ≡ None
+  index-past key [] i b h = refl
+  index-past key (x ∷ xs) zero b h = absurd (omega arith)
+  index-past key (x ∷ xs) (suc i) b h =
+      ap (λ (t : Bool). cond t (Some 0) (option_map suc (index key xs))) (lt-not-eq (R x key) (h.0 0 x (omega arith) (omega arith)))
+      ∙ ap (option_map suc) (index-past key xs i (omega arith) (parted-rest key x xs i h))
+
+  pub index-at : (key : A) (xs : List A) (i : ℕ) (d : A) → IsRisingBy R xs → i < length xs → Parted key xs i → index key xs ≡ cond (same (get_or xs i d) key) (Some i) None
+  index-at key [] i d r b h = absurd (omega arith)
+  index-at key (x ∷ xs) zero d r b h = go (same x key) refl
+    where
+      go : (t : Bool) → same x key ≡ t → cond t (Some 0) (option_map suc (index key xs)) ≡ cond t (Some 0) None
+      go true e = refl
+      go false e = ap (option_map suc) (index-after key xs (after-trans key x xs (other-before x key (h.1 0 x (omega arith) (omega arith)) e) r.0))
+  index-at key (x ∷ xs) (suc i) d r b h =
+      ap (λ (t : Bool). cond t (Some 0) (option_map suc (index key xs))) (lt-not-eq (R x key) (h.0 0 x (omega arith) (omega arith)))
+      ∙ ap (option_map suc) (index-at key xs i d r.1 (omega arith) (parted-rest key x xs i h)) ∙ split (same (get_or xs i d) key)
+    where
+      split : (t : Bool) → option_map suc (cond t (Some i) None) ≡ cond t (Some (suc i)) None
+      split true = refl
+      split false = refl
+
+  pub seek-index : (key : A) (xs : List A) → seek key xs ≡ option_and_then (λ (at : ℕ). slice_get xs at) (index key xs)
+  seek-index key [] = refl
+  seek-index key (x ∷ xs) = go (same x key) (index key xs) (seek-index key xs)
+    where
+      go : (t : Bool) (o : Option ℕ) → seek key xs ≡ option_and_then (λ (at : ℕ). slice_get xs at) o → cond t (Some x) (seek key xs) ≡ option_and_then (λ (at : ℕ). slice_get (x ∷ xs) at) (cond t (Some 0) (option_map suc o))
+      go true o h = refl
+      go false None h = h
+      go false (Some i) h = h
+
+  -- in a rising list no other is the same
+  pub rid-index : (key : A) (xs : List A) → IsRisingBy R xs → rid key xs ≡ option_map_or (λ (at : ℕ). remove xs at) (index key xs) xs
+  rid-index key [] r = refl
+  rid-index key (x ∷ xs) r = go (same x key) refl (index key xs) (rid-index key xs r.1)
+    where
+      go : (t : Bool) → same x key ≡ t → (o : Option ℕ) → rid key xs ≡ option_map_or (λ (at : ℕ). remove xs at) o xs
+          → cond (not t) (x ∷ rid key xs) (rid key xs) ≡ option_map_or (λ (at : ℕ). remove (x ∷ xs) at) (cond t (Some 0) (option_map suc o)) (x ∷ xs)
+      go true e o h = (none-after key xs (after-same x key xs e r.0)).1
+      go false e None h = ap (λ (ys : List A). x ∷ ys) h
+      go false e (Some i) h = ap (λ (ys : List A). x ∷ ys) h
 
   after-filter : (p : A → Bool) (x : A) (xs : List A) → AllAfterBy R x xs → AllAfterBy R x (filter p xs)
   after-filter p x [] a = tt

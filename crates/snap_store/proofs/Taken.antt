@@ -5,6 +5,7 @@ use Rattle.std.specs.declared.cmp.Ordering.TheVariants.{Less, Equal, Greater}
 use Rattle.std.specs.Cmp.{IsTotalOrder}
 use Rattle.std.specs.List.{filter, find, remove}
 use Rattle.std.specs.List.Sorted.{IsNonDecreasingBy, IsPartitionPoint, IsPartitionedBy}
+use Rattle.std.specs.Option.{option_and_then, option_map, option_map_or}
 use Rattle.std.specs.Ordering.{is_eq, is_lt, nat_cmp, ordering_then}
 use Rattle.std.specs.Cmp.Lexicographic.{slice_cmp}
 use Rattle.std.proofs.lemmas.Bool.Decides.{nat_tests}
@@ -12,7 +13,8 @@ use Rattle.std.proofs.lemmas.Cmp.{nat_cmp_total, nat_list_cmp_total, on_total, t
 use Rattle.std.proofs.lemmas.Map.Text.{is_eq-slice_cmp}
 use Rattle.snap_store.specs.Ordered.{IsRisingBy}
 use Rattle.snap_store.specs.Snapshots.{Snapshot, is_among, is_named, key_of, snapshot_cmp, snapshot_named, without_id, without_snapshot}
-use Rattle.snap_store.proofs.OrderLemmas.{Parted, after-at, rid, rising-parted, seek, seek-at, seek-past}
+use Rattle.snap_store.specs.Stored.{index_named}
+use Rattle.snap_store.proofs.OrderLemmas.{Parted, after-at, index, index-at, index-past, rid, rid-index, rising-parted, seek, seek-at, seek-index, seek-past}
 
 pub snapshot-total : IsTotalOrder snapshot_cmp
 snapshot-total = then_total (on_total (λ (s : Snapshot). s.dir) nat_cmp_total) (on_total (λ (s : Snapshot). s.name) nat_list_cmp_total)
@@ -35,27 +37,29 @@ named-is dir name s =
 pub named-sought : (xs : List Snapshot) (dir : ℕ) (name : List ℕ) → snapshot_named xs dir name ≡ seek snapshot_cmp snapshot-total (key_of dir name) xs
 named-sought xs dir name = λ i. find (λ s. named-is dir name s i) xs
 
-pub without-rid : (xs : List Snapshot) (dir : ℕ) (name : List ℕ) → without_snapshot xs dir name ≡ rid snapshot_cmp snapshot-total (key_of dir name) xs
+without-rid : (xs : List Snapshot) (dir : ℕ) (name : List ℕ) → without_snapshot xs dir name ≡ rid snapshot_cmp snapshot-total (key_of dir name) xs
 without-rid xs dir name = λ i. filter (λ s. not (named-is dir name s i)) xs
 
-get-at : {X : Type 0} (xs : List X) (k : ℕ) (d : X) → k < length xs → slice_get xs k ≡ Some (get_or xs k d)
-get-at [] k d h = absurd (omega arith)
-get-at (x ∷ xs) zero d h = refl
-get-at (x ∷ xs) (suc k) d h = get-at xs k d (omega arith)
+index-sought : (xs : List Snapshot) (dir : ℕ) (name : List ℕ) → index_named xs dir name ≡ index snapshot_cmp snapshot-total (key_of dir name) xs
+index-sought [] dir name = refl
+index-sought (x ∷ xs) dir name = λ i. cond (named-is dir name x i) (Some 0) (option_map suc (index-sought xs dir name i))
 
--- the place at which a snapshot is found
+-- the snapshot at the index
+pub named-index : (xs : List Snapshot) (dir : ℕ) (name : List ℕ) → snapshot_named xs dir name ≡ option_and_then (λ (at : ℕ). slice_get xs at) (index_named xs dir name)
+named-index xs dir name = named-sought xs dir name ∙ seek-index snapshot_cmp snapshot-total (key_of dir name) xs ∙ ap (option_and_then (λ (at : ℕ). slice_get xs at)) (sym (index-sought xs dir name))
+
+pub without-index : (xs : List Snapshot) (dir : ℕ) (name : List ℕ) → IsRisingBy snapshot_cmp xs → without_snapshot xs dir name ≡ option_map_or (λ (at : ℕ). remove xs at) (index_named xs dir name) xs
+without-index xs dir name r = without-rid xs dir name ∙ rid-index snapshot_cmp snapshot-total (key_of dir name) xs r ∙ ap (λ (o : Option ℕ). option_map_or (λ (at : ℕ). remove xs at) o xs) (sym (index-sought xs dir name))
+
+-- the index is the place at which the snapshot is sought
 module _ (xs : List Snapshot) (dir : ℕ) (name : List ℕ) (i : ℕ) (r : IsRisingBy snapshot_cmp xs) (h : Parted snapshot_cmp snapshot-total (key_of dir name) xs i) where
-  pub missing : length xs ≤ i → (snapshot_named xs dir name ≡ None) × (without_snapshot xs dir name ≡ xs)
-  missing b = let w = seek-past snapshot_cmp snapshot-total (key_of dir name) xs i b h in (named-sought xs dir name ∙ w.0, without-rid xs dir name ∙ w.1)
+  pub missing : length xs ≤ i → index_named xs dir name ≡ None
+  missing b = index-sought xs dir name ∙ index-past snapshot_cmp snapshot-total (key_of dir name) xs i b h
 
-  pub here : (x : Snapshot) (o : Ordering) → i < length xs → x ≡ get_or xs i x → o ≡ snapshot_cmp x (key_of dir name)
-      → (snapshot_named xs dir name ≡ cond (is_eq o) (slice_get xs i) None) × (without_snapshot xs dir name ≡ cond (is_eq o) (remove xs i) xs)
+  pub here : (x : Snapshot) (o : Ordering) → i < length xs → x ≡ get_or xs i x → o ≡ snapshot_cmp x (key_of dir name) → index_named xs dir name ≡ cond (is_eq o) (Some i) None
   here x o b e f =
-      let w = seek-at snapshot_cmp snapshot-total (key_of dir name) xs i x r b h in
-      let g : is_eq (snapshot_cmp (get_or xs i x) (key_of dir name)) ≡ is_eq o = ap (λ (s : Snapshot). is_eq (snapshot_cmp s (key_of dir name))) (sym e) ∙ ap is_eq (sym f) in (
-        named-sought xs dir name ∙ w.0 ∙ ap (λ (b : Bool). cond b (Some (get_or xs i x)) None) g ∙ ap (λ (y : Option Snapshot). cond (is_eq o) y None) (sym (get-at xs i x b)),
-        without-rid xs dir name ∙ w.1 ∙ ap (λ (b : Bool). cond b (remove xs i) xs) g,
-      )
+      let g : is_eq (snapshot_cmp (get_or xs i x) (key_of dir name)) ≡ is_eq o = ap (λ (s : Snapshot). is_eq (snapshot_cmp s (key_of dir name))) (sym e) ∙ ap is_eq (sym f) in
+      index-sought xs dir name ∙ index-at snapshot_cmp snapshot-total (key_of dir name) xs i x r b h ∙ ap (λ (b : Bool). cond b (Some i) None) g
 
 eq-turned : (a b : ℕ) → (a == b) ≡ is_eq (nat_cmp a b)
 eq-turned a b = grind (arith, nat_tests)

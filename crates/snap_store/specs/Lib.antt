@@ -1,3 +1,3 @@
-pub mod Frozen
 pub mod Ordered
 pub mod Snapshots
+pub mod Stored

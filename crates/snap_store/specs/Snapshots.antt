@@ -1,5 +1,5 @@
 -- Snapshots: the directories that may have them, and the rows as they were.
-use Rattle.std.specs.Prelude.{◌≡◌, ℕ, ◌<◌, ◌≤◌, Bool, true, not, ◌&&◌, ◌==◌, List, [], length, map, Option, Some, None, is_some, if◌then◌else◌, bytes_eq}
+use Rattle.std.specs.Prelude.{◌≡◌, ℕ, ◌<◌, ◌≤◌, Bool, true, not, ◌&&◌, ◌==◌, List, [], length, map, Option, Some, None, IsSome, is_some, if◌then◌else◌, bytes_eq}
 use Rattle.std.specs.declared.cmp.Ordering.{Ordering}
 use Rattle.std.specs.List.{filter, find, list_all, list_any}
 use Rattle.std.specs.Option.{option_map, option_map_or}
@@ -9,7 +9,8 @@ use Rattle.name_calls.specs.declared.listing.Child.{Child}
 use Rattle.inode_tree.specs.Below.{at_or_above, at_or_below, rows_below}
 use Rattle.inode_tree.specs.Listing.{children}
 use Rattle.inode_tree.specs.Rows.{Entry, entry_of, is_dir_at, row_at, zone_of}
-use Rattle.snap_store.specs.Frozen.{bytes_of}
+use Rattle.frozen_nodes.specs.Copies.{CopyRoom, FitsCopies}
+use Rattle.frozen_nodes.specs.Packed.{ForestRoom}
 use Rattle.snap_store.specs.Ordered.{IsRisingBy, put_by}
 
 -- the directory of a snapshot, its name, and the rows at and below the directory as they were, seen from it
@@ -27,11 +28,11 @@ pub record SnapTable : Type 0 where
 abbrev pub no_snaps : SnapTable
 no_snaps = record { allowed = []; taken = [] }
 
--- memory reserved for the rows of a snapshot: of which directory, by its path, and for how many rows and bytes of paths
+-- memory reserved for the rows of a snapshot: of which directory, by its path, for their nodes, and what else copies of them need
 pub record RowRoom : Type 0 where
   pub path : Option (List (List ℕ))
-  pub nodes : ℕ
-  pub bytes : ℕ
+  pub nodes : ForestRoom
+  pub copies : CopyRoom
 
 -- memory reserved apart from the table: for how many more ids, for how many more snapshots, and for the rows and the name of one
 pub record SnapRoom : Type 0 where
@@ -85,17 +86,14 @@ rows_in taken dir name = option_map_or (λ s. s.rows) (snapshot_named taken dir 
 abbrev pub frozen : List Entry → ℕ → List Entry
 frozen rows dir = option_map_or (λ e. rows_below rows e.path) (entry_of rows dir) []
 
--- how many rows and how many bytes of their paths a snapshot of the directory has
+-- how many rows a snapshot of the directory has
 abbrev pub nodes_for : List Entry → ℕ → ℕ
 nodes_for rows dir = length (frozen rows dir)
 
-abbrev pub bytes_for : List Entry → ℕ → ℕ
-bytes_for rows dir = bytes_of (frozen rows dir)
-
+-- a directory that has no row needs no memory
 pub record IsRoomFor (room : RowRoom) (rows : List Entry) (dir : ℕ) : Type 0 where
   pub path : room.path ≡ option_map (λ e. e.path) (entry_of rows dir)
-  pub nodes : nodes_for rows dir ≤ room.nodes
-  pub bytes : bytes_for rows dir ≤ room.bytes
+  pub fits : IsSome (entry_of rows dir) → FitsCopies (nodes_for rows dir) room.nodes room.copies
 
 -- all memory for one more snapshot of the directory, under the name, is reserved
 pub record IsReady (room : SnapRoom) (rows : List Entry) (dir : ℕ) (name : List ℕ) : Type 0 where

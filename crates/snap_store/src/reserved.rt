@@ -1,34 +1,23 @@
 //! Memory that is reserved for a snapshot before it is taken.
-ghost use Rattle.std.specs.Prelude.{◌≡◌, ◌↔◌, None, Some, IsOk, IsSome, IsTrue, IfOk};
+ghost use Rattle.std.specs.Prelude.{◌≡◌, ◌<◌, ◌↔◌, None, Some, length, IsOk, IsSome, IsTrue, IfOk, OnErr, OnOk};
 ghost use Rattle.std.specs.Option.{option_map};
 ghost use Rattle.inode_tree.specs.Rows.{entry_of};
+ghost use Rattle.frozen_nodes.specs.Forest.{KeepsNodes, rows_from};
 ghost use Rattle.snap_store.specs.Snapshots.{IsRoomFor, frozen};
 
-use crate::rows::FrozenRows;
-use crate::space::RowBuffer;
+use frozen_nodes::{CopyBuffer, Forest, FrozenRows};
 use hk_base::NoMemory;
 use inode_tree::Tree;
 use name_calls::NPath;
 use std::alloc::Global;
-use std::marker::Model;
+use std::mem;
 
-/// Reserved memory for the rows of a snapshot, and the path of the directory that it is for. In
-/// contracts its value is that path, and how many rows and bytes of paths there is memory for.
+/// What is reserved for a snapshot apart from its nodes: the path of its directory, and what else
+/// copies of its rows need.
 #[derive(Drop)]
 pub struct Reserved {
-    path: Option<NPath>,
-    buffer: RowBuffer,
-}
-
-impl Model for Reserved {
-    ghost use Rattle.std.specs.Prelude.{◌≡◌, []};
-    ghost use Rattle.snap_store.specs.Snapshots.{RowRoom};
-
-    ghost Value = { RowRoom };
-
-    ghost view = { λ reserved. record { path = reserved.path; nodes = reserved.buffer.nodes; bytes = reserved.buffer.bytes } };
-
-    ghost invariant = { λ reserved. reserved.buffer.rows ≡ [] };
+    pub path: Option<NPath>,
+    pub buffer: CopyBuffer,
 }
 
 impl Reserved {
@@ -38,36 +27,52 @@ impl Reserved {
     {
         Reserved {
             path: None,
-            buffer: RowBuffer::new(alloc),
+            buffer: CopyBuffer::new(alloc),
         }
     }
 
-    /// Reserves the memory for a snapshot of the directory with the id.
-    pub fn of(alloc: Global, tree: &Tree, dir: u64) -> Result<Reserved, NoMemory>
-        ensures { IfOk result (λ reserved. IsRoomFor reserved tree.now.rows dir) }
+    /// Reserves the memory for a snapshot of the directory with the id. The nodes are unchanged.
+    pub fn reserve(&mut self, forest: &mut Forest, tree: &Tree, dir: u64) -> Result<(), NoMemory>
+        ensures same { forest.new.nodes ≡ forest.old.nodes }
+        ensures ok { OnOk result (IsRoomFor (record { path = self.new.path; nodes = forest.new.room; copies = self.new.buffer }) tree.now.rows dir) }
     {
+        let _count = tree.rows();
         match tree.row(dir) {
             Some(_) => {
                 let path = tree.path_of(dir)?;
-                let buffer = RowBuffer::for_rows(alloc, tree, &path)?;
-                Ok(Reserved {
-                    path: Some(path),
-                    buffer,
-                })
+                frozen_nodes::reserve_take(forest, &mut self.buffer, tree, &path)?;
+                self.path = Some(path);
+                Ok(())
             }
-            None => Ok(Reserved::none(alloc)),
+            None => {
+                self.path = None;
+                Ok(())
+            }
         }
     }
 
-    /// Copies the rows at and below the directory with the id. It does not allocate if the memory
-    /// was reserved for them.
-    pub fn into_rows(self, alloc: Global, tree: &Tree, dir: u64) -> Result<FrozenRows, NoMemory>
+    /// Copies the rows at and below the directory with the id into nodes. What they have in common
+    /// with the node `near` is shared. The other nodes keep their rows. Returns `NoMemory` if
+    /// allocation fails; the nodes are then unchanged. It does not allocate if the memory was
+    /// reserved for them.
+    pub fn take(
+        &mut self,
+        forest: &mut Forest,
+        tree: &Tree,
+        dir: u64,
+        near: u32,
+    ) -> Result<FrozenRows, NoMemory>
         requires { IsSome (entry_of tree.now.rows dir) }
-        ensures rows { IfOk result (λ rows. rows ≡ frozen tree.now.rows dir) }
-        ensures room { IsRoomFor self tree.now.rows dir → IsOk result }
+        ensures rows { IfOk result (λ taken. rows_from forest.new.nodes taken.root ≡ frozen tree.now.rows dir) }
+        ensures within { IfOk result (λ taken. taken.root < length forest.new.nodes) }
+        ensures others { KeepsNodes forest.old.nodes forest.new.nodes }
+        ensures err { OnErr result (forest.new.nodes ≡ forest.old.nodes) }
+        ensures room { IsRoomFor (record { path = self.old.path; nodes = forest.old.room; copies = self.old.buffer }) tree.now.rows dir → IsOk result }
     {
-        let path = path_for(self.path, tree, dir)?;
-        FrozenRows::of(alloc, self.buffer, tree, &path)
+        let _count = tree.rows();
+        let kept = mem::replace(&mut self.path, None);
+        let path = path_for(kept, tree, dir)?;
+        frozen_nodes::take(forest, &mut self.buffer, tree, &path, near)
     }
 }
 

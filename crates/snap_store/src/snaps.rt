@@ -1,134 +1,31 @@
 //! The snapshots, ordered by directory and name.
-ghost use Rattle.std.specs.Prelude.{◌≡◌, ℕ, List, ◌<◌, ◌≤◌, ◌&&◌, ◌↔◌, None, Some, [], length, take, not, nat_lt, nat_le, slice_get, true, false, is_some, vec_len, vec_capacity, IsOk, IsSome, IsTrue, IfOk, IfSome, OnOk, OnErr};
+ghost use Rattle.std.specs.Prelude.{◌≡◌, ℕ, List, ◌<◌, ◌≤◌, ◌&&◌, ◌↔◌, None, Some, [], length, not, nat_lt, slice_get, true, false, is_some, vec_len, vec_capacity, IsOk, IsSome, IsTrue, IfOk, IfSome, OnOk, OnErr};
 ghost use Rattle.std.specs.List.{remove};
 ghost use Rattle.std.specs.List.Sorted.{IsPartitionPoint};
-ghost use Rattle.std.specs.Option.{option_and_then, option_map, option_map_or};
-ghost use Rattle.std.specs.Ordering.{is_lt, nat_cmp};
+ghost use Rattle.std.specs.Option.{option_map, option_map_or};
+ghost use Rattle.std.specs.Ordering.{nat_cmp};
 ghost use Rattle.inode_tree.specs.Below.{at_or_above, at_or_below};
 ghost use Rattle.inode_tree.specs.Rows.{entry_of, row_at};
+ghost use Rattle.frozen_nodes.specs.Forest.{AllBelow};
+ghost use Rattle.frozen_nodes.specs.Moves.{AllReached};
 ghost use Rattle.snap_store.specs.Ordered.{IsRisingBy};
-ghost use Rattle.snap_store.specs.Snapshots.{IsReady, IsSnapshots, allowed_above, allowed_at_or_above, allowed_at_or_below, allowed_below, count_in, count_of, holds_snapshot, is_among, is_named, key_of, list_in, names_of, no_snaps, put_snapshot, rows_in, snapshot_cmp, snapshot_named, table_after_allow, table_after_disallow, table_after_disallow_below, table_after_remove, table_after_take, with_id, without_below, without_id, without_snapshot, zone_depth};
+ghost use Rattle.snap_store.specs.Snapshots.{IsReady, IsSnapshots, Snapshot, allowed_above, allowed_at_or_above, allowed_at_or_below, allowed_below, count_in, count_of, holds_snapshot, is_among, is_named, key_of, list_in, names_of, no_snaps, rows_in, snapshot_named, table_after_allow, table_after_disallow, table_after_disallow_below, table_after_remove, table_after_take, with_id, without_below, without_id, zone_depth};
+ghost use Rattle.snap_store.specs.Stored.{snapshots_of};
 
-use crate::paths::compare_names;
+use crate::order::{
+    Taken, end_of, find, first_of, holds, newest_root, put_reserved, remove, reserve_place, root_of,
+};
 use crate::reserved::Reserved;
-use crate::rows::FrozenRows;
+use frozen_nodes::Forest;
 use hk_base::{NoMemory, Text};
 use inode_tree::{Row, Tree};
 use name_calls::{ChildList, NPath};
 use std::alloc::Global;
-use std::cmp::Ordering;
 use std::marker::Model;
 use std::mem;
 
 /// The maximum number of snapshots of a directory.
 pub const MOST_SNAPSHOTS: u32 = 65_536;
-
-/// A snapshot of a directory.
-#[derive(Drop)]
-struct Taken {
-    dir: u64,
-    name: Text,
-    rows: FrozenRows,
-}
-
-impl Model for Taken {
-    ghost use Rattle.snap_store.specs.Snapshots.{Snapshot};
-
-    ghost Value = { Snapshot };
-
-    ghost view = { λ taken. record { dir = taken.dir; name = taken.name; rows = taken.rows } };
-}
-
-impl Taken {
-    fn dir(&self) -> u64
-        ensures { result ≡ self.now.dir }
-    {
-        self.dir
-    }
-
-    fn name(&self) -> &Text
-        ensures { result.now ≡ self.now.name }
-    {
-        &self.name
-    }
-
-    fn rows(&self) -> &FrozenRows
-        ensures { result.now ≡ self.now.rows }
-    {
-        &self.rows
-    }
-
-    fn compare(&self, dir: u64, name: &Text) -> Ordering
-        ensures { result ≡ snapshot_cmp self.now (key_of dir name.now) }
-    {
-        match self.dir.cmp(&dir) {
-            Ordering::Less => Ordering::Less,
-            Ordering::Equal => compare_names(&self.name, name),
-            Ordering::Greater => Ordering::Greater,
-        }
-    }
-
-    fn comes_before(&self, dir: u64, name: &Text) -> bool
-        ensures { result ≡ is_lt (snapshot_cmp self.now (key_of dir name.now)) }
-    {
-        match self.compare(dir, name) {
-            Ordering::Less => true,
-            Ordering::Equal => false,
-            Ordering::Greater => false,
-        }
-    }
-}
-
-/// Returns how many snapshots come before the one of the directory with the name.
-fn place(taken: &Vec<Taken>, dir: u64, name: &Text) -> usize
-    requires { IsRisingBy snapshot_cmp taken.now.items }
-    ensures most { result ≤ length taken.now.items }
-    ensures parted { IsPartitionPoint (λ s. is_lt (snapshot_cmp s (key_of dir name.now)) ≡ true) (λ s. is_lt (snapshot_cmp s (key_of dir name.now)) ≡ false) taken.now.items result }
-{
-    taken
-        .as_slice()
-        .partition_point(|snapshot| snapshot.comes_before(dir, name))
-}
-
-/// Returns the index of the snapshot of the directory with the name, or `None` if there is none.
-fn find(taken: &Vec<Taken>, dir: u64, name: &Text) -> Option<usize>
-    requires { IsRisingBy snapshot_cmp taken.now.items }
-    ensures within { IfSome result (λ at. at < length taken.now.items) }
-    ensures found { option_and_then (λ at. slice_get taken.now.items at) result ≡ snapshot_named taken.now.items dir name.now }
-    ensures rest { option_map_or (λ at. remove taken.now.items at) result taken.now.items ≡ without_snapshot taken.now.items dir name.now }
-{
-    let at = place(taken, dir, name);
-    if at == taken.len() {
-        return None;
-    }
-    match taken[at].compare(dir, name) {
-        Ordering::Less => None,
-        Ordering::Equal => Some(at),
-        Ordering::Greater => None,
-    }
-}
-
-/// Returns how many snapshots are of directories with a smaller id.
-fn first_of(taken: &Vec<Taken>, dir: u64) -> usize
-    requires { IsRisingBy snapshot_cmp taken.now.items }
-    ensures most { result ≤ length taken.now.items }
-    ensures parted { IsPartitionPoint (λ s. nat_lt s.dir dir ≡ true) (λ s. nat_lt s.dir dir ≡ false) taken.now.items result }
-{
-    taken
-        .as_slice()
-        .partition_point(|snapshot| snapshot.dir() < dir)
-}
-
-/// Returns how many snapshots are of directories with this id or a smaller one.
-fn end_of(taken: &Vec<Taken>, dir: u64) -> usize
-    requires { IsRisingBy snapshot_cmp taken.now.items }
-    ensures most { result ≤ length taken.now.items }
-    ensures parted { IsPartitionPoint (λ s. nat_le s.dir dir ≡ true) (λ s. nat_le s.dir dir ≡ false) taken.now.items result }
-{
-    taken
-        .as_slice()
-        .partition_point(|snapshot| snapshot.dir() <= dir)
-}
 
 /// Returns how many ids are smaller than `id`.
 fn place_id(ids: &Vec<u64>, id: u64) -> usize
@@ -192,41 +89,22 @@ fn remove_below(ids: &mut Vec<u64>, tree: &Tree, path: &NPath)
     ids.retain(|id| !tree.at_or_below(*id, path));
 }
 
-/// Adds a snapshot, whose name must be free in its directory. Returns `NoMemory` if allocation
-/// fails; the snapshots are then unchanged.
-fn put(taken: &mut Vec<Taken>, snapshot: Taken) -> Result<(), NoMemory>
-    requires rising { IsRisingBy snapshot_cmp taken.old.items }
-    requires free { snapshot_named taken.old.items snapshot.dir snapshot.name ≡ None }
-    ensures ok { OnOk result (taken.new.items ≡ put_snapshot snapshot taken.old.items) }
-    ensures err { OnErr result (taken.new.items ≡ taken.old.items) }
-    ensures room { vec_len taken.old < vec_capacity taken.old → IsOk result }
+/// Gives back the memory of the nodes that no snapshot has, if these may be more than half of all.
+/// At most `loose` nodes are such. Returns how many may be such afterwards. Nothing changes if
+/// allocation fails.
+fn give_back(forest: &mut Forest, roots: &mut Vec<u32>, loose: usize) -> usize
+    requires { AllBelow (length forest.old.nodes) roots.old.items }
+    ensures snapshots { (keys : List Snapshot) → snapshots_of forest.new.nodes keys roots.new.items ≡ snapshots_of forest.old.nodes keys roots.old.items }
+    ensures count { length roots.new.items ≡ length roots.old.items }
+    ensures below { AllBelow (length forest.new.nodes) roots.new.items }
+    ensures reached { result < loose → AllReached 0 forest.new.nodes roots.new.items }
 {
-    let at = place(taken, snapshot.dir(), snapshot.name());
-    taken.insert(at, snapshot)?;
-    Ok(())
-}
-
-/// Removes a snapshot, if there is one with the name.
-fn remove(taken: &mut Vec<Taken>, dir: u64, name: &Text)
-    requires { IsRisingBy snapshot_cmp taken.old.items }
-    ensures { taken.new.items ≡ without_snapshot taken.old.items dir name.now }
-{
-    match find(taken, dir, name) {
-        Some(at) => {
-            let _snapshot = taken.remove(at);
-        }
-        None => {}
+    if loose <= forest.len() / 2 {
+        return loose;
     }
-}
-
-/// Returns the rows of a snapshot.
-fn rows_of<'a>(taken: &'a Vec<Taken>, dir: u64, name: &Text) -> Option<&'a FrozenRows>
-    requires { IsRisingBy snapshot_cmp taken.now.items }
-    ensures { option_map (λ rows. rows.now) result ≡ option_map (λ s. s.rows) (snapshot_named taken.now.items dir name.now) }
-{
-    match find(taken, dir, name) {
-        Some(at) => Some(taken[at].rows()),
-        None => None,
+    match forest.keep(roots) {
+        Ok(()) => 0,
+        Err(_) => loose,
     }
 }
 
@@ -261,26 +139,36 @@ fn name_for(alloc: Global, kept: Option<Text>, name: &Text) -> Result<Text, NoMe
 
 /// The directories that may have snapshots, and the snapshots. In contracts their value is the ids
 /// of the directories in rising order, and the snapshots ordered by directory and name, by bytes.
-/// Each snapshot has the rows at and below its directory as they were when it was taken.
+/// Each snapshot has the rows at and below its directory as they were when it was taken. Snapshots
+/// share the nodes of the rows that they have in common.
 #[derive(Drop)]
 pub struct Snaps {
     alloc: Global,
     allowed: Vec<u64>,
     taken: Vec<Taken>,
+    /// The root of each snapshot, at the same index.
+    roots: Vec<u32>,
+    forest: Forest,
+    /// How many snapshots were taken.
+    takes: u64,
+    /// At most so many nodes belong to no snapshot: the rows of the snapshots that were removed since
+    /// each node belonged to one.
+    loose: usize,
     reserved: Reserved,
     name: Option<Text>,
 }
 
 impl Model for Snaps {
-    ghost use Rattle.std.specs.Prelude.{◌-◌};
+    ghost use Rattle.std.specs.Prelude.{◌-◌, min};
     ghost use Rattle.std.specs.Vec.{vec_len, vec_capacity};
-    ghost use Rattle.snap_store.specs.Snapshots.{IsSnapshots, SnapState};
+    ghost use Rattle.snap_store.specs.Snapshots.{SnapState};
+    ghost use Rattle.snap_store.specs.Stored.{IsStored, snapshots_of};
 
     ghost Value = { SnapState };
 
-    ghost view = { λ snaps. record { table = record { allowed = snaps.allowed.items; taken = snaps.taken.items }; room = record { ids = vec_capacity snaps.allowed - vec_len snaps.allowed; snapshots = vec_capacity snaps.taken - vec_len snaps.taken; rows = snaps.reserved; name = snaps.name } } };
+    ghost view = { λ snaps. record { table = record { allowed = snaps.allowed.items; taken = snapshots_of snaps.forest.nodes snaps.taken.items snaps.roots.items }; room = record { ids = vec_capacity snaps.allowed - vec_len snaps.allowed; snapshots = min (vec_capacity snaps.taken - vec_len snaps.taken) (vec_capacity snaps.roots - vec_len snaps.roots); rows = record { path = snaps.reserved.path; nodes = snaps.forest.room; copies = snaps.reserved.buffer }; name = snaps.name } } };
 
-    ghost invariant = { λ snaps. IsSnapshots snaps.allowed.items snaps.taken.items };
+    ghost invariant = { λ snaps. IsStored snaps.forest.nodes snaps.allowed.items snaps.taken.items snaps.roots.items };
 }
 
 impl Snaps {
@@ -293,6 +181,10 @@ impl Snaps {
             alloc,
             allowed: Vec::new(alloc),
             taken: Vec::new(alloc),
+            roots: Vec::new(alloc),
+            forest: Forest::new(alloc),
+            takes: 0,
+            loose: 0,
             reserved: Reserved::none(alloc),
             name: None,
         }
@@ -335,12 +227,13 @@ impl Snaps {
         remove_below(&mut self.allowed, tree, path);
     }
 
-    /// Takes a snapshot of a directory: a copy of the rows at and below it. The directory must
-    /// exist and be allowed to have snapshots, the name must be free there, and it must have fewer
-    /// than 65,536 snapshots. The other snapshots are unchanged. Returns `NoMemory` if allocation
-    /// fails; the snapshots, and which directories may have some, are then unchanged. It does not
-    /// allocate if `reserve_take` was `Ok` for the directory and the name, and neither the snapshots
-    /// nor the rows at and below it have changed since.
+    /// Takes a snapshot of a directory: the rows at and below it. It shares what it can with the
+    /// directory's newest snapshot. The directory must exist and be allowed to have snapshots, the
+    /// name must be free there, and it must have fewer than 65,536 snapshots. The other snapshots
+    /// are unchanged. Returns `NoMemory` if allocation fails; the snapshots, and which directories
+    /// may have some, are then unchanged. It does not allocate if `reserve_take` was `Ok` for the
+    /// directory and the name, and neither the snapshots nor the rows at and below it have changed
+    /// since.
     pub fn take(&mut self, tree: &Tree, dir: u64, name: &Text) -> Result<(), NoMemory>
         requires stands { IsSome (entry_of tree.now.rows dir) }
         requires allowed { IsTrue (is_among self.old.table.allowed dir) }
@@ -352,10 +245,14 @@ impl Snaps {
         ensures spare { IsReady self.old.room tree.now.rows dir name.now → IsOk result }
     {
         let kept = mem::replace(&mut self.name, None);
-        let reserved = mem::replace(&mut self.reserved, Reserved::none(self.alloc));
         let name = name_for(self.alloc, kept, name)?;
-        let rows = reserved.into_rows(self.alloc, tree, dir)?;
-        put(&mut self.taken, Taken { dir, name, rows })
+        reserve_place(&mut self.taken, &mut self.roots)?;
+        let near = newest_root(&self.taken, &self.roots, dir);
+        let rows = self.reserved.take(&mut self.forest, tree, dir, near)?;
+        self.takes = self.takes.saturating_add(1);
+        let snapshot = Taken::new(dir, name, rows.count, self.takes);
+        put_reserved(&mut self.taken, &mut self.roots, snapshot, rows.root);
+        Ok(())
     }
 
     /// Reserves the memory for a snapshot of a directory under a name. Nothing else changes. After
@@ -365,19 +262,22 @@ impl Snaps {
         ensures ok { OnOk result (IsReady self.new.room tree.now.rows dir name.now) }
         ensures same { self.new.table ≡ self.old.table }
     {
-        self.taken.reserve(1)?;
-        self.reserved = Reserved::of(self.alloc, tree, dir)?;
+        reserve_place(&mut self.taken, &mut self.roots)?;
+        self.reserved.reserve(&mut self.forest, tree, dir)?;
         self.name = Some(copy_of(self.alloc, name)?);
         Ok(())
     }
 
     /// Removes a snapshot. Does nothing if there is none with the name. The other snapshots are
-    /// unchanged. It does not allocate.
+    /// unchanged. Gives back memory if more than half of the nodes may belong to no snapshot. For this
+    /// it allocates memory for the others; if that fails, all nodes stay until a later removal.
     pub fn remove(&mut self, dir: u64, name: &Text)
         ensures table { self.new.table ≡ table_after_remove dir name.now self.old.table }
         ensures others { (d : ℕ) (n : List ℕ) → is_named dir name.now (key_of d n) ≡ false → snapshot_named self.new.table.taken d n ≡ snapshot_named self.old.table.taken d n }
     {
-        remove(&mut self.taken, dir, name);
+        let rows = remove(&mut self.taken, &mut self.roots, dir, name);
+        let loose = self.loose.saturating_add(rows);
+        self.loose = give_back(&mut self.forest, &mut self.roots, loose);
     }
 
     /// Returns the row that a snapshot has at a path relative to its directory. Returns `None` if
@@ -387,8 +287,8 @@ impl Snaps {
         ensures own { below.now ≡ [] → is_some result ≡ is_some (snapshot_named self.now.table.taken dir name.now) }
         ensures row { result ≡ row_at (rows_in self.now.table.taken dir name.now) below.now }
     {
-        match rows_of(&self.taken, dir, name) {
-            Some(rows) => rows.look(below),
+        match root_of(&self.taken, &self.roots, dir, name) {
+            Some(root) => self.forest.look(root, below),
             None => None,
         }
     }
@@ -398,8 +298,8 @@ impl Snaps {
     pub fn list(&self, dir: u64, name: &Text, below: &NPath) -> Result<Option<ChildList>, NoMemory>
         ensures { IfOk result (λ list. list ≡ list_in (rows_in self.now.table.taken dir name.now) below.now) }
     {
-        match rows_of(&self.taken, dir, name) {
-            Some(rows) => rows.list(below),
+        match root_of(&self.taken, &self.roots, dir, name) {
+            Some(root) => self.forest.list(root, below),
             None => Ok(None),
         }
     }
@@ -409,8 +309,8 @@ impl Snaps {
     pub fn zone_in(&self, dir: u64, name: &Text, below: &NPath) -> Option<u8>
         ensures { result ≡ zone_depth (rows_in self.now.table.taken dir name.now) below.now }
     {
-        match rows_of(&self.taken, dir, name) {
-            Some(rows) => rows.zone(below),
+        match root_of(&self.taken, &self.roots, dir, name) {
+            Some(root) => self.forest.zone_in(root, below),
             None => None,
         }
     }
@@ -471,9 +371,7 @@ impl Snaps {
     pub fn holds(&self, tree: &Tree, path: &NPath) -> bool
         ensures { result ≡ holds_snapshot tree.now.rows self.now.table.taken path.now }
     {
-        self.taken
-            .iter()
-            .any(|snapshot| tree.at_or_below(snapshot.dir(), path))
+        holds(&self.taken, tree, path)
     }
 
     /// Returns whether a directory at the path or below it may have snapshots.
