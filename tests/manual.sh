@@ -1,11 +1,21 @@
 #!/usr/bin/env bash
-# The manual page and the completions say what `hkms --help` says: docs/hkms.1 is made of the texts of help, and the
-# completions have the same commands and options. CHANGELOG.md has the version that the program prints.
+# The manual pages and the completions say what `hkms --help` and `hkfs --help` say: docs/hkms.1 and docs/hkfs.1 are made of the texts of
+# help, and the completions have the same commands and options. CHANGELOG.md has the version that the programs print.
 #
-#   tests/manual.sh            compares
-#   tests/manual.sh --write    makes docs/hkms.1 anew
+#   tests/manual.sh                     compares
+#   tests/manual.sh --write [PROGRAM]   makes both pages anew, or that of one program
 set -u
 . "$(dirname "${BASH_SOURCE[0]}")/room.bash"
+
+# shellcheck disable=SC2034
+hkfs=${HKFS:-$PWD/hkfs}
+
+# help PROGRAM [COMMAND]: the text of help of a program, or of a command of it.
+help() {
+    local program=${!1}
+    shift
+    "$program" "$@" --help
+}
 
 # The entries of a part of a text of help, such as `Commands:`.
 entries() {
@@ -40,38 +50,53 @@ page_list() {
     sed -E 's/-/\\-/g; s/^  (([^ ]| [^ ])+)  +(.*)$/.TP\n\\fB\1\\fR\n\3/'
 }
 
-# The manual page, made of the texts of help.
+# The names of the commands of a program.
+commands() {
+    help "$1" | entries Commands: | awk '{ print $1 }'
+}
+
+# What a command takes and gives, for the synopsis.
+words_of() {
+    case $1 in
+    'hkms replay') cat <<<'< \fIEVENTS\fR > \fIANSWERS\fR' ;;
+    'hkms pipe') cat <<<'< \fIREQUESTS\fR > \fIRESPONSES\fR' ;;
+    'hkms serve') cat <<<'[\-\-port \fIN\fR] [\-\-conns \fIN\fR] [\-\-connections \fIN\fR]' ;;
+    'hkms load') cat <<<'\fIN\fR' ;;
+    'hkfs put') cat <<<'\fIUSER PATH\fR < \fIBODY\fR' ;;
+    'hkfs read') cat <<<'\fIUSER PATH FROM COUNT\fR > \fIBYTES\fR' ;;
+    esac
+}
+
+synopsis() {
+    local command line_break=
+    for command in $(commands "$1"); do
+        printf '%s.B %s %s\n%s\n' "$line_break" "$1" "$command" "$(words_of "$1 $command")"
+        line_break=$'.br\n'
+    done
+}
+
+# The manual page of a program, made of its texts of help.
 page() {
     local command options
     cat <<END
-.\\" Made by tests/manual.sh --write from the texts of hkms --help.
-.TH HKMS 1 "" "$("$hkms" --version)" "User Commands"
+.\" Made by tests/manual.sh --write from the texts of $1 --help.
+.TH ${1^^} 1 "" "$("${!1}" --version)" "User Commands"
 .SH NAME
-hkms \\- $("$hkms" --help | head -n 1)
+$1 \\- $(help "$1" | head -n 1)
 .SH SYNOPSIS
-.B hkms replay
-< \\fIEVENTS\\fR > \\fIANSWERS\\fR
-.br
-.B hkms pipe
-< \\fIREQUESTS\\fR > \\fIRESPONSES\\fR
-.br
-.B hkms serve
-[\\-\\-port \\fIN\\fR] [\\-\\-conns \\fIN\\fR] [\\-\\-connections \\fIN\\fR]
-.br
-.B hkms load
-\\fIN\\fR
+$(synopsis "$1")
 .SH COMMANDS
-$("$hkms" --help | entries Commands: | page_list)
+$(help "$1" | entries Commands: | page_list)
 .SH OPTIONS
-$("$hkms" --help | entries Options: | page_list)
+$(help "$1" | entries Options: | page_list)
 .SH FILES AND EXIT STATUS
-$("$hkms" --help | notes | page_text)
+$(help "$1" | notes | page_text)
 END
-    for command in replay pipe serve load; do
-        printf '.SH HKMS %s\n' "${command^^}"
-        options=$("$hkms" "$command" --help | own_options | page_list)
+    for command in $(commands "$1"); do
+        printf '.SH %s %s\n' "${1^^}" "${command^^}"
+        options=$(help "$1" "$command" | own_options | page_list)
         [ -z "$options" ] || printf '%s\n.PP\n' "$options"
-        "$hkms" "$command" --help | notes | page_text
+        help "$1" "$command" | notes | page_text
     done
 }
 
@@ -83,10 +108,11 @@ names() {
 
 # The completions after these words, one per line.
 completions() (
-    . completions/hkms.bash
+    # shellcheck disable=SC1090
+    . "completions/$1.bash"
     COMP_WORDS=("$@" '')
     COMP_CWORD=$#
-    _hkms
+    "_$1"
     printf '%s\n' "${COMPREPLY[@]}" | sort
 )
 
@@ -99,17 +125,22 @@ same() {
     fi
 }
 
-"$hkms" --help >/dev/null || exit 1
-if [ "${1-}" = --write ]; then
-    page >docs/hkms.1
-    exit
-fi
-same 'docs/hkms.1 is not that of the texts of help' "$(page)" "$(cat docs/hkms.1)"
-same 'completions of hkms' "$(names "$("$hkms" --help)" | sort)" "$(completions hkms)"
-same 'the newest version of CHANGELOG.md' "$("$hkms" --version)" "hkms $(sed -n 's/^## \([0-9.]*\)$/\1/p' CHANGELOG.md | head -n 1)"
-for command in $("$hkms" --help | entries Commands: | awk '{ print $1 }'); do
-    grep -qx "\\\\fB$command\\\\fR" docs/hkms.1 || { echo "tests/manual.sh: the page lacks $command"; failures=$((failures + 1)); }
-    same "completions of hkms $command" "$(names "$("$hkms" "$command" --help)" | sort)" "$(completions hkms "$command")"
+# Compares what is said of a program.
+compare() {
+    local command
+    same "docs/$1.1 is not that of the texts of help" "$(page "$1")" "$(cat "docs/$1.1")"
+    same "completions of $1" "$(names "$(help "$1")" | sort)" "$(completions "$1")"
+    same 'the newest version of CHANGELOG.md' "$("${!1}" --version)" "$1 $(sed -n 's/^## \([0-9.]*\)$/\1/p' CHANGELOG.md | head -n 1)"
+    for command in $(commands "$1"); do
+        grep -qx "\\\\fB$command\\\\fR" "docs/$1.1" || { echo "tests/manual.sh: the page lacks $1 $command"; failures=$((failures + 1)); }
+        same "completions of $1 $command" "$(names "$(help "$1" "$command")" | sort)" "$(completions "$1" "$command")"
+    done
+}
+
+written=${2-}
+for name in ${written:-hkms hkfs}; do
+    "${!name}" --help >/dev/null || exit 1
+    if [ "${1-}" = --write ]; then page "$name" >"docs/$name.1"; else compare "$name"; fi
 done
 
 exit $((failures > 0))

@@ -20,24 +20,19 @@ pub struct TrialDisk<'a> {
 }
 
 impl<'a> TrialDisk<'a> {
-    /// A disk with these files, synced, on which the calls with one of these faults fail.
-    pub fn new(
-        alloc: Global,
-        keys: Vec<u8>,
-        names: Vec<u8>,
-        faults: &'a [FaultAt],
-    ) -> TrialDisk<'a> {
+    /// A disk with these files, synced, of whose calls none fails.
+    pub fn new(alloc: Global, keys: Vec<u8>, names: Vec<u8>) -> TrialDisk<'a> {
         TrialDisk {
             keys: TrialFile::new(alloc, keys),
             names: TrialFile::new(alloc, names),
-            calls: Calls::new(Part::Disk, faults),
+            calls: Calls::new(Part::Disk, &[]),
             faults: 0,
         }
     }
 
-    /// Begins to count the calls anew, and lets none fail.
-    pub fn mend(&mut self) {
-        self.calls = Calls::new(Part::Disk, &[]);
+    /// Begins to count the calls anew. Those with one of these faults fail.
+    pub fn plan(&mut self, faults: &'a [FaultAt]) {
+        self.calls = Calls::new(Part::Disk, faults);
     }
 
     /// How many calls were made.

@@ -1,6 +1,7 @@
 //! The directives in the head of a trial file.
 use crate::mistake::Mistake;
 use crate::trial::{Command, Fault, FaultAt, Part, Sweep, Trial};
+use hk_base::Text;
 use std::alloc::Global;
 
 /// Appends a line of properties.
@@ -12,14 +13,24 @@ pub fn add_property(alloc: Global, trial: &mut Trial, line: &[u8]) -> Result<(),
     Ok(())
 }
 
-/// Reads `replay`, `pipe` or `load N`.
-fn command(rest: &str) -> Result<Command, Mistake> {
-    match first_word(rest) {
+/// Reads `replay`, `pipe`, `load N`, or the words of a command of `hkfs`.
+pub fn command(alloc: Global, text: &str) -> Result<Command, Mistake> {
+    match first_word(text) {
         ("replay", "") => Ok(Command::Replay),
         ("pipe", "") => Ok(Command::Pipe),
         ("load", steps) => load(steps),
+        ("put", _) => files(alloc, text),
+        ("read", _) => files(alloc, text),
         _ => Err(Mistake::NoCommand),
     }
+}
+
+fn files(alloc: Global, text: &str) -> Result<Command, Mistake> {
+    let mut words = Vec::new(alloc);
+    for word in text.split_whitespace() {
+        words.push(Text::of(String::from_str(alloc, word)?))?;
+    }
+    Ok(Command::Files(words))
 }
 
 fn load(steps: &str) -> Result<Command, Mistake> {
@@ -49,6 +60,7 @@ fn part(word: &str) -> Result<Part, Mistake> {
         "output" => Ok(Part::Output),
         "properties" => Ok(Part::Properties),
         "disk" => Ok(Part::Disk),
+        "vault" => Ok(Part::Vault),
         _ => Err(Mistake::NoPart),
     }
 }
@@ -98,8 +110,17 @@ fn set_sweep(trial: &mut Trial, rest: &str) -> Result<(), Mistake> {
     Ok(())
 }
 
+/// Reads `in run N`.
+fn set_faulty(trial: &mut Trial, rest: &str) -> Result<(), Mistake> {
+    let Some(word) = rest.strip_prefix("in run ") else {
+        return Err(Mistake::Unknown);
+    };
+    trial.faulty = size(word)?;
+    Ok(())
+}
+
 /// Appends the bytes that hex digits spell; `-` spells none.
-fn add_bytes(alloc: Global, file: &mut Vec<u8>, digits: &str) -> Result<(), Mistake> {
+pub fn add_bytes(alloc: Global, file: &mut Vec<u8>, digits: &str) -> Result<(), Mistake> {
     if digits == "-" {
         return Ok(());
     }
@@ -110,11 +131,17 @@ fn add_bytes(alloc: Global, file: &mut Vec<u8>, digits: &str) -> Result<(), Mist
     }
 }
 
+fn show_files(trial: &mut Trial) {
+    trial.files = true;
+    trial.bodies = true;
+}
+
 /// A directive that has no words after it.
 fn set_flag(trial: &mut Trial, line: &str) -> Result<(), Mistake> {
     match line {
         "images" => trial.images = true,
-        "files" => trial.files = true,
+        "files" => show_files(trial),
+        "bodies" => trial.bodies = true,
         "calls" => trial.calls = true,
         _ => return Err(Mistake::Unknown),
     }
@@ -126,7 +153,7 @@ pub fn read_directive(alloc: Global, trial: &mut Trial, line: &str) -> Result<()
     let (word, rest) = first_word(line);
     match word {
         "command" => {
-            trial.command = command(rest)?;
+            trial.command = command(alloc, rest)?;
             Ok(())
         }
         "no" => set_no_properties(alloc, trial, rest),
@@ -135,6 +162,7 @@ pub fn read_directive(alloc: Global, trial: &mut Trial, line: &str) -> Result<()
         "fail" => add_faults(trial, Fault::Fail, rest),
         "stop" => add_faults(trial, Fault::Stop, rest),
         "each" => set_sweep(trial, rest),
+        "faults" => set_faulty(trial, rest),
         "keys" => add_bytes(alloc, &mut trial.keys, rest),
         "names" => add_bytes(alloc, &mut trial.names, rest),
         _ => set_flag(trial, line),

@@ -1,5 +1,5 @@
-//! hkms_trial: runs a command by a trial file, over a disk, an input and an output in memory that
-//! may fail.
+//! hkms_trial: runs commands by a trial file, over a disk, a vault, an input and an output in memory
+//! that may fail.
 #![tactic(auto)]
 
 mod calls;
@@ -12,6 +12,7 @@ mod reading;
 mod report;
 mod run;
 mod trial;
+mod vault;
 
 use disk_kinds::Writing;
 use hk_base::{Failed, write_all};
@@ -24,23 +25,29 @@ use trial::Trial;
 
 const HELP: &str = "usage: hkms_trial FILE
 
-Runs hkms by the trial in FILE, in memory, and prints what its runs come to.
+Runs hkms and hkfs by the trial in FILE, in memory, and prints what their runs come to.
 Lines of a trial (those that are empty or begin with # are skipped):
-  command NAME            `replay`, `pipe` or `load N`; without this line `replay`
+  command NAME            `replay`, `pipe` or `load N` of hkms, or of hkfs `put USER PATH` or
+                          `read USER PATH FROM COUNT`; without this line `replay`
   property LINE           a line of the properties; with none everybody may do everything
   no properties           there are no properties
   draw HEX ..             32-bit words of the random source, then zeros
   read N, write N         a read gives, a write takes at most N bytes
-  fail PART N ..          these calls fail: PART is input, output, properties or disk
+  fail PART N ..          these calls fail: PART is input, output, properties, disk or vault
   stop PART N             this call and all after it fail
-  each fail PART          the run is repeated with each call failing in turn
+  each fail PART          the runs are repeated with each call failing in turn
   each stop PART          the same, with all calls after it failing too
+  faults in run N         the calls that fail are those of run N; without this line of the first run
   keys HEX, names HEX     what keys.log and names.log hold at the start, `-` for nothing
-  images                  the run after `then` is made on each image that a crash may leave
-  files                   prints both files after each run
-  calls                   prints how many calls of the disk each run made
+  images                  the last run is made on each image that a crash may leave after the run before
+  files                   prints both files and the bodies after each run
+  bodies                  prints the bodies after each run, each with its id
+  calls                   prints how many calls of the disk each run made, and hkfs of the vault
   input                   the lines after this one are the input, up to a line `then`
-  then                    a further run on the same disk, without faults; its input follows
+  then [COMMAND]          a further run with the same disk and vault; without COMMAND it is that of the
+                          line `command`; its input follows
+The input of a command of hkfs is in hex digits, whose lines are joined. What it writes is printed as a
+line `bytes HEX` if it is no text.
 ";
 
 /// The first argument.

@@ -32,10 +32,10 @@ impl Mistake {
         match self {
             Mistake::NoMemory => "out of memory",
             Mistake::Unknown => "unknown directive",
-            Mistake::NoCommand => "expected replay, pipe or load N",
+            Mistake::NoCommand => "expected replay, pipe, load N, put or read",
             Mistake::NotUtf8 => "not UTF-8",
             Mistake::NoNumber => "expected a number from 1",
-            Mistake::NoPart => "expected input, output, properties or disk",
+            Mistake::NoPart => "expected input, output, properties, disk or vault",
             Mistake::NoDigits => "expected hex digits",
             Mistake::SecondSweep => "second line `each`",
         }
@@ -55,8 +55,10 @@ pub enum TrialFault {
     Line { number: u64, mistake: Mistake },
     /// The file has no line `input`.
     NoInput,
-    /// `images` needs exactly one line `then`.
+    /// `images` needs a line `then`.
     ImagesThen,
+    /// The run with the faults isn't there.
+    NoFaultyRun,
 }
 
 impl fmt::Display for TrialFault {
@@ -64,7 +66,8 @@ impl fmt::Display for TrialFault {
         match self {
             TrialFault::Line { number, mistake } => write!(f, "line {number}: {mistake}"),
             TrialFault::NoInput => write!(f, "the file ends without a line `input`"),
-            TrialFault::ImagesThen => write!(f, "`images` needs exactly one line `then`"),
+            TrialFault::ImagesThen => write!(f, "`images` needs a line `then`"),
+            TrialFault::NoFaultyRun => write!(f, "the run with the faults isn't there"),
         }
     }
 }

@@ -1,7 +1,7 @@
 //! Reads a trial file.
-use crate::head::{add_property, read_directive};
+use crate::head::{add_bytes, add_property, command, read_directive};
 use crate::mistake::{Mistake, TrialFault};
-use crate::trial::Trial;
+use crate::trial::{Command, Run, Trial};
 use std::alloc::Global;
 
 /// A trial as far as its file has been read.
@@ -9,10 +9,15 @@ use std::alloc::Global;
 struct Draft {
     alloc: Global,
     trial: Trial,
-    /// The input that is being read; none in the head.
-    input: Option<Vec<u8>>,
+    /// The run whose input is being read; none in the head.
+    run: Option<Run>,
     /// Whether the input that is being read has a line yet.
     has_line: bool,
+}
+
+/// Text of a trial file.
+fn text_of(line: &[u8]) -> Result<&str, Mistake> {
+    str::from_utf8(line).map_err(|_| Mistake::NotUtf8)
 }
 
 impl Draft {
@@ -24,48 +29,92 @@ impl Draft {
         if let Some(property) = line.strip_prefix(b"property ") {
             return add_property(self.alloc, &mut self.trial, property);
         }
-        let Ok(text) = str::from_utf8(line) else {
-            return Err(Mistake::NotUtf8);
-        };
+        let text = text_of(line)?;
         if text == "input" {
-            self.input = Some(Vec::new(self.alloc));
+            self.begin_run(None);
             return Ok(());
         }
         read_directive(self.alloc, &mut self.trial, text)
     }
 
-    /// Takes a line of an input. The line feed of the line before is added only here, since the last
-    /// line of the file has none.
-    fn take_input_line(&mut self, mut input: Vec<u8>, line: &[u8]) -> Result<(), Mistake> {
+    /// Begins a run without an input.
+    fn begin_run(&mut self, command: Option<Command>) {
+        self.has_line = false;
+        let input = Vec::new(self.alloc);
+        self.run = Some(Run { command, input });
+    }
+
+    /// Adds the line feed of the line before to an input in text. It comes only now, since the last line
+    /// of the file has none.
+    fn end_line(&mut self, run: &mut Run) -> Result<(), Mistake> {
         if self.has_line {
-            input.push(b'\n')?;
+            run.input.push(b'\n')?;
         }
-        self.has_line = line != b"then".as_slice();
-        if self.has_line {
-            input.extend_from_slice(line)?;
-            self.input = Some(input);
-        } else {
-            self.trial.inputs.push(input)?;
-            self.input = Some(Vec::new(self.alloc));
-        }
+        self.has_line = true;
         Ok(())
     }
 
+    /// Takes a line of the input of a run.
+    fn take_input_line(&mut self, mut run: Run, line: &[u8]) -> Result<(), Mistake> {
+        if self.trial.command_of(&run).is_of_files() {
+            add_bytes(self.alloc, &mut run.input, text_of(line)?)?;
+        } else {
+            self.end_line(&mut run)?;
+            run.input.extend_from_slice(line)?;
+        }
+        self.run = Some(run);
+        Ok(())
+    }
+
+    /// Ends the input of a run, and begins the next run with this command.
+    fn end_run(&mut self, mut run: Run, command: Option<Command>) -> Result<(), Mistake> {
+        self.end_line(&mut run)?;
+        self.trial.runs.push(run)?;
+        self.begin_run(command);
+        Ok(())
+    }
+
+    /// Takes a line of the input of a run, or the line that ends it.
+    fn take_run_line(&mut self, run: Run, line: &[u8]) -> Result<(), Mistake> {
+        if line == b"then".as_slice() {
+            return self.end_run(run, None);
+        }
+        if let Some(words) = line.strip_prefix(b"then ") {
+            let command = command(self.alloc, text_of(words)?)?;
+            return self.end_run(run, Some(command));
+        }
+        self.take_input_line(run, line)
+    }
+
     fn take_line(&mut self, line: &[u8]) -> Result<(), Mistake> {
-        match self.input.take() {
+        match self.run.take() {
             None => self.take_head_line(line),
-            Some(input) => self.take_input_line(input, line),
+            Some(run) => self.take_run_line(run, line),
         }
     }
 }
 
+/// What the file as a whole lacks.
+fn fault_of(trial: &Trial) -> Option<TrialFault> {
+    if trial.images && trial.runs.len() < 2 {
+        return Some(TrialFault::ImagesThen);
+    }
+    let (runs, _) = trial.parts();
+    if trial.faulty > runs.len() {
+        return Some(TrialFault::NoFaultyRun);
+    }
+    None
+}
+
 /// Checks what the file as a whole must have.
 fn checked(trial: Trial) -> Result<Trial, TrialFault> {
-    if trial.images && trial.inputs.len() != 2 {
-        drop(trial);
-        return Err(TrialFault::ImagesThen);
+    match fault_of(&trial) {
+        None => Ok(trial),
+        Some(fault) => {
+            drop(trial);
+            Err(fault)
+        }
     }
-    Ok(trial)
 }
 
 /// The fault of a line.
@@ -73,9 +122,9 @@ fn fault_in(number: u64, mistake: Mistake) -> TrialFault {
     TrialFault::Line { number, mistake }
 }
 
-/// Adds the last input to a trial, after this many lines.
-fn finished(mut trial: Trial, input: Vec<u8>, number: u64) -> Result<Trial, TrialFault> {
-    match trial.inputs.push(input) {
+/// Adds the last run to a trial, after this many lines.
+fn finished(mut trial: Trial, run: Run, number: u64) -> Result<Trial, TrialFault> {
+    match trial.runs.push(run) {
         Ok(()) => checked(trial),
         Err(_) => {
             drop(trial);
@@ -86,9 +135,9 @@ fn finished(mut trial: Trial, input: Vec<u8>, number: u64) -> Result<Trial, Tria
 
 /// The trial of a file that was read to its end, after this many lines.
 fn trial_of(draft: Draft, number: u64) -> Result<Trial, TrialFault> {
-    let Draft { trial, input, .. } = draft;
-    match input {
-        Some(input) => finished(trial, input, number),
+    let Draft { trial, run, .. } = draft;
+    match run {
+        Some(run) => finished(trial, run, number),
         None => {
             drop(trial);
             Err(TrialFault::NoInput)
@@ -117,7 +166,7 @@ pub fn read_trial(alloc: Global, file: &[u8]) -> Result<Trial, TrialFault> {
     let draft = Draft {
         alloc,
         trial: Trial::new(alloc),
-        input: None,
+        run: None,
         has_line: false,
     };
     read_lines(draft, file)

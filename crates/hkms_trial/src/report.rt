@@ -1,7 +1,7 @@
 //! The report of a trial: what each of its runs came to.
-use crate::disk::TrialDisk;
-use crate::run::{Outside, first_disk};
-use crate::trial::{FaultAt, Sweep, Trial};
+use crate::run::{Outside, Place};
+use crate::trial::{Command, FaultAt, Run, Sweep, Trial};
+use crate::vault::TrialBody;
 use std::alloc::{AllocError, Global};
 
 /// The report so far.
@@ -41,13 +41,30 @@ impl Report {
         self.line(text.as_str())
     }
 
-    fn files(&mut self, disk: &TrialDisk) -> Result<(), AllocError> {
-        self.bytes("keys", disk.keys().as_slice())?;
-        self.bytes("names", disk.names().as_slice())
+    fn files(&mut self, place: &Place) -> Result<(), AllocError> {
+        self.bytes("keys", place.disk.keys().as_slice())?;
+        self.bytes("names", place.disk.names().as_slice())
     }
 
-    /// A transcript, which always ends a line.
-    fn transcript(&mut self, text: &[u8]) -> Result<(), AllocError> {
+    /// Each body with its id.
+    fn bodies(&mut self, place: &Place) -> Result<(), AllocError> {
+        for body in place.vault.bodies() {
+            self.body(body)?;
+        }
+        Ok(())
+    }
+
+    fn body(&mut self, body: &TrialBody) -> Result<(), AllocError> {
+        let id = body.id;
+        let name = format!(in self.alloc; "body {id}")?;
+        self.bytes(name.as_str(), body.bytes.as_slice())
+    }
+
+    /// What a run wrote, which always ends a line. What `hkfs` writes is in hex digits if it is no text.
+    fn transcript(&mut self, command: &Command, text: &[u8]) -> Result<(), AllocError> {
+        if command.is_of_files() && !is_text(text) {
+            return self.bytes("bytes", text);
+        }
         self.text.extend_from_slice(text)?;
         if !text.is_empty() && !text.ends_with(b"\n") {
             self.text.push(b'\n')?;
@@ -55,95 +72,99 @@ impl Report {
         Ok(())
     }
 
-    /// What a run came to.
-    fn outcome(&mut self, trial: &Trial, disk: &TrialDisk, status: u8) -> Result<(), AllocError> {
-        self.number("status", status as u64)?;
-        if trial.calls {
-            self.number("calls", disk.calls())?;
-        }
-        if trial.files {
-            self.files(disk)?;
+    /// How many calls of the disk a run made, and of the vault if it had one.
+    fn calls(&mut self, command: &Command, place: &Place) -> Result<(), AllocError> {
+        self.number("calls", place.disk.calls())?;
+        if command.is_of_files() {
+            self.number("vault calls", place.vault.calls())?;
         }
         Ok(())
     }
 
-    /// Runs the command once, and reports it. It answers how many words of the trial are drawn then.
-    fn run(
+    /// What a run came to.
+    fn outcome(
         &mut self,
         trial: &Trial,
-        input: &[u8],
-        faults: &[FaultAt],
-        drawn: usize,
-        disk: &mut TrialDisk,
-    ) -> Result<usize, AllocError> {
-        let mut outside = Outside::new(self.alloc, trial, input, faults, drawn)?;
-        let ran = self.run_in(&mut outside, trial, disk);
-        let drawn = drawn.saturating_add(outside.drawn());
-        drop(outside);
-        ran?;
-        Ok(drawn)
-    }
-
-    /// Runs the command in what surrounds it, and reports it.
-    fn run_in(
-        &mut self,
-        outside: &mut Outside,
-        trial: &Trial,
-        disk: &mut TrialDisk,
+        command: &Command,
+        place: &Place,
+        status: u8,
     ) -> Result<(), AllocError> {
-        let status = outside.run(self.alloc, trial.command, disk);
-        self.transcript(outside.transcript())?;
-        self.outcome(trial, disk, status)
+        self.number("status", status as u64)?;
+        if trial.calls {
+            self.calls(command, place)?;
+        }
+        if trial.files {
+            self.files(place)?;
+        }
+        if trial.bodies {
+            self.bodies(place)?;
+        }
+        Ok(())
     }
 
-    /// Reports a first run with these faults, and the runs after it.
-    fn runs(&mut self, trial: &Trial, faults: &[FaultAt]) -> Result<(), AllocError> {
-        let Some((first, later)) = trial.inputs.as_slice().split_first() else {
-            return Ok(());
-        };
-        let mut disk = first_disk(self.alloc, trial, faults)?;
-        let ran = self.runs_on(trial, first.as_slice(), later, faults, &mut disk);
-        drop(disk);
+    /// Makes a run with these faults, and reports it.
+    fn run<'b>(
+        &mut self,
+        trial: &Trial,
+        run: &Run,
+        faults: &'b [FaultAt],
+        place: &mut Place<'b>,
+    ) -> Result<(), AllocError> {
+        let mut outside = Outside::new(
+            self.alloc,
+            trial,
+            run.input.as_slice(),
+            faults,
+            place.drawn,
+        )?;
+        let ran = self.run_in(trial, trial.command_of(run), &mut outside, faults, place);
+        drop(outside);
         ran
     }
 
-    /// Reports a first run on a disk with these faults, and the runs after it.
-    fn runs_on(
+    /// Runs the command in what surrounds it, and reports it.
+    fn run_in<'b>(
         &mut self,
         trial: &Trial,
-        first: &[u8],
-        later: &[Vec<u8>],
-        faults: &[FaultAt],
-        disk: &mut TrialDisk,
+        command: &Command,
+        outside: &mut Outside,
+        faults: &'b [FaultAt],
+        place: &mut Place<'b>,
     ) -> Result<(), AllocError> {
-        let drawn = self.run(trial, first, faults, 0, disk)?;
-        if trial.images {
-            self.images(trial, drawn, disk)
-        } else {
-            self.later_runs(trial, later, drawn, disk)
-        }
+        let status = outside.run_at(self.alloc, command, faults, place);
+        self.transcript(command, outside.transcript())?;
+        self.outcome(trial, command, place, status)
     }
 
-    /// Reports runs that go on with the disk, without faults.
-    fn later_runs(
+    /// Reports the runs of a trial, one of which has these faults.
+    fn runs(&mut self, trial: &Trial, faults: &[FaultAt]) -> Result<(), AllocError> {
+        let mut place = Place::new(self.alloc, trial)?;
+        let ran = self.runs_at(trial, faults, &mut place);
+        drop(place);
+        ran
+    }
+
+    /// Reports the runs of a trial at a place.
+    fn runs_at<'b>(
         &mut self,
         trial: &Trial,
-        inputs: &[Vec<u8>],
-        drawn: usize,
-        disk: &mut TrialDisk,
+        faults: &'b [FaultAt],
+        place: &mut Place<'b>,
     ) -> Result<(), AllocError> {
-        let mut drawn = drawn;
-        for input in inputs {
-            disk.mend();
-            drawn = self.run(trial, input.as_slice(), &[], drawn, disk)?;
+        let (runs, last) = trial.parts();
+        for (before, run) in runs.iter().enumerate() {
+            self.run(trial, run, trial.faults_after(before, faults), place)?;
         }
-        Ok(())
+        match last {
+            Some(run) => self.images(trial, run, place),
+            None => Ok(()),
+        }
     }
 
     /// Reports a run on each image that a crash may leave of the disk.
-    fn images(&mut self, trial: &Trial, drawn: usize, disk: &TrialDisk) -> Result<(), AllocError> {
-        let names = disk.names().images()?;
-        let ran = self.images_with(trial, drawn, disk, names.as_slice());
+    fn images(&mut self, trial: &Trial, run: &Run, place: &Place) -> Result<(), AllocError> {
+        let names = place.disk.names().images()?;
+        let ran = self.images_with(trial, run, place, names.as_slice());
         drop(names);
         ran
     }
@@ -152,15 +173,15 @@ impl Report {
     fn images_with(
         &mut self,
         trial: &Trial,
-        drawn: usize,
-        disk: &TrialDisk,
+        run: &Run,
+        place: &Place,
         names: &[Vec<u8>],
     ) -> Result<(), AllocError> {
-        let keys = disk.keys().images()?;
+        let keys = place.disk.keys().images()?;
         let mut number = 0u64;
         let mut ran = Ok(());
         for image in keys.iter() {
-            ran = self.images_of(trial, drawn, number, image.as_slice(), names);
+            ran = self.images_of(trial, run, place, number, image.as_slice(), names);
             if ran.is_err() {
                 break;
             }
@@ -175,7 +196,8 @@ impl Report {
     fn images_of(
         &mut self,
         trial: &Trial,
-        drawn: usize,
+        run: &Run,
+        place: &Place,
         number: u64,
         keys: &[u8],
         names: &[Vec<u8>],
@@ -183,28 +205,12 @@ impl Report {
         let mut number = number;
         for image in names {
             number = number.saturating_add(1);
-            self.image(trial, drawn, number, keys, image.as_slice())?;
+            self.image_line(number, keys, image.as_slice())?;
+            let mut left = place.with_files(self.alloc, keys, image.as_slice())?;
+            let ran = self.run(trial, run, &[], &mut left);
+            drop(left);
+            ran?;
         }
-        Ok(())
-    }
-
-    /// Reports a run on an image.
-    fn image(
-        &mut self,
-        trial: &Trial,
-        drawn: usize,
-        number: u64,
-        keys: &[u8],
-        names: &[u8],
-    ) -> Result<(), AllocError> {
-        self.image_line(number, keys, names)?;
-        let Some(input) = trial.inputs.get(1) else {
-            return Ok(());
-        };
-        let mut disk = image_disk(self.alloc, keys, names)?;
-        let ran = self.run(trial, input.as_slice(), &[], drawn, &mut disk);
-        drop(disk);
-        ran?;
         Ok(())
     }
 
@@ -235,6 +241,13 @@ impl Report {
     }
 }
 
+/// Whether all bytes are printable ASCII or line feeds.
+fn is_text(bytes: &[u8]) -> bool {
+    bytes
+        .iter()
+        .all(|byte| (*byte >= b' ' && *byte <= b'~') || *byte == b'\n')
+}
+
 /// Hex digits of bytes, `-` if there are none.
 fn digits(alloc: Global, bytes: &[u8]) -> Result<String, AllocError> {
     if bytes.is_empty() {
@@ -243,35 +256,42 @@ fn digits(alloc: Global, bytes: &[u8]) -> Result<String, AllocError> {
     hex::encode(alloc, bytes)
 }
 
-/// A disk that a crash left.
-fn image_disk(alloc: Global, keys: &[u8], names: &[u8]) -> Result<TrialDisk<'static>, AllocError> {
-    let keys = keys.to_vec(alloc)?;
-    let names = names.to_vec(alloc)?;
-    Ok(TrialDisk::new(alloc, keys, names, &[]))
-}
-
-/// How many calls of the part of a sweep the first run makes without the fault of the sweep.
+/// How many calls of the part of a sweep the run with the faults makes without the fault of the sweep.
 fn count_calls(alloc: Global, trial: &Trial, sweep: Sweep) -> Result<u64, AllocError> {
-    let Some(input) = trial.inputs.first() else {
-        return Ok(0);
-    };
-    let mut disk = first_disk(alloc, trial, trial.faults.as_slice())?;
-    let count = count_on(alloc, trial, sweep, input.as_slice(), &mut disk);
-    drop(disk);
+    let mut place = Place::new(alloc, trial)?;
+    let count = count_at(alloc, trial, sweep, &mut place);
+    drop(place);
     count
 }
 
-/// How many calls of the part of a sweep a run on this disk makes without the fault of the sweep.
-fn count_on(
+/// Makes the runs of a trial up to the one with the faults. Returns how many calls that made of the part
+/// of a sweep.
+fn count_at<'b>(
+    alloc: Global,
+    trial: &'b Trial,
+    sweep: Sweep,
+    place: &mut Place<'b>,
+) -> Result<u64, AllocError> {
+    let mut count = 0;
+    for (before, run) in trial.runs.iter().take(trial.faulty).enumerate() {
+        let faults = trial.faults_after(before, trial.faults.as_slice());
+        count = count_in(alloc, trial, sweep, run, faults, place)?;
+    }
+    Ok(count)
+}
+
+/// Makes a run with these faults. Returns how many calls it made of the part of a sweep.
+fn count_in<'b>(
     alloc: Global,
     trial: &Trial,
     sweep: Sweep,
-    input: &[u8],
-    disk: &mut TrialDisk,
+    run: &Run,
+    faults: &'b [FaultAt],
+    place: &mut Place<'b>,
 ) -> Result<u64, AllocError> {
-    let mut outside = Outside::new(alloc, trial, input, trial.faults.as_slice(), 0)?;
-    outside.run(alloc, trial.command, disk);
-    let count = outside.calls(sweep.part, disk);
+    let mut outside = Outside::new(alloc, trial, run.input.as_slice(), faults, place.drawn)?;
+    outside.run_at(alloc, trial.command_of(run), faults, place);
+    let count = outside.calls(sweep.part, place);
     drop(outside);
     Ok(count)
 }

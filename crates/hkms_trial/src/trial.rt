@@ -1,4 +1,5 @@
 //! What a trial file asks for.
+use hk_base::Text;
 use std::alloc::Global;
 
 /// A part of what surrounds a run.
@@ -8,6 +9,7 @@ pub enum Part {
     Output,
     Properties,
     Disk,
+    Vault,
 }
 
 /// How calls of a part fail.
@@ -27,7 +29,7 @@ pub struct FaultAt {
     pub call: u64,
 }
 
-/// The run is repeated with a fault at each call of a part in turn.
+/// The runs are repeated with a fault at each call of a part in turn.
 #[derive(Clone, Copy)]
 pub struct Sweep {
     pub part: Part,
@@ -37,13 +39,33 @@ pub struct Sweep {
 /// How many bytes a read or a write takes at most if the trial gives no other number.
 const PIECE: usize = 4096;
 
-/// A command of hkms that works without a server.
-#[derive(Clone, Copy)]
+/// A command that works without a server.
+#[derive(Drop)]
 pub enum Command {
     Replay,
     Pipe,
     /// A load of this number of steps.
     Load(u32),
+    /// A command of `hkfs`, as its words.
+    Files(Vec<Text>),
+}
+
+impl Command {
+    /// Whether it is a command of `hkfs`.
+    pub fn is_of_files(&self) -> bool {
+        match self {
+            Command::Files(_) => true,
+            _ => false,
+        }
+    }
+}
+
+/// A run.
+#[derive(Drop)]
+pub struct Run {
+    /// Its command, or `None` for that of the trial.
+    pub command: Option<Command>,
+    pub input: Vec<u8>,
 }
 
 /// A trial.
@@ -57,13 +79,15 @@ pub struct Trial {
     pub write: usize,
     pub faults: Vec<FaultAt>,
     pub sweep: Option<Sweep>,
+    /// The run that has the faults, counted from 1.
+    pub faulty: usize,
     pub keys: Vec<u8>,
     pub names: Vec<u8>,
     pub images: bool,
     pub files: bool,
+    pub bodies: bool,
     pub calls: bool,
-    /// The input of the first run, then those of the runs after it.
-    pub inputs: Vec<Vec<u8>>,
+    pub runs: Vec<Run>,
 }
 
 impl Trial {
@@ -77,12 +101,44 @@ impl Trial {
             write: PIECE,
             faults: Vec::new(alloc),
             sweep: None,
+            faulty: 1,
             keys: Vec::new(alloc),
             names: Vec::new(alloc),
             images: false,
             files: false,
+            bodies: false,
             calls: false,
-            inputs: Vec::new(alloc),
+            runs: Vec::new(alloc),
+        }
+    }
+
+    /// The command of a run.
+    pub fn command_of<'a>(&'a self, run: &'a Run) -> &'a Command {
+        match &run.command {
+            Some(command) => command,
+            None => &self.command,
+        }
+    }
+
+    /// Which of these faults the run after this many runs has.
+    pub fn faults_after<'a>(&self, before: usize, faults: &'a [FaultAt]) -> &'a [FaultAt] {
+        if before == self.faulty.saturating_sub(1) {
+            faults
+        } else {
+            &[]
+        }
+    }
+
+    /// The runs on the disk that the trial begins with, and the run that is made on each image that a
+    /// crash may leave of it, if there is one.
+    pub fn parts(&self) -> (&[Run], Option<&Run>) {
+        let runs = self.runs.as_slice();
+        if !self.images {
+            return (runs, None);
+        }
+        match runs.split_last() {
+            Some((last, before)) => (before, Some(last)),
+            None => (runs, None),
         }
     }
 }
