@@ -1,11 +1,14 @@
 -- Words drawn one after another.
-use Rattle.std.proofs.Common.{◌≡◌, ℕ, zero, suc, ◌+◌, ◌*◌, ◌/◌, ◌<◌, ◌≤◌, List, [], ◌∷◌, ◌++◌, length, take, refl, ap, sym, ◌∙◌, add-one, arith, append_assoc, length-append, mul-le-mul_right}
+use Rattle.std.proofs.Common.{◌≡◌, ℕ, zero, suc, ◌+◌, ◌*◌, ◌/◌, ◌<◌, ◌≤◌, List, [], ◌∷◌, ◌++◌, length, take, refl, ap, sym, ◌∙◌, subst, true, ◌⊎◌, inl, inr, add-one, arith, append_assoc, length-append, mul-le-mul_right}
+use Rattle.std.proofs.lemmas.Bool.Decides.{nat_tests}
 use Rattle.std.proofs.lemmas.List.{take_at}
 use Rattle.std.specs.Int.{w32, to_le_bytes}
+use Rattle.hk_base.specs.Names.{is_key_length}
 use Rattle.hk_base.specs.declared.names.Edek.{Edek}
 use Rattle.hk_base.specs.declared.names.VersionName.{VersionName}
 use Rattle.eek_seal.specs.Seal.{seal}
-use Rattle.kms_core.specs.Draws.{drawn, drawn_iv, drawn_edek, drawn_edeks, place_of_draw, words_of_draw}
+use Rattle.eek_seal.specs.declared.tickets.Ticket.{Ticket}
+use Rattle.kms_core.specs.Draws.{drawn, drawn_dek, drawn_iv, sealed_with, drawn_edek, drawn_edeks, place_of_draw, words_of_draw}
 use Rattle.kms_core.specs.Steps.{Drew, DrewKeys, DrewSome}
 use Rattle.kms_core.specs.declared.drawing.CurrentVersion.{CurrentVersion}
 use borrow.Rule.Slice.PartMut.{put_mid, post_of}
@@ -70,3 +73,42 @@ one_more_lost current words words' words'' count all others keys before rest mor
     fits : (len number all : ℕ) → number < all → place_of_draw len number + words_of_draw len ≤ place_of_draw len all
     fits len number all more = let over : number + 1 ≤ all = omega arith in
         omega (arith, next_place len number, mul-le-mul_right (4 + len / 4) over)
+
+-- the lengths of keys, by the number of their words
+length_cases : (n : ℕ) → is_key_length n ≡ true → (n ≡ 16) ⊎ (n ≡ 24) ⊎ (n ≡ 32)
+length_cases n h = grind (arith, nat_tests)
+
+words_of_cases : (n : ℕ) → (n ≡ 16) ⊎ (n ≡ 24) ⊎ (n ≡ 32) → (n / 4 ≡ 4) ⊎ (n / 4 ≡ 6) ⊎ (n / 4 ≡ 8)
+words_of_cases n (inl e) = inl (ap (λ (k : ℕ). k / 4) e)
+words_of_cases n (inr (inl e)) = inr (inl (ap (λ (k : ℕ). k / 4) e))
+words_of_cases n (inr (inr e)) = inr (inr (ap (λ (k : ℕ). k / 4) e))
+
+whole_cases : (n : ℕ) → (n ≡ 16) ⊎ (n ≡ 24) ⊎ (n ≡ 32) → 4 * (n / 4) ≡ n
+whole_cases n (inl e) = ap (λ (k : ℕ). 4 * (k / 4)) e ∙ sym e
+whole_cases n (inr (inl e)) = ap (λ (k : ℕ). 4 * (k / 4)) e ∙ sym e
+whole_cases n (inr (inr e)) = ap (λ (k : ℕ). 4 * (k / 4)) e ∙ sym e
+
+pub words_of_key : (key : List ℕ) (bytes : List ℕ) (n : ℕ) → is_key_length (length key) ≡ true → bytes ≡ key → n ≡ length bytes → (n / 4 ≡ 4) ⊎ (n / 4 ≡ 6) ⊎ (n / 4 ≡ 8)
+words_of_key key bytes n h e f = subst (λ (k : ℕ). (k / 4 ≡ 4) ⊎ (k / 4 ≡ 6) ⊎ (k / 4 ≡ 8)) (sym (f ∙ ap length e)) (words_of_cases (length key) (length_cases (length key) h))
+
+pub length_of_key : (key bytes dek : List ℕ) (n : ℕ) → is_key_length (length key) ≡ true → bytes ≡ key → n ≡ length bytes → length dek ≡ 4 * (n / 4) → length dek ≡ length key
+length_of_key key bytes dek n h e f g = g ∙ ap (λ (k : ℕ). 4 * (k / 4)) (f ∙ ap length e) ∙ whole_cases (length key) (length_cases (length key) h)
+
+-- a key of as many words as another has, drawn after an initialization vector
+pub dek_after_iv : (key bytes dek : List ℕ) (words words' : ℕ → ℕ) (n : ℕ) → bytes ≡ key → n ≡ length bytes → Drew words words' 4 → dek ≡ drawn words' 0 (n / 4) → dek ≡ drawn_dek words 0 (length key)
+dek_after_iv key bytes dek words words' n e f rest is = is ∙ drawn_ahead words words' 4 0 (n / 4) rest ∙ ap (λ (k : ℕ). drawn words 4 (k / 4)) (f ∙ ap length e)
+
+pub words_of_both : (key bytes : List ℕ) (words words' words'' : ℕ → ℕ) (n : ℕ) → bytes ≡ key → n ≡ length bytes → Drew words words' 4 → Drew words' words'' (n / 4) → Drew words words'' (words_of_draw (length key))
+words_of_both key bytes words words' words'' n e f first second =
+    subst (λ (k : ℕ). Drew words words'' (4 + k / 4)) (f ∙ ap length e) (draws_on words words' words'' 4 (n / 4) first second)
+
+pub edek_is : (version : VersionName) (key iv dek sealed : List ℕ) (words : ℕ → ℕ) → iv ≡ drawn_iv words 0 → dek ≡ drawn_dek words 0 (length key) → sealed ≡ seal key iv dek
+    → record { version = version; iv = iv; sealed = sealed } ≡ drawn_edek version key words 0
+edek_is version key iv dek sealed words ei ed es =
+    let e : sealed ≡ seal key (drawn_iv words 0) (drawn_dek words 0 (length key)) = es ∙ ap (λ (v : List ℕ). seal key v dek) ei ∙ ap (seal key (drawn_iv words 0)) ed in
+    λ i. record { version = version; iv = ei i; sealed = e i }
+
+pub sealed_is : (ticket : Ticket) (iv dek : List ℕ) (words : ℕ → ℕ) → iv ≡ drawn_iv words 0 → dek ≡ drawn_dek words 0 (length ticket.material)
+    → record { opening = ticket.opening; birth = ticket.birth; version = ticket.version; iv = iv; dek = dek; sealed = seal ticket.material iv dek } ≡ sealed_with ticket words
+sealed_is ticket iv dek words ei ed =
+    λ i. record { opening = ticket.opening; birth = ticket.birth; version = ticket.version; iv = ei i; dek = ed i; sealed = seal ticket.material (ei i) (ed i) }

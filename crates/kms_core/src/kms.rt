@@ -13,7 +13,7 @@ ghost use Rattle.kms_core.specs.Users.{ActsFor, hides, running, reply_to, withou
 use crate::service::Service;
 use eek_seal::{Deposit, Sealed, Ticket};
 use frame_log::StartFault;
-use hk_base::{Disk, Text, Words};
+use hk_base::{Disk, Text, Words, put};
 use kms_acls::{Acls, Denied, Shown};
 use kms_calls::{KmsCall, KmsRefusal, KmsReply};
 use prop_text::Sizes;
@@ -86,7 +86,10 @@ impl Kms {
         ensures opens { OpensKeys (D.state disk.old) (D.state disk.new) (λ fault. IsErrOf result fault) }
     {
         match Service::start(alloc, disk, sizes.queue, sizes.watermark) {
-            Err(fault) => Err(fault),
+            Err(fault) => {
+                drop(acls);
+                Err(fault)
+            }
             Ok(service) => Ok(Kms { acls, service }),
         }
     }
@@ -104,7 +107,7 @@ impl Kms {
         match Service::start(alloc, disk, size, watermark) {
             Err(fault) => Err(fault),
             Ok(service) => {
-                self.service = service;
+                put(&mut self.service, service);
                 Ok(())
             }
         }
@@ -114,7 +117,8 @@ impl Kms {
     pub fn stop(self) -> Acls
         ensures { result ≡ self.acls }
     {
-        let Kms { acls, .. } = self;
+        let Kms { acls, service } = self;
+        drop(service);
         acls
     }
 
@@ -178,7 +182,10 @@ impl Kms {
             → ActsFor lines user.now (D.state disk.old) (D.state disk.new) self.old (W.to_come words.old) now call result self.new (W.to_come words.new) }
     {
         let shown = match self.acls.verdict(user, &call) {
-            Err(denied) => return refused(denied),
+            Err(denied) => {
+                drop(call);
+                return refused(denied);
+            }
             Ok(shown) => shown,
         };
         let hides = hides(shown, &call);

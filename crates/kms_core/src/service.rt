@@ -201,7 +201,11 @@ impl Service {
         ensures { KmsActsOnDisk (D.state disk.old) (D.state disk.new) self.old (W.to_come words.old) now (KmsCall.Create name bits material description) result self.new (W.to_come words.new) }
     {
         match self.settle(disk) {
-            Err(_) => KmsReply::Refused(KmsRefusal::StoreFault),
+            Err(_) => {
+                drop(material);
+                drop(description);
+                KmsReply::Refused(KmsRefusal::StoreFault)
+            }
             Ok(()) => self.create_settled(disk, words, now, name, bits, material, description),
         }
     }
@@ -222,6 +226,8 @@ impl Service {
         ensures { ActsSettled (D.state disk.old) (D.state disk.new) self.old (W.to_come words.old) now (KmsCall.Create name bits material description) result self.new (W.to_come words.new) }
     {
         if let Some(why) = self.create_refusal(&name, bits, &material) {
+            drop(material);
+            drop(description);
             return KmsReply::Refused(why);
         }
         let material = material_for(words, bits, material);
@@ -328,12 +334,15 @@ impl Service {
         ensures { ActsSettled (D.state disk.old) (D.state disk.new) self.old (W.to_come words.old) now (KmsCall.Roll name material) result self.new (W.to_come words.new) }
     {
         let Some(key) = self.standing(&name) else {
+            drop(material);
             return KmsReply::Refused(KmsRefusal::NoSuchKey);
         };
         if is_misfit(key.bits as u64, &material) {
+            drop(material);
             return KmsReply::Refused(KmsRefusal::BadMaterial);
         }
         if key.versions >= MOST_VERSIONS {
+            drop(material);
             return KmsReply::Refused(KmsRefusal::TooManyVersions);
         }
         let material = material_for(words, key.bits as u64, material);
