@@ -99,8 +99,18 @@ files_do read alice /z128 0 1
 expect 'a directory' 11 'refused Directory'
 files_do read alice /z128/f16 00 1
 expect 'a number with a leading zero' 2 'usage refused'
+for range in '9223372036854775808 1' '0 9223372036854775808'; do
+    # shellcheck disable=SC2086
+    files_do read alice /z128/f16 $range
+    expect "a number of 2^63: $range" 2 'usage refused'
+done
 files_do read '' /z128/f16 0 1
 expect 'a user without a byte' 2 'usage refused'
+user=$(printf '%0255d' 0)
+files_do read "$user" /z128/f16 16 1
+expect 'a user of 255 bytes' 0 ''
+files_do read "0$user" /z128/f16 16 1
+expect 'a user of 256 bytes' 2 'usage refused'
 printf 'default.key.acl.MANAGEMENT=*\ndefault.key.acl.GENERATE_EEK=*\ndefault.key.acl.READ=*\ndefault.key.acl.DECRYPT_EEK=bob\n' >"$room/kms-acls.properties"
 files_do read alice /z128/f16 0 1
 expect 'a user who may not decrypt' 11 'refused K3 Denied DefaultAcl DECRYPT_EEK'
