@@ -1,9 +1,16 @@
 use Rattle.std.proofs.Common.{◌≡◌, ◌∙◌, sym, subst}
+use Rattle.hk_base.specs.Disk.{Tells}
+use Rattle.world_run.specs.Acknowledged.{Acknowledged, HoldsLogs}
 use Rattle.world_run.specs.World.{RunningWorld}
 use Rattle.command_io.specs.declared.ends.ReplayEnd.TheVariants as ended
 use Rattle.hk_runs.specs.Steps.{HasLists, Ran}
 use Rattle.hk_runs.proofs.LastLemmas.{closed_cause, stopped}
 use Rattle.hk_runs.proofs.replay.replay_in.Goals as goal
+
+pub run-stop-requires-clause-stands : goal.run-stop-requires-clause-stands
+run-stop-requires-clause-stands g c =
+    subst (λ (r : RunningWorld). Tells (g.D.Disk.state c.args.disk.now) → (done : Acknowledged) × HoldsLogs (g.D.Disk.state c.args.disk.now) r done)
+    (sym c.new-replaying.ensures.world) c.requires.stands
 
 pub returns-clause-ran : goal.returns-clause-ran
 returns-clause-ran g c = λ lines has.
