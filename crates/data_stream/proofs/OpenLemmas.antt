@@ -94,7 +94,7 @@ is_dek line.Unknown dek e = absurd cc
 -- ---- the events
 
 -- the step of the last event of a run
-last_step : (lines : List PropLine) (tells : Type 0) (first : WorldState) (words : ℕ → ℕ) (before now : ℕ) (earlier later : History) (e : Event) (answer : Line)
+pub last_step : (lines : List PropLine) (tells : Type 0) (first : WorldState) (words : ℕ → ℕ) (before now : ℕ) (earlier later : History) (e : Event) (answer : Line)
     → Runs lines tells first words before later → (a : Adds now earlier e answer later)
     → Step lines (world_after first earlier) (behind (drawn_in earlier) words) a.happened.now e (Rose (faults_after before earlier) a.happened.faults) tells answer a.happened.drawn a.happened.logged (world_after first later)
 last_step lines tells first words before now earlier later e answer runs a =
@@ -105,7 +105,7 @@ last_step lines tells first words before now earlier later e answer runs a =
     (subst (λ (v : Event). Step lines (world_after first earlier) (behind (drawn_in earlier) words) x.now v (Rose (faults_after before earlier) x.faults) tells x.reply x.drawn x.logged x.world) a.event_is step))
 
 -- and the run before it
-run_before : (lines : List PropLine) (tells : Type 0) (first : WorldState) (words : ℕ → ℕ) (before now : ℕ) (earlier later : History) (e : Event) (answer : Line)
+pub run_before : (lines : List PropLine) (tells : Type 0) (first : WorldState) (words : ℕ → ℕ) (before now : ℕ) (earlier later : History) (e : Event) (answer : Line)
     → Runs lines tells first words before later → Adds now earlier e answer later → Runs lines tells first words before earlier
 run_before lines tells first words before now earlier later e answer runs a = (subst (Runs lines tells first words before) a.later_is runs).1
 

@@ -3,3 +3,4 @@ pub mod Commands
 pub mod Ends
 pub mod Laws
 pub mod Runs
+pub mod Statuses

@@ -12,6 +12,7 @@ ghost use Rattle.hk_runs.specs.Headline.{NothingHappened};
 ghost use Rattle.fs_command_line.specs.Orders.{FindsHelp, FindsVersion, IsMistake, Names, line_fault};
 ghost use Rattle.fs_command_line.specs.declared.order.FsOrder.TheVariants as order;
 ghost use Rattle.data_stream.specs.Commands.{Obeys, PutKept, PutsFile, ReadKept, ReadsFile, Refuses, ShowsText, WantsMemory};
+ghost use Rattle.data_stream.specs.Statuses.{HasReason, NamesPut, OrdersPut};
 
 use crate::put::run_put;
 use crate::read::run_read;
@@ -59,6 +60,22 @@ fn obey<A: Source, S: Source, K: Sink, D: Disk, V: Vault, W: Words, C: Clock>(
     ensures write_fault { result ≡ 8 → Rose (K.faults out.old) (K.faults out.new) }
     ensures vault_fault { result ≡ 12 → Rose (V.state vault.old).faults (V.state vault.new).faults ⊎ (TellsBodies (V.state vault.old) → HadBody (V.state vault.old)) }
     ensures long { result ≡ 13 → (all : List ℕ) → S.left input.old ≡ Some all → longest_body < length all }
+    ensures reason { HasReason (record {
+      mistake = order ≡ Err OrderFault.Usage;
+      puts = OrdersPut order;
+      properties_failed = Rose (A.faults acls.old) (A.faults acls.new);
+      input_failed = Rose (S.faults input.old) (S.faults input.new);
+      output_failed = Rose (K.faults out.old) (K.faults out.new);
+      vault_failed = Rose (V.state vault.old).faults (V.state vault.new).faults;
+      disk = D.state disk.old;
+      disk' = D.state disk.new;
+      acls = A.left acls.old;
+      acls' = A.left acls.new;
+      words = W.to_come rand.old;
+      words' = W.to_come rand.new;
+      input = S.left input.old;
+      vault = V.state vault.old;
+    }) result }
 {
     match order {
         Ok(FsOrder::Put { user, path }) => run_put(
@@ -95,7 +112,8 @@ fn obey<A: Source, S: Source, K: Sink, D: Disk, V: Vault, W: Words, C: Clock>(
 ///
 /// Help and version are printed with status 0, whatever other words there are. A mistake in the words
 /// gives status 2 and the line `usage refused`. If allocation fails while the words are read, the status
-/// is 6 and the line is `no memory`. All these use the output alone. The other statuses:
+/// is 6 and the line is `no memory`. All these use the output alone. The other statuses, for each of
+/// which the clause `reason` has the cause:
 ///
 /// - 0: the body was stored, or the range was written.
 /// - 3: the properties were refused.
@@ -145,6 +163,23 @@ pub fn hkfs<A: Source, S: Source, K: Sink, D: Disk, V: Vault, W: Words, C: Clock
     // The vault failed, or it had a body under an id that was new.
     ensures vault_fault { result ≡ 12 → Rose (V.state vault.old).faults (V.state vault.new).faults ⊎ (TellsBodies (V.state vault.old) → HadBody (V.state vault.old)) }
     ensures long { result ≡ 13 → (all : List ℕ) → S.left input.old ≡ Some all → longest_body < length all }
+    // Every status has its cause.
+    ensures reason { HasReason (record {
+      mistake = IsMistake (line_fault words.now);
+      puts = NamesPut words.now;
+      properties_failed = Rose (A.faults acls.old) (A.faults acls.new);
+      input_failed = Rose (S.faults input.old) (S.faults input.new);
+      output_failed = Rose (K.faults out.old) (K.faults out.new);
+      vault_failed = Rose (V.state vault.old).faults (V.state vault.new).faults;
+      disk = D.state disk.old;
+      disk' = D.state disk.new;
+      acls = A.left acls.old;
+      acls' = A.left acls.new;
+      words = W.to_come rand.old;
+      words' = W.to_come rand.new;
+      input = S.left input.old;
+      vault = V.state vault.old;
+    }) result }
 {
     let order = read_order(alloc, words);
     obey(alloc, order, acls, input, out, disk, vault, rand, clock)
