@@ -1,10 +1,13 @@
 mod CauseLemmas
 mod CommandLemmas
 mod EndLemmas
+mod FaultLemmas
 mod KeyLemmas
+mod LastLemmas
 mod LawLemmas
 mod OpenLemmas
 mod OrderLemmas
 mod RunLemmas
+mod StatusLemmas
 mod StepLemmas
 mod StoreLemmas
