@@ -105,7 +105,12 @@ fn run(rt: &HostRuntime, words: &[Text], seed: [u8; 32]) -> u8 {
 fn run_words(rt: &HostRuntime, words: io::Result<Vec<Text>>, seed: [u8; 32]) -> u8 {
     match words {
         Ok(words) => run(rt, words.as_slice(), seed),
-        Err(error) => end_by(&mut Writing::new(rt.stdout()), &error, b"usage refused\n", 2),
+        Err(error) => end_by(
+            &mut Writing::new(rt.stdout()),
+            &error,
+            b"usage refused\n",
+            2,
+        ),
     }
 }
 
