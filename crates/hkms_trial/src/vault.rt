@@ -1,5 +1,5 @@
 //! A vault in memory whose calls fail by a plan.
-ghost use Rattle.std.specs.Prelude.{◌≡◌, ◌≤◌, length};
+ghost use Rattle.std.specs.Prelude.{◌≡◌, ◌≤◌, length, IfSome};
 ghost use Rattle.hk_base.specs.Faults.{Rose};
 ghost use Rattle.body_kinds.specs.Opaque.{opaque_vault};
 
@@ -103,6 +103,22 @@ impl<'a> TrialVault<'a> {
         Ok(())
     }
 
+    /// Copies bytes of a body from its byte `at` on, and returns how many, or `None` if the body ends
+    /// before.
+    fn copy_rest(&self, id: u64, at: u64, buf: &mut [u8]) -> Option<usize>
+        ensures { IfSome result (λ n. n ≤ length buf.new) }
+    {
+        let bytes = self.bytes(id);
+        if at > bytes.len() as u64 {
+            return None;
+        }
+        let rest = &bytes[at as usize..];
+        let count = rest.len().min(buf.len()).min(self.most);
+        let (front, _) = buf.split_at_mut(count);
+        front.copy_from_slice(&rest[..count]);
+        Some(count)
+    }
+
     /// Appends as much as the course of a call lets it. It answers whether that is all.
     fn append_planned(&mut self, id: u64, bytes: &[u8]) -> bool
         ensures { self.new.faults ≡ self.old.faults }
@@ -142,13 +158,12 @@ impl Vault for TrialVault<'_> {
 
     fn read(&mut self, id: u64, at: u64, buf: &mut [u8]) -> Result<usize, Failed> {
         let course = self.course();
-        if course != Course::Works || at > self.bytes(id).len() as u64 {
+        if course != Course::Works {
             return Err(self.fault());
         }
-        let rest = &self.bytes(id)[at as usize..];
-        let count = rest.len().min(buf.len()).min(self.most);
-        let (front, _) = buf.split_at_mut(count);
-        front.copy_from_slice(&rest[..count]);
-        Ok(count)
+        match self.copy_rest(id, at, buf) {
+            Some(count) => Ok(count),
+            None => Err(self.fault()),
+        }
     }
 }
