@@ -1,17 +1,18 @@
 // The library that tests/memory preloads: it refuses one allocation of the program.
 //
 // Allocations are counted from 1, from the moment at which the program first opens a file; what the loader takes before that is left
-// alone. The allocation REFUSED_AT is refused, and none if that is 0. In the end MEMORY_REPORT gets the number of allocations. The
-// random source is the file RANDOM_SEED, so that the program draws the same words in each run.
+// alone. The allocation REFUSED_AT is refused, and none if that is 0. The file MEMORY_REPORT, which has eight bytes, has the number of
+// allocations, since the program may end without a word to libraries. The random source is the file RANDOM_SEED, so that the program
+// draws the same words in each run.
 #define _GNU_SOURCE
 #include <dlfcn.h>
 #include <errno.h>
 #include <fcntl.h>
 #include <stdarg.h>
 #include <stdatomic.h>
-#include <stdio.h>
 #include <stdlib.h>
 #include <string.h>
+#include <sys/mman.h>
 #include <sys/stat.h>
 #include <unistd.h>
 
@@ -20,12 +21,13 @@ extern void *__libc_calloc(size_t, size_t);
 extern void *__libc_realloc(void *, size_t);
 extern void *__libc_memalign(size_t, size_t);
 
-static atomic_long made;
+static atomic_long own_count;
+static atomic_long *made = &own_count;
 static long refused_at;
 static atomic_int is_counting;
 
 static int is_refused(void) {
-    if (!is_counting || ++made != refused_at) return 0;
+    if (!is_counting || ++*made != refused_at) return 0;
     errno = ENOMEM;
     return 1;
 }
@@ -52,10 +54,20 @@ int posix_memalign(void **to, size_t align, size_t size) {
     return *to == NULL ? ENOMEM : 0;
 }
 
+// Has the file of the report count the allocations, if there is one.
+static void share_count(const char *path) {
+    int file = path == NULL || *path == 0 ? -1 : ((int (*)(const char *, int, ...))dlsym(RTLD_NEXT, "open"))(path, O_RDWR);
+    if (file < 0) return;
+    void *shared = mmap(NULL, sizeof *made, PROT_READ | PROT_WRITE, MAP_SHARED, file, 0);
+    if (shared != MAP_FAILED) made = shared;
+    close(file);
+}
+
 static const char *path_for(const char *path) {
     if (!is_counting) {
         const char *wanted = getenv("REFUSED_AT");
         refused_at = wanted == NULL ? 0 : atol(wanted);
+        share_count(getenv("MEMORY_REPORT"));
         is_counting = 1;
     }
     return strcmp(path, "/dev/urandom") == 0 ? getenv("RANDOM_SEED") : path;
@@ -90,12 +102,3 @@ OPEN(open)
 OPEN(open64)
 OPEN_AT(openat)
 OPEN_AT(openat64)
-
-static void __attribute__((destructor)) report(void) {
-    is_counting = 0;
-    const char *path = getenv("MEMORY_REPORT");
-    FILE *out = path == NULL ? NULL : fopen(path, "w");
-    if (out == NULL) return;
-    fprintf(out, "%ld\n", (long)made);
-    fclose(out);
-}
