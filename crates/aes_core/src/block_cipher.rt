@@ -19,7 +19,8 @@ impl<const NK: usize, const W: usize> Model for Aes<NK, W> {
 
     ghost view = { λ aes. key_bytes NK aes.words };
 
-    ghost invariant = { λ aes. IsKeySize NK W × (aes.words ≡ expanded_key NK (key_bytes NK aes.words) (3 * NK + 28)) };
+    ghost invariant = { λ aes. IsKeySize NK W ×
+        (aes.words ≡ expanded_key NK (key_bytes NK aes.words) (3 * NK + 28)) };
 }
 
 impl<const NK: usize, const W: usize> Aes<NK, W> {

@@ -177,7 +177,10 @@ const PRODUCTS: [[u32; 256]; 4] = [
 /// of the round key.
 #[inline(always)]
 pub(crate) fn full_column(a: u32, b: u32, c: u32, d: u32, key: &[u8; 4]) -> u32
-    ensures { word_bytes result ≡ xor_word (mixed_word (s_box (byte_of a 0)) (s_box (byte_of b 1)) (s_box (byte_of c 2)) (s_box (byte_of d 3))) key.now }
+    ensures { word_bytes result ≡
+        xor_word
+        (mixed_word (s_box (byte_of a 0)) (s_box (byte_of b 1)) (s_box (byte_of c 2))
+        (s_box (byte_of d 3))) key.now }
 {
     PRODUCTS[0][byte_0(a) as usize]
         ^ PRODUCTS[1][byte_1(b) as usize]

@@ -28,7 +28,10 @@ macro_rules! round {
 /// Returns a column of the state after the last round, which has no MixColumns.
 #[inline(always)]
 fn last_column(a: u32, b: u32, c: u32, d: u32, key: &[u8; 4]) -> u32
-    ensures { word_bytes result ≡ xor_word (s_box (byte_of a 0) ∷ s_box (byte_of b 1) ∷ s_box (byte_of c 2) ∷ s_box (byte_of d 3) ∷ []) key.now }
+    ensures { word_bytes result ≡
+        xor_word
+        (s_box (byte_of a 0) ∷ s_box (byte_of b 1) ∷ s_box (byte_of c 2) ∷ s_box (byte_of d 3) ∷ [])
+        key.now }
 {
     let bytes = [
         substituted(byte_0(a)),
@@ -56,7 +59,8 @@ fn first_columns(words: &[[u8; 4]], block: &[u8; 16]) -> Columns
 #[inline(always)]
 fn full_round(words: &[[u8; 4]], round: usize, columns: Columns) -> Columns
     requires { 4 * round + 4 ≤ length words.now }
-    ensures { state_bytes result ≡ add_round_key words.now round (mix_columns (shift_rows (sub_bytes (state_bytes columns)))) }
+    ensures { state_bytes result ≡
+        add_round_key words.now round (mix_columns (shift_rows (sub_bytes (state_bytes columns)))) }
 {
     round!(full_column, words, round, columns)
 }
@@ -64,7 +68,8 @@ fn full_round(words: &[[u8; 4]], round: usize, columns: Columns) -> Columns
 #[inline(always)]
 fn last_round(words: &[[u8; 4]], round: usize, columns: Columns) -> Columns
     requires { 4 * round + 4 ≤ length words.now }
-    ensures { state_bytes result ≡ add_round_key words.now round (shift_rows (sub_bytes (state_bytes columns))) }
+    ensures { state_bytes result ≡
+        add_round_key words.now round (shift_rows (sub_bytes (state_bytes columns))) }
 {
     round!(last_column, words, round, columns)
 }

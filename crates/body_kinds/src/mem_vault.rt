@@ -85,7 +85,8 @@ impl Vault for MemVault {
     fn write(&mut self, id: u64, _at: u64, bytes: &[u8]) -> Result<(), Failed>
         ensures written { OnOk result (Grows id bytes.now (body_of self.old) (body_of self.new)) }
         ensures kept { OnErr result (body_of self.new ≡ body_of self.old) }
-        ensures torn { OnErr result (GrowsInPart id bytes.now (body_of self.old) (body_of self.new)) }
+        ensures torn { OnErr result
+            (GrowsInPart id bytes.now (body_of self.old) (body_of self.new)) }
         ensures plan { FollowsPlan (plan_of self.old) (plan_of self.new) result }
         ensures cause { HasCause (plan_of self.old).faults (plan_of self.new).faults result }
     {
@@ -98,7 +99,8 @@ impl Vault for MemVault {
 
     fn read(&mut self, id: u64, at: u64, buf: &mut [u8]) -> Result<usize, Failed>
         requires place { at ≤ length (body_of self.old id) }
-        ensures count { IfOk result (λ n. n ≡ min (length buf.new) (length (body_of self.old id) - at)) }
+        ensures count { IfOk result
+            (λ n. n ≡ min (length buf.new) (length (body_of self.old id) - at)) }
         ensures bytes { IfOk result (λ n. take n buf.new ≡ piece at n (body_of self.old id)) }
         ensures same { KeepsBodies (mem_state self.old) (mem_state self.new) }
         ensures listed { IsErr result ↔ NextFails (plan_of self.old) }

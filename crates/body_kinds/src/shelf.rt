@@ -47,7 +47,8 @@ fn grow(body: &mut Body, bytes: &[u8]) -> Result<(), AllocError>
 /// Adds a body. If allocation fails, nothing changes.
 fn add(alloc: Global, bodies: &mut Vec<Body>, id: u64, bytes: &[u8]) -> Result<(), AllocError>
     requires { position (has_id id) bodies.old.items ≡ None }
-    ensures ok { OnOk result (Grows id bytes.now (body_in bodies.old.items) (body_in bodies.new.items)) }
+    ensures ok { OnOk result
+        (Grows id bytes.now (body_in bodies.old.items) (body_in bodies.new.items)) }
     ensures err { OnErr result (bodies.new.items ≡ bodies.old.items) }
 {
     let bytes = bytes.to_vec(alloc)?;
@@ -62,7 +63,8 @@ pub(crate) fn append(
     id: u64,
     bytes: &[u8],
 ) -> Result<(), AllocError>
-    ensures ok { OnOk result (Grows id bytes.now (body_in bodies.old.items) (body_in bodies.new.items)) }
+    ensures ok { OnOk result
+        (Grows id bytes.now (body_in bodies.old.items) (body_in bodies.new.items)) }
     ensures err { OnErr result (body_in bodies.new.items ≡ body_in bodies.old.items) }
 {
     match place_of(bodies, id) {

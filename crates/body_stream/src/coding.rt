@@ -16,7 +16,8 @@ pub(crate) enum Coding {
 impl Coding {
     /// Expands the key of a body.
     pub(crate) fn of(key: Option<BodyKey>) -> Coding
-        ensures { (offset : ℕ) (bytes : List ℕ) → coded_form result offset bytes ≡ stored_form key offset bytes }
+        ensures { (offset : ℕ) (bytes : List ℕ) →
+            coded_form result offset bytes ≡ stored_form key offset bytes }
     {
         match key {
             None => Coding::Plain,

@@ -30,14 +30,22 @@ fn put_piece<S: Source, V: Vault>(
     requires room { 0 < length buffer.old }
     requires at { at ≤ longest_body }
     requires place { TellsBodies (V.state vault.old) → at ≡ length ((V.state vault.old).bodies id) }
-    ensures put { IfOk result (λ n. PutsPiece coding.now id at n (S.left source.old) (S.left source.new) (V.state vault.old) (V.state vault.new)) }
-    ensures part { OnErr result (PutsPieceInPart coding.now id at (S.left source.old) (S.left source.new) (V.state vault.old) (V.state vault.new)) }
+    ensures put { IfOk result
+        (λ n.
+        PutsPiece coding.now id at n (S.left source.old) (S.left source.new) (V.state vault.old)
+        (V.state vault.new)) }
+    ensures part { OnErr result
+        (PutsPieceInPart coding.now id at (S.left source.old) (S.left source.new)
+        (V.state vault.old) (V.state vault.new)) }
     ensures source_later { S.faults source.old ≤ S.faults source.new }
     ensures vault_later { (V.state vault.old).faults ≤ (V.state vault.new).faults }
     ensures only { IfErr result EndsPut }
-    ensures read { IsErrOf result BodyFault.ReadFault → Rose (S.faults source.old) (S.faults source.new) }
-    ensures vault { IsErrOf result BodyFault.VaultFault → Rose (V.state vault.old).faults (V.state vault.new).faults }
-    ensures long { IsErrOf result BodyFault.TooLong → (all : List ℕ) → S.left source.old ≡ Some all → longest_body < at + length all }
+    ensures read { IsErrOf result BodyFault.ReadFault →
+        Rose (S.faults source.old) (S.faults source.new) }
+    ensures vault { IsErrOf result BodyFault.VaultFault →
+        Rose (V.state vault.old).faults (V.state vault.new).faults }
+    ensures long { IsErrOf result BodyFault.TooLong → (all : List ℕ) →
+        S.left source.old ≡ Some all → longest_body < at + length all }
 {
     let count = match source.read(buffer) {
         Err(_) => return Err(BodyFault::ReadFault),
@@ -68,14 +76,22 @@ pub fn put_body<S: Source, V: Vault>(
     key: Option<BodyKey>,
 ) -> Result<u64, BodyFault>
     requires empty { TellsBodies (V.state vault.old) → (V.state vault.old).bodies id ≡ [] }
-    ensures put { IfOk result (λ n. PutsBody key id n (S.left source.old) (S.left source.new) (V.state vault.old) (V.state vault.new)) }
-    ensures part { OnErr result (PutsInPart key id (S.left source.old) (S.left source.new) (V.state vault.old) (V.state vault.new)) }
+    ensures put { IfOk result
+        (λ n.
+        PutsBody key id n (S.left source.old) (S.left source.new) (V.state vault.old)
+        (V.state vault.new)) }
+    ensures part { OnErr result
+        (PutsInPart key id (S.left source.old) (S.left source.new) (V.state vault.old)
+        (V.state vault.new)) }
     ensures source_later { S.faults source.old ≤ S.faults source.new }
     ensures vault_later { (V.state vault.old).faults ≤ (V.state vault.new).faults }
     ensures only { IfErr result EndsPut }
-    ensures read { IsErrOf result BodyFault.ReadFault → Rose (S.faults source.old) (S.faults source.new) }
-    ensures vault { IsErrOf result BodyFault.VaultFault → Rose (V.state vault.old).faults (V.state vault.new).faults }
-    ensures long { IsErrOf result BodyFault.TooLong → (all : List ℕ) → S.left source.old ≡ Some all → longest_body < length all }
+    ensures read { IsErrOf result BodyFault.ReadFault →
+        Rose (S.faults source.old) (S.faults source.new) }
+    ensures vault { IsErrOf result BodyFault.VaultFault →
+        Rose (V.state vault.old).faults (V.state vault.new).faults }
+    ensures long { IsErrOf result BodyFault.TooLong → (all : List ℕ) →
+        S.left source.old ≡ Some all → longest_body < length all }
 {
     let coding = Coding::of(key);
     let mut buffer = [0u8; PIECE];

@@ -29,14 +29,21 @@ pub fn read_body<V: Vault, K: Sink>(
     from: u64,
     count: u64,
 ) -> Result<u64, BodyFault>
-    ensures read { IfOk result (λ n. ReadsBody key id from count n (V.state vault.old) (K.written sink.old) (K.written sink.new)) }
-    ensures part { OnErr result (ReadsInPart key id from count (V.state vault.old) (K.written sink.old) (K.written sink.new)) }
+    ensures read { IfOk result
+        (λ n.
+        ReadsBody key id from count n (V.state vault.old) (K.written sink.old)
+        (K.written sink.new)) }
+    ensures part { OnErr result
+        (ReadsInPart key id from count (V.state vault.old) (K.written sink.old)
+        (K.written sink.new)) }
     ensures same { KeepsBodies (V.state vault.old) (V.state vault.new) }
     ensures sink_later { K.faults sink.old ≤ K.faults sink.new }
     ensures vault_later { (V.state vault.old).faults ≤ (V.state vault.new).faults }
     ensures only { IfErr result EndsRead }
-    ensures write { IsErrOf result BodyFault.WriteFault → Rose (K.faults sink.old) (K.faults sink.new) }
-    ensures vault { IsErrOf result BodyFault.VaultFault → Rose (V.state vault.old).faults (V.state vault.new).faults }
+    ensures write { IsErrOf result BodyFault.WriteFault →
+        Rose (K.faults sink.old) (K.faults sink.new) }
+    ensures vault { IsErrOf result BodyFault.VaultFault →
+        Rose (V.state vault.old).faults (V.state vault.new).faults }
 {
     let coding = Coding::of(key);
     let size = match vault.size(id) {
@@ -76,15 +83,23 @@ fn read_piece<V: Vault, K: Sink>(
 ) -> Result<usize, BodyFault>
     requires room { 0 < length buffer.old }
     requires order { at < end }
-    requires place { TellsBodies (V.state vault.old) → end ≤ length ((V.state vault.old).bodies id) }
-    ensures read { IfOk result (λ n. ReadsPiece coding.now id at end n (V.state vault.old) (K.written sink.old) (K.written sink.new)) }
-    ensures part { OnErr result (ReadsPieceInPart coding.now id at end (V.state vault.old) (K.written sink.old) (K.written sink.new)) }
+    requires place { TellsBodies (V.state vault.old) →
+        end ≤ length ((V.state vault.old).bodies id) }
+    ensures read { IfOk result
+        (λ n.
+        ReadsPiece coding.now id at end n (V.state vault.old) (K.written sink.old)
+        (K.written sink.new)) }
+    ensures part { OnErr result
+        (ReadsPieceInPart coding.now id at end (V.state vault.old) (K.written sink.old)
+        (K.written sink.new)) }
     ensures same { KeepsBodies (V.state vault.old) (V.state vault.new) }
     ensures sink_later { K.faults sink.old ≤ K.faults sink.new }
     ensures vault_later { (V.state vault.old).faults ≤ (V.state vault.new).faults }
     ensures only { IfErr result EndsRead }
-    ensures write { IsErrOf result BodyFault.WriteFault → Rose (K.faults sink.old) (K.faults sink.new) }
-    ensures vault { IsErrOf result BodyFault.VaultFault → Rose (V.state vault.old).faults (V.state vault.new).faults }
+    ensures write { IsErrOf result BodyFault.WriteFault →
+        Rose (K.faults sink.old) (K.faults sink.new) }
+    ensures vault { IsErrOf result BodyFault.VaultFault →
+        Rose (V.state vault.old).faults (V.state vault.new).faults }
 {
     let want = (buffer.len() as u64).min(end - at) as usize;
     let (wanted, _) = buffer.split_at_mut(want);

@@ -16,7 +16,8 @@ pub trait Vault {
 
     /// Returns the size of a body in bytes.
     fn size(&mut self, id: u64) -> Result<u64, Failed>
-        ensures answer { IfOk result (λ n. TellsBodies (state self.old) → n ≡ length ((state self.old).bodies id)) }
+        ensures answer { IfOk result
+            (λ n. TellsBodies (state self.old) → n ≡ length ((state self.old).bodies id)) }
         ensures same { KeepsBodies (state self.old) (state self.new) }
         ensures cause { HasCause (state self.old).faults (state self.new).faults result };
 
@@ -25,8 +26,12 @@ pub trait Vault {
     fn write(&mut self, id: u64, at: u64, bytes: &[u8]) -> Result<(), Failed>
         requires place { TellsBodies (state self.old) → at ≡ length ((state self.old).bodies id) }
         ensures tells { (state self.new).tells ≡ (state self.old).tells }
-        ensures written { OnOk result (TellsBodies (state self.old) → Grows id bytes.now (state self.old).bodies (state self.new).bodies) }
-        ensures torn { OnErr result (TellsBodies (state self.old) → GrowsInPart id bytes.now (state self.old).bodies (state self.new).bodies) }
+        ensures written { OnOk result
+            (TellsBodies (state self.old) →
+            Grows id bytes.now (state self.old).bodies (state self.new).bodies) }
+        ensures torn { OnErr result
+            (TellsBodies (state self.old) →
+            GrowsInPart id bytes.now (state self.old).bodies (state self.new).bodies) }
         ensures cause { HasCause (state self.old).faults (state self.new).faults result };
 
     /// Reads from an offset of a body into the start of the buffer, up to the end of the buffer or of
@@ -34,8 +39,12 @@ pub trait Vault {
     fn read(&mut self, id: u64, at: u64, buf: &mut [u8]) -> Result<usize, Failed>
         requires place { TellsBodies (state self.old) → at ≤ length ((state self.old).bodies id) }
         ensures count { IfOk result (λ n. n ≤ length buf.new) }
-        ensures answer { IfOk result (λ n. TellsBodies (state self.old) → n ≡ min (length buf.new) (length ((state self.old).bodies id) - at)) }
-        ensures bytes { IfOk result (λ n. TellsBodies (state self.old) → take n buf.new ≡ piece at n ((state self.old).bodies id)) }
+        ensures answer { IfOk result
+            (λ n. TellsBodies (state self.old) →
+            n ≡ min (length buf.new) (length ((state self.old).bodies id) - at)) }
+        ensures bytes { IfOk result
+            (λ n. TellsBodies (state self.old) →
+            take n buf.new ≡ piece at n ((state self.old).bodies id)) }
         ensures same { KeepsBodies (state self.old) (state self.new) }
         ensures cause { HasCause (state self.old).faults (state self.new).faults result };
 }

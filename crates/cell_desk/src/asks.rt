@@ -46,7 +46,9 @@ fn call_wanted<S: Turns, R: Wait>(
 ) -> Option<KmsReply>
     requires caller { caller ≡ superuser }
     requires new { (kept : KmsKnown S.D S.W) × Splits kept (S.keys_seen pass.old) }
-    ensures got { IfWanted (λ q r. CallsOnce q r (S.keys_seen pass.new).number (S.keys_seen pass.new).seen) (act_wanted want) result }
+    ensures got { IfWanted
+        (λ q r. CallsOnce q r (S.keys_seen pass.new).number (S.keys_seen pass.new).seen)
+        (act_wanted want) result }
     ensures none_met { (S.keys_seen pass.new).ended ≡ [] }
     ensures answers { Answers want result }
 {
@@ -76,7 +78,8 @@ fn finish_asked<S: Turns, R: Wait>(
     requires caller { caller ≡ superuser }
     requires new { (kept : KmsKnown S.D S.W) × Splits kept (S.keys_seen keys) }
     requires noted { HasNote note (S.names_seen names.old).seen }
-    ensures { FinishesAsk S.state S.to_come (S.names_seen names.old) note result (S.names_seen names.new) }
+    ensures { FinishesAsk S.state S.to_come (S.names_seen names.old) note result
+        (S.names_seen names.new) }
 {
     let id = note.id;
     match call_wanted(rt, shared, &mut keys, caller, note.want) {
@@ -115,7 +118,10 @@ pub(crate) fn carry_out<S: Turns, R: Wait>(
     ask: Ask,
 ) -> NameReply
     requires { caller ≡ superuser }
-    ensures { MakesOrder S.state S.to_come (record { keys = S.keys_seen keys.old; names = S.names_seen names.old }) user (OfNames (NameOrder.Ask ask) result) (record { keys = S.keys_seen keys.new; names = S.names_seen names.new }) }
+    ensures { MakesOrder S.state S.to_come
+        (record { keys = S.keys_seen keys.old; names = S.names_seen names.old }) user
+        (OfNames (NameOrder.Ask ask) result)
+        (record { keys = S.keys_seen keys.new; names = S.names_seen names.new }) }
 {
     // The history that the pass has seen is legal.
     let _ = shared.count_keys(keys);

@@ -81,7 +81,8 @@ impl<'a, S: Turns, R, G, H> CellDesk<'a, S, R, G, H> {
 impl<'a, S: Turns, R: Wait, G: Gate, H: Notices> CellDesk<'a, S, R, G, H> {
     /// Makes a call of the namesystem.
     fn call(&mut self, user: Text, call: NameCall) -> NameReply
-        ensures { MakesOrder S.state S.to_come self.old user (OfNames (NameOrder.Call call) result) self.new }
+        ensures { MakesOrder S.state S.to_come self.old user (OfNames (NameOrder.Call call) result)
+            self.new }
     {
         // The history that the pass has seen is legal.
         let _ = self.shared.count_keys(&self.keys);
@@ -90,7 +91,8 @@ impl<'a, S: Turns, R: Wait, G: Gate, H: Notices> CellDesk<'a, S, R, G, H> {
 
     /// Carries out an ask.
     fn ask(&mut self, user: Text, ask: Ask) -> NameReply
-        ensures { MakesOrder S.state S.to_come self.old user (OfNames (NameOrder.Ask ask) result) self.new }
+        ensures { MakesOrder S.state S.to_come self.old user (OfNames (NameOrder.Ask ask) result)
+            self.new }
     {
         // The histories that the passes have seen are legal.
         let _ = self.shared.count_keys(&self.keys);

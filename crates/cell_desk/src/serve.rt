@@ -42,9 +42,11 @@ pub fn serve_cells<I: Source, O: Sink, S: Turns, R: Wait, G: Gate, H: Notices>(
         × ServedByCells (I.left source.old) (O.written sink.old) by_keys by_names (I.left source.new) (O.written sink.new) result.0 }
 
     ensures read_later { I.faults source.old ≤ I.faults source.new }
-    ensures read_fault { result.0 ≡ Ended.ReadFault → Rose (I.faults source.old) (I.faults source.new) }
+    ensures read_fault { result.0 ≡ Ended.ReadFault →
+        Rose (I.faults source.old) (I.faults source.new) }
     ensures write_later { O.faults sink.old ≤ O.faults sink.new }
-    ensures write_fault { result.0 ≡ Ended.WriteFault → Rose (O.faults sink.old) (O.faults sink.new) }
+    ensures write_fault { result.0 ≡ Ended.WriteFault →
+        Rose (O.faults sink.old) (O.faults sink.new) }
 {
     // The histories that the passes have seen are legal.
     let _ = shared.count_keys(&keys);

@@ -24,8 +24,10 @@ fn finish<'a, R: Threads + Wait, S: Turns, G: Gate, H: Notices, A: Door>(
     oldest: Running<A::In, A::Out, A::Handle, S>,
 )
     requires { HasOut (A.state door.old) 1 }
-    ensures goes_on { (more : List (Start A.In A.Out S.D S.W)) → GoesOn (ServesEnds A.In.left A.In.faults A.Out.written A.Out.faults)
-        (A.state door.old) (S.keys_seen keys.old) (S.names_seen names.old) (oldest ∷ more) (A.state door.new) (S.keys_seen keys.new) (S.names_seen names.new) more }
+    ensures goes_on { (more : List (Start A.In A.Out S.D S.W)) →
+        GoesOn (ServesEnds A.In.left A.In.faults A.Out.written A.Out.faults)
+        (A.state door.old) (S.keys_seen keys.old) (S.names_seen names.old) (oldest ∷ more)
+        (A.state door.new) (S.keys_seen keys.new) (S.names_seen names.new) more }
     ensures left { (A.state door.new).left ≡ (A.state door.old).left + 1 }
     ensures accepted { (A.state door.new).accepted ≡ (A.state door.old).accepted }
     ensures closed { (A.state door.new).closed ≡ (A.state door.old).closed }
@@ -55,7 +57,8 @@ fn finish_first<'a, R: Threads + Wait, S: Turns, G: Gate, H: Notices, A: Door>(
     requires count { count ≤ deque_len queue.old }
     requires running { HasOut (A.state door.old) (deque_len queue.old) }
     ensures goes_on { GoesOn (ServesEnds A.In.left A.In.faults A.Out.written A.Out.faults)
-        (A.state door.old) (S.keys_seen keys.old) (S.names_seen names.old) queue.old.items (A.state door.new) (S.keys_seen keys.new) (S.names_seen names.new) queue.new.items }
+        (A.state door.old) (S.keys_seen keys.old) (S.names_seen names.old) queue.old.items
+        (A.state door.new) (S.keys_seen keys.new) (S.names_seen names.new) queue.new.items }
     ensures fewer { deque_len queue.new + count ≡ deque_len queue.old }
     ensures capacity { deque_capacity queue.new ≡ deque_capacity queue.old }
     ensures running { HasOut (A.state door.new) (deque_len queue.new) }
@@ -134,14 +137,17 @@ where
     requires room { deque_len queue.old < deque_capacity queue.old }
     requires running { HasOut (A.state door.old) (deque_len queue.old) }
     ensures goes_on { GoesOn (ServesEnds A.In.left A.In.faults A.Out.written A.Out.faults)
-        (A.state door.old) (S.keys_seen keys.old) (S.names_seen names.old) queue.old.items (A.state door.new) (S.keys_seen keys.new) (S.names_seen names.new) queue.new.items }
+        (A.state door.old) (S.keys_seen keys.old) (S.names_seen names.old) queue.old.items
+        (A.state door.new) (S.keys_seen keys.new) (S.names_seen names.new) queue.new.items }
     ensures capacity { deque_capacity queue.new ≡ deque_capacity queue.old }
     ensures running { HasOut (A.state door.new) (deque_len queue.new) }
-    ensures accepted { IfNone result ((A.state door.new).accepted ≡ (A.state door.old).accepted + 1) }
+    ensures accepted { IfNone result
+        ((A.state door.new).accepted ≡ (A.state door.old).accepted + 1) }
     ensures unserved { result ≢ Some ServeEnd.Served }
     ensures closed { result ≡ Some ServeEnd.Closed → IsTrue (A.state door.new).closed }
     ensures later { A.faults door.old ≤ A.faults door.new }
-    ensures cause { result ≡ Some ServeEnd.DoorFault → Rose (A.faults door.old) (A.faults door.new) }
+    ensures cause { result ≡ Some ServeEnd.DoorFault →
+        Rose (A.faults door.old) (A.faults door.new) }
 {
     match door.accept() {
         Ok(Some(accepted)) => {
@@ -164,7 +170,8 @@ pub fn drain<'a, R: Threads + Wait, S: Turns, G: Gate, H: Notices, A: Door>(
 )
     requires { HasOut (A.state door.old) (deque_len queue.old) }
     ensures goes_on { GoesOn (ServesEnds A.In.left A.In.faults A.Out.written A.Out.faults)
-        (A.state door.old) (S.keys_seen keys.old) (S.names_seen names.old) queue.old.items (A.state door.new) (S.keys_seen keys.new) (S.names_seen names.new) [] }
+        (A.state door.old) (S.keys_seen keys.old) (S.names_seen names.old) queue.old.items
+        (A.state door.new) (S.keys_seen keys.new) (S.names_seen names.new) [] }
     ensures none { queue.new.items ≡ [] }
     ensures accepted { (A.state door.new).accepted ≡ (A.state door.old).accepted }
     ensures closed { (A.state door.new).closed ≡ (A.state door.old).closed }
@@ -203,9 +210,11 @@ where
     requires capacity { 0 < deque_capacity queue.old }
     requires running { HasOut (A.state door.old) (deque_len queue.old) }
     ensures goes_on { GoesOn (ServesEnds A.In.left A.In.faults A.Out.written A.Out.faults)
-        (A.state door.old) (S.keys_seen keys.old) (S.names_seen names.old) queue.old.items (A.state door.new) (S.keys_seen keys.new) (S.names_seen names.new) queue.new.items }
+        (A.state door.old) (S.keys_seen keys.old) (S.names_seen names.old) queue.old.items
+        (A.state door.new) (S.keys_seen keys.new) (S.names_seen names.new) queue.new.items }
     ensures running { HasOut (A.state door.new) (deque_len queue.new) }
-    ensures accepted { result ≡ ServeEnd.Served → (A.state door.new).accepted ≡ (A.state door.old).accepted + conns }
+    ensures accepted { result ≡ ServeEnd.Served →
+        (A.state door.new).accepted ≡ (A.state door.old).accepted + conns }
     ensures closed { result ≡ ServeEnd.Closed → IsTrue (A.state door.new).closed }
     ensures later { A.faults door.old ≤ A.faults door.new }
     ensures cause { result ≡ ServeEnd.DoorFault → Rose (A.faults door.old) (A.faults door.new) }

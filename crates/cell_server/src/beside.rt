@@ -45,9 +45,12 @@ where
     A::In: 's,
     A::Out: 's,
     A::Handle: 's,
-    ensures connections { Connections (ServesEnds A.In.left A.In.faults A.Out.written A.Out.faults) (V.to_come first) (V.to_come second)
-        (A.state door.old) (S.keys_seen keys.old) (S.names_seen names.old) (A.state door.new) (S.keys_seen keys.new) (S.names_seen names.new) }
-    ensures ends { EndsServing (A.state door.old) (A.faults door.old) conns result (A.state door.new) (A.faults door.new) }
+    ensures connections { Connections (ServesEnds A.In.left A.In.faults A.Out.written A.Out.faults)
+        (V.to_come first) (V.to_come second)
+        (A.state door.old) (S.keys_seen keys.old) (S.names_seen names.old) (A.state door.new)
+        (S.keys_seen keys.new) (S.names_seen names.new) }
+    ensures ends { EndsServing (A.state door.old) (A.faults door.old) conns result
+        (A.state door.new) (A.faults door.new) }
 {
     let their_keys = context.shared.split_keys(context.rt, keys);
     let their_names = context.shared.split_names(context.rt, names);
@@ -87,9 +90,12 @@ fn serve_in_scope<
     first: V,
     second: V,
 ) -> ServeEnd
-    ensures connections { Connections (ServesEnds A.In.left A.In.faults A.Out.written A.Out.faults) (V.to_come first) (V.to_come second)
-        (A.state door.old) (S.keys_seen keys.old) (S.names_seen names.old) (A.state door.new) (S.keys_seen keys.new) (S.names_seen names.new) }
-    ensures ends { EndsServing (A.state door.old) (A.faults door.old) conns result (A.state door.new) (A.faults door.new) }
+    ensures connections { Connections (ServesEnds A.In.left A.In.faults A.Out.written A.Out.faults)
+        (V.to_come first) (V.to_come second)
+        (A.state door.old) (S.keys_seen keys.old) (S.names_seen names.old) (A.state door.new)
+        (S.keys_seen keys.new) (S.names_seen names.new) }
+    ensures ends { EndsServing (A.state door.old) (A.faults door.old) conns result
+        (A.state door.new) (A.faults door.new) }
 {
     let served = thread::scope(
         thread::scope_env(),
@@ -138,9 +144,12 @@ pub fn serve_with_workers<
     second: V,
     gate: &G,
 ) -> ServeEnd
-    ensures connections { Connections (ServesEnds A.In.left A.In.faults A.Out.written A.Out.faults) (V.to_come first) (V.to_come second)
-        (A.state door.old) (S.keys_seen keys.old) (S.names_seen names.old) (A.state door.new) (S.keys_seen keys.new) (S.names_seen names.new) }
-    ensures ends { EndsServing (A.state door.old) (A.faults door.old) conns result (A.state door.new) (A.faults door.new) }
+    ensures connections { Connections (ServesEnds A.In.left A.In.faults A.Out.written A.Out.faults)
+        (V.to_come first) (V.to_come second)
+        (A.state door.old) (S.keys_seen keys.old) (S.names_seen names.old) (A.state door.new)
+        (S.keys_seen keys.new) (S.names_seen names.new) }
+    ensures ends { EndsServing (A.state door.old) (A.faults door.old) conns result
+        (A.state door.new) (A.faults door.new) }
 {
     let Ok((senders, receivers)) = open_channels(alloc) else {
         return ServeEnd::NoMemory;

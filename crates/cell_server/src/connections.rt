@@ -52,8 +52,10 @@ where
     A::Out: 's,
     A::Handle: 's,
     ensures going { Going (ServesEnds A.In.left A.In.faults A.Out.written A.Out.faults)
-        (A.state door.old) (S.keys_seen keys.old) (S.names_seen names.old) (A.state door.new) (S.keys_seen keys.new) (S.names_seen names.new) [] }
-    ensures ends { EndsServing (A.state door.old) (A.faults door.old) conns result (A.state door.new) (A.faults door.new) }
+        (A.state door.old) (S.keys_seen keys.old) (S.names_seen names.old) (A.state door.new)
+        (S.keys_seen keys.new) (S.names_seen names.new) [] }
+    ensures ends { EndsServing (A.state door.old) (A.faults door.old) conns result
+        (A.state door.new) (A.faults door.new) }
 {
     no_more_left(door);
     let opened: Result<Queue<A, S>, AllocError> = VecDeque::with_capacity(

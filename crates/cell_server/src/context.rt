@@ -37,8 +37,15 @@ impl<'a, R: Wait, S: Turns, G: Gate, H: Notices> ServeContext<'a, R, S, G, H> {
     ) -> Done<I, O, S::Keys, S::Names>
         requires keys { own (S.keys_seen keys).number (S.keys_seen keys).seen ≡ [] }
         requires names { own (S.names_seen names).number (S.names_seen names).seen ≡ [] }
-        ensures { EndsSo (ServesEnds I.left I.faults O.written O.faults) (record { input = input; out = out; keys = S.keys_seen keys; names = S.names_seen names })
-            result.input result.out (S.keys_seen result.keys) (S.names_seen result.names) result.ended }
+        ensures { EndsSo (ServesEnds I.left I.faults O.written O.faults)
+            (record {
+              input = input;
+              out = out;
+              keys = S.keys_seen keys;
+              names = S.names_seen names;
+            })
+            result.input result.out (S.keys_seen result.keys) (S.names_seen result.names)
+            result.ended }
     {
         let mut input = input;
         let mut out = out;
@@ -74,8 +81,10 @@ impl<'a, R: Wait, S: Turns, G: Gate, H: Notices> ServeContext<'a, R, S, G, H> {
         their_keys: S::Keys,
         their_names: S::Names,
     )
-        ensures keys { Meets (S.keys_seen keys.old) (S.keys_seen their_keys) (S.keys_seen keys.new) }
-        ensures names { Meets (S.names_seen names.old) (S.names_seen their_names) (S.names_seen names.new) }
+        ensures keys { Meets (S.keys_seen keys.old) (S.keys_seen their_keys)
+            (S.keys_seen keys.new) }
+        ensures names { Meets (S.names_seen names.old) (S.names_seen their_names)
+            (S.names_seen names.new) }
     {
         self.shared.meet_keys(self.rt, keys, their_keys);
         self.shared.meet_names(self.rt, names, their_names);

@@ -39,13 +39,25 @@ impl<I, O, S: Turns> Model for ConnStart<I, O, S> {
 
     ghost Value = { Start I O S.D S.W };
 
-    ghost view = { λ s. record { input = s.input.value; out = s.out.value; keys = S.keys_seen s.keys.value; names = S.names_seen s.names.value } };
+    ghost view = { λ s.
+        record {
+          input = s.input.value;
+          out = s.out.value;
+          keys = S.keys_seen s.keys.value;
+          names = S.names_seen s.names.value;
+        } };
 }
 
 impl<I, O, S: Turns> ConnStart<I, O, S> {
     /// What a connection with these ends and passes begins with.
     fn of(input: &I, out: &O, keys: &S::Keys, names: &S::Names) -> ConnStart<I, O, S>
-        ensures { result ≡ record { input = input.now; out = out.now; keys = S.keys_seen keys.now; names = S.names_seen names.now } }
+        ensures { result ≡
+            record {
+              input = input.now;
+              out = out.now;
+              keys = S.keys_seen keys.now;
+              names = S.names_seen names.now;
+            } }
     {
         ConnStart {
             input: Snapshot::of(input),
@@ -109,7 +121,13 @@ impl<
         S: 's,
         requires keys { own (S.keys_seen keys).number (S.keys_seen keys).seen ≡ [] }
         requires names { own (S.names_seen names).number (S.names_seen names).seen ≡ [] }
-        ensures { result ≡ record { input = input; out = out; keys = S.keys_seen keys; names = S.names_seen names } }
+        ensures { result ≡
+            record {
+              input = input;
+              out = out;
+              keys = S.keys_seen keys;
+              names = S.names_seen names;
+            } }
     {
         let start: ConnStart<I, O, S> = ConnStart::of(&input, &out, &keys, &names);
         let promise = Snapshot::of(&start);
@@ -141,7 +159,8 @@ impl<I: Source, O: Sink, H: HangUp + Drop, S: Turns> Running<I, O, H, S> {
 
     /// Waits for the connection to end.
     pub fn join<R: Threads>(self, rt: &R) -> Done<I, O, S::Keys, S::Names>
-        ensures { EndsSo (ServesEnds I.left I.faults O.written O.faults) self result.input result.out (S.keys_seen result.keys) (S.names_seen result.names) result.ended }
+        ensures { EndsSo (ServesEnds I.left I.faults O.written O.faults) self result.input
+            result.out (S.keys_seen result.keys) (S.names_seen result.names) result.ended }
     {
         let Running { handle, work } = self;
         drop(handle);

@@ -89,8 +89,10 @@ pub fn serve_all<
     second: V,
     gate: &G,
 ) -> ServeEnd
-    ensures serves { ServesAll (ServesEnds A.In.left A.In.faults A.Out.written A.Out.faults) (V.to_come first) (V.to_come second) S.state S.to_come
-        (A.state door.old) (S.keys_seen keys.old) (S.names_seen names.old) port conns result (A.state door.new) (S.keys_seen keys.new) (S.names_seen names.new) }
+    ensures serves { ServesAll (ServesEnds A.In.left A.In.faults A.Out.written A.Out.faults)
+        (V.to_come first) (V.to_come second) S.state S.to_come
+        (A.state door.old) (S.keys_seen keys.old) (S.names_seen names.old) port conns result
+        (A.state door.new) (S.keys_seen keys.new) (S.names_seen names.new) }
     ensures cause { result ≡ ServeEnd.DoorFault → Rose (A.faults door.old) (A.faults door.new) }
 {
     match door.open(port) {

@@ -121,5 +121,6 @@ impl<M: Naming> Holds for Registry<M> {
 
     ghost still_can = { λ s m w q took can. tt };
 
-    ghost meeting = { λ s m t w q r need took acted. meeting_registers s m t w q r need took acted };
+    ghost meeting = { λ s m t w q r need took acted.
+        meeting_registers s m t w q r need took acted };
 }

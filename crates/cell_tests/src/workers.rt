@@ -24,7 +24,8 @@ pub fn work<N: Naming, M: Naming, R: Wait>(
     worker: Worker<N, M>,
 ) -> Worker<N, M>
     ensures drawn { IfSome result.number (λ n. Issued n result.numbers.seen) }
-    ensures same { (result.numbers.number ≡ worker.numbers.number) × (result.counts.number ≡ worker.counts.number) }
+    ensures same { (result.numbers.number ≡ worker.numbers.number) ×
+        (result.counts.number ≡ worker.counts.number) }
 {
     let Worker {
         mut numbers,

@@ -50,7 +50,8 @@ pub fn list_zones<S: Turns, R: Wait>(
     shared: &S,
     names: &mut S::Names,
 ) -> Result<ZoneList, NoMemory>
-    ensures { (made : List (NameEntry S.D S.W)) × NamesMake S.state S.to_come (S.names_seen names.old) made (S.names_seen names.new)
+    ensures { (made : List (NameEntry S.D S.W)) ×
+        NamesMake S.state S.to_come (S.names_seen names.old) made (S.names_seen names.new)
         × All IsNameWork made × IfOk result (λ zones. ListsZones zones made) }
 {
     // The history that the pass has seen is legal.
@@ -69,7 +70,8 @@ fn is_going<S: Turns, R: Wait>(
     names: &mut S::Names,
     zone: &NPath,
 ) -> Result<bool, NoMemory>
-    ensures { (made : List (NameEntry S.D S.W)) × NamesMake S.state S.to_come (S.names_seen names.old) made (S.names_seen names.new)
+    ensures { (made : List (NameEntry S.D S.W)) ×
+        NamesMake S.state S.to_come (S.names_seen names.old) made (S.names_seen names.new)
         × All IsNameWork made × IfOk result (λ going. ShowsStatus zone.now going made) }
 {
     // The history that the pass has seen is legal.
@@ -107,7 +109,8 @@ pub fn going_zones<S: Turns, R: Wait>(
     names: &mut S::Names,
     zones: &[ZonePath],
 ) -> Result<Listing<NPath>, NoMemory>
-    ensures { (made : List (NameEntry S.D S.W)) × NamesMake S.state S.to_come (S.names_seen names.old) made (S.names_seen names.new)
+    ensures { (made : List (NameEntry S.D S.W)) ×
+        NamesMake S.state S.to_come (S.names_seen names.old) made (S.names_seen names.new)
         × All IsNameWork made × IfOk result (λ going. AsksAbout zones.now made going) }
 {
     // The history that the pass has seen is legal.

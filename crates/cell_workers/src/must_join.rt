@@ -19,7 +19,9 @@ impl<T, P: Promise<T>> Model for MustJoin<T, P> {
 
     ghost view = { λ m. m.promise.value };
 
-    ghost invariant = { λ m. MatchResult m.work (λ thread. thread.promise ≡ m.promise.value) (λ done. P.kept_by m.promise.value done) };
+    ghost invariant = { λ m.
+        MatchResult m.work (λ thread. thread.promise ≡ m.promise.value)
+        (λ done. P.kept_by m.promise.value done) };
 }
 
 impl<T, P: Promise<T>> MustJoin<T, P> {

@@ -23,7 +23,9 @@ pub fn last_round<S: Turns, R: Wait, G: Gate>(
     names: &mut S::Names,
     gate: &G,
 ) -> Result<(), NoMemory>
-    ensures { (made : List (NameEntry S.D S.W)) × NamesMake S.state S.to_come (S.names_seen names.old) made (S.names_seen names.new) × OnOk result (IsLastRound made) }
+    ensures { (made : List (NameEntry S.D S.W)) ×
+        NamesMake S.state S.to_come (S.names_seen names.old) made (S.names_seen names.new) ×
+        OnOk result (IsLastRound made) }
 {
     let zones = list_zones(rt, alloc, shared, names)?;
     let going = going_zones(rt, alloc, shared, names, zones.as_slice());

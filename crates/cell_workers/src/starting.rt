@@ -40,8 +40,10 @@ impl<V, S: Turns> PoolStart<V, S> {
 impl<V: Words, S: Turns> Promise<(S::Keys, S::Names)> for PoolStart<V, S> {
     ghost use Rattle.cell_workers.specs.Work.{PoolWorks};
 
-    ghost kept_by = { λ start done. PoolWorks (V.to_come start.first.value) (V.to_come start.second.value)
-        (S.keys_seen start.keys.value) (S.names_seen start.names.value) (S.keys_seen done.0) (S.names_seen done.1) };
+    ghost kept_by = { λ start done.
+        PoolWorks (V.to_come start.first.value) (V.to_come start.second.value)
+        (S.keys_seen start.keys.value) (S.names_seen start.names.value) (S.keys_seen done.0)
+        (S.names_seen done.1) };
 }
 
 impl<
@@ -74,8 +76,10 @@ impl<
         let begun = scope.spawn_with(
             start,
             move || -> (K, N)
-                requires { IsSync R.row × IsSend K.row × IsSend N.row × IsSync S.row × IsSync G.row × IsSend V.row }
-                ensures { PoolWorks (V.to_come first) (V.to_come second) (S.keys_seen keys) (S.names_seen names) (S.keys_seen result.0) (S.names_seen result.1) }
+                requires { IsSync R.row × IsSend K.row × IsSend N.row × IsSync S.row ×
+                    IsSync G.row × IsSend V.row }
+                ensures { PoolWorks (V.to_come first) (V.to_come second) (S.keys_seen keys)
+                    (S.names_seen names) (S.keys_seen result.0) (S.names_seen result.1) }
             { self.run(keys, names, first, second) },
         );
         match begun {

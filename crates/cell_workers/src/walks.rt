@@ -32,7 +32,8 @@ fn walk_once<S: Turns, R: Wait, G: Gate>(
     zone: NPath,
     gate: &G,
 ) -> Result<bool, NoMemory>
-    ensures { (made : List (NameEntry S.D S.W)) × NamesMake S.state S.to_come (S.names_seen names.old) made (S.names_seen names.new)
+    ensures { (made : List (NameEntry S.D S.W)) ×
+        NamesMake S.state S.to_come (S.names_seen names.old) made (S.names_seen names.new)
         × IfOk result (λ on. WalkedOn on zone made) }
 {
     // The history that the pass has seen is legal.
@@ -66,7 +67,8 @@ fn walk_through<S: Turns, R: Wait, G: Gate>(
     zone: &NPath,
     gate: &G,
 ) -> Result<(), NoMemory>
-    ensures { (made : List (NameEntry S.D S.W)) × NamesMake S.state S.to_come (S.names_seen names.old) made (S.names_seen names.new)
+    ensures { (made : List (NameEntry S.D S.W)) ×
+        NamesMake S.state S.to_come (S.names_seen names.old) made (S.names_seen names.new)
         × OnOk result (Walks zone.now made) }
 {
     // The history that the pass has seen is legal.
@@ -90,7 +92,8 @@ pub fn walk_through_all<S: Turns, R: Wait, G: Gate>(
     zones: &[NPath],
     gate: &G,
 ) -> Result<(), NoMemory>
-    ensures { (made : List (NameEntry S.D S.W)) × NamesMake S.state S.to_come (S.names_seen names.old) made (S.names_seen names.new)
+    ensures { (made : List (NameEntry S.D S.W)) ×
+        NamesMake S.state S.to_come (S.names_seen names.old) made (S.names_seen names.new)
         × OnOk result (WalksAll zones.now made) }
 {
     // The history that the pass has seen is legal.

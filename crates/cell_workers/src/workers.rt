@@ -64,7 +64,8 @@ impl<
 > WorkerPool<'a, R, D, W, K, N, S, G> {
     /// Fills queues until none is low.
     fn fill_all<V: Words>(&self, keys: &mut K, words: &mut V)
-        ensures { Fills (V.to_come words.old) (V.to_come words.new) (S.keys_seen keys.old) (S.keys_seen keys.new) }
+        ensures { Fills (V.to_come words.old) (V.to_come words.new) (S.keys_seen keys.old)
+            (S.keys_seen keys.new) }
     {
         for _ in self.rt.forever() {
             match self.shared.fill_turn(self.rt, keys, words, self.gate) {
@@ -76,7 +77,8 @@ impl<
 
     /// Fills queues whenever one may be low.
     fn fill<V: Words + Drop>(&self, keys: K, words: V) -> K
-        ensures { (rest : ℕ → ℕ) × Fills (V.to_come words) rest (S.keys_seen keys) (S.keys_seen result) }
+        ensures { (rest : ℕ → ℕ) ×
+            Fills (V.to_come words) rest (S.keys_seen keys) (S.keys_seen result) }
     {
         let mut keys = keys;
         let mut words = words;
@@ -239,17 +241,20 @@ impl<
 > WorkerPool<'a, R, D, W, K, N, S, G> {
     /// Two fillers, each with words of its own.
     fn fillers<V: Words + Send + Drop>(&self, keys: K, first: V, second: V) -> K
-        ensures { FillsBoth (V.to_come first) (V.to_come second) (S.keys_seen keys) (S.keys_seen result) }
+        ensures { FillsBoth (V.to_come first) (V.to_come second) (S.keys_seen keys)
+            (S.keys_seen result) }
     {
         let mut keys = keys;
         let other = self.shared.split_keys(self.rt, &mut keys);
         let (keys, other) = join(
             self.rt,
             move || -> K
-                ensures { (rest : ℕ → ℕ) × Fills (V.to_come first) rest (S.keys_seen keys) (S.keys_seen result) }
+                ensures { (rest : ℕ → ℕ) ×
+                    Fills (V.to_come first) rest (S.keys_seen keys) (S.keys_seen result) }
             { self.fill(keys, first) },
             move || -> K
-                ensures { (rest : ℕ → ℕ) × Fills (V.to_come second) rest (S.keys_seen other) (S.keys_seen result) }
+                ensures { (rest : ℕ → ℕ) ×
+                    Fills (V.to_come second) rest (S.keys_seen other) (S.keys_seen result) }
             { self.fill(other, second) },
         );
         let mut keys = keys;
@@ -259,7 +264,8 @@ impl<
 
     /// Two batch workers.
     fn batch_workers(&self, names: N) -> N
-        ensures { (others : List ℕ) × Works IsNameWork (S.names_seen names) others (S.names_seen result) }
+        ensures { (others : List ℕ) ×
+            Works IsNameWork (S.names_seen names) others (S.names_seen result) }
     {
         let mut names = names;
         let other = self.shared.split_names(self.rt, &mut names);
@@ -279,7 +285,8 @@ impl<
 
     /// The updater and the batch workers.
     fn reencrypt(&self, names: N) -> N
-        ensures { (others : List ℕ) × Works IsNameWork (S.names_seen names) others (S.names_seen result) }
+        ensures { (others : List ℕ) ×
+            Works IsNameWork (S.names_seen names) others (S.names_seen result) }
     {
         let mut names = names;
         let other = self.shared.split_names(self.rt, &mut names);
@@ -289,8 +296,10 @@ impl<
                 ensures { Works IsNameWork (S.names_seen other) [] (S.names_seen result) }
             { self.update_all(other) },
             move || -> N
-                requires { IsSync R.row × IsSend K.row × IsSend N.row × IsSync S.row × IsSync G.row }
-                ensures { (others : List ℕ) × Works IsNameWork (S.names_seen names) others (S.names_seen result) }
+                requires { IsSync R.row × IsSend K.row × IsSend N.row × IsSync S.row ×
+                    IsSync G.row }
+                ensures { (others : List ℕ) ×
+                    Works IsNameWork (S.names_seen names) others (S.names_seen result) }
             { self.batch_workers(names) },
         );
         let mut names = names;
@@ -301,19 +310,24 @@ impl<
     /// Runs all workers until the channels are closed. First the zones that are still being
     /// re-encrypted are sent. A worker for which no thread can be made runs after the others.
     pub fn run<V: Words + Send + Drop>(&self, keys: K, names: N, first: V, second: V) -> (K, N)
-        ensures { PoolWorks (V.to_come first) (V.to_come second) (S.keys_seen keys) (S.names_seen names) (S.keys_seen result.0) (S.names_seen result.1) }
+        ensures { PoolWorks (V.to_come first) (V.to_come second) (S.keys_seen keys)
+            (S.names_seen names) (S.keys_seen result.0) (S.names_seen result.1) }
     {
         let mut names = names;
         let _ = self.send_going(&mut names);
         join(
             self.rt,
             move || -> K
-                requires { IsSync R.row × IsSend K.row × IsSend N.row × IsSync S.row × IsSync G.row × IsSend V.row }
-                ensures { FillsBoth (V.to_come first) (V.to_come second) (S.keys_seen keys) (S.keys_seen result) }
+                requires { IsSync R.row × IsSend K.row × IsSend N.row × IsSync S.row ×
+                    IsSync G.row × IsSend V.row }
+                ensures { FillsBoth (V.to_come first) (V.to_come second) (S.keys_seen keys)
+                    (S.keys_seen result) }
             { self.fillers(keys, first, second) },
             move || -> N
-                requires { IsSync R.row × IsSend K.row × IsSend N.row × IsSync S.row × IsSync G.row }
-                ensures { (others : List ℕ) × Works IsNameWork (S.names_seen names) others (S.names_seen result) }
+                requires { IsSync R.row × IsSend K.row × IsSend N.row × IsSync S.row ×
+                    IsSync G.row }
+                ensures { (others : List ℕ) ×
+                    Works IsNameWork (S.names_seen names) others (S.names_seen result) }
             { self.reencrypt(names) },
         )
     }

@@ -43,7 +43,8 @@ fn assert_same(rt: &impl Abort, found: &Dek, wanted: &Dek) {
 
 /// The three keys have the same length.
 fn have_one_length(material: &Dek, dek: &Dek, sealed: &Dek) -> bool
-    ensures { IsTrue result → (length material.now ≡ length dek.now) × (length material.now ≡ length sealed.now) }
+    ensures { IsTrue result →
+        (length material.now ≡ length dek.now) × (length material.now ≡ length sealed.now) }
 {
     let length = material.as_bytes().len();
     let same_dek = length == dek.as_bytes().len();

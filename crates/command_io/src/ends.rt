@@ -111,7 +111,8 @@ pub fn show_made<K: Sink>(out: &mut K, text: String) -> u8
 pub fn finish<K: Sink>(alloc: Global, out: &mut K, stop: ReplayEnd, count: u64) -> ReplayEnd
     requires { count < 2 ^ 41 }
     ensures closes { Closes stop count (K.written out.old) (K.written out.new) result }
-    ensures write { result ≡ ReplayEnd.WriteFault → (stop ≡ ReplayEnd.WriteFault) ⊎ Rose (K.faults out.old) (K.faults out.new) }
+    ensures write { result ≡ ReplayEnd.WriteFault →
+        (stop ≡ ReplayEnd.WriteFault) ⊎ Rose (K.faults out.old) (K.faults out.new) }
     ensures later { K.faults out.old ≤ K.faults out.new }
 {
     match stop {
@@ -148,8 +149,14 @@ fn numbered_line(alloc: Global, end: ReplayEnd, count: u64) -> Result<String, Al
 
 /// Writes a last line with a number, or `no memory` if its allocation failed.
 fn numbered<K: Sink>(out: &mut K, line: Result<String, AllocError>, ended: ReplayEnd) -> ReplayEnd
-    ensures wrote { MatchResult line (λ text. WritesLast (K.written out.old) (K.written out.new) (string_bytes text) ended result) (λ _. WritesLast (K.written out.old) (K.written out.new) (codes "no memory\n") ReplayEnd.NoMemory result) }
-    ensures write { result ≡ ReplayEnd.WriteFault → (ended ≡ ReplayEnd.WriteFault) ⊎ Rose (K.faults out.old) (K.faults out.new) }
+    ensures wrote { MatchResult line
+        (λ text.
+        WritesLast (K.written out.old) (K.written out.new) (string_bytes text) ended result)
+        (λ _.
+        WritesLast (K.written out.old) (K.written out.new) (codes "no memory\n")
+        ReplayEnd.NoMemory result) }
+    ensures write { result ≡ ReplayEnd.WriteFault →
+        (ended ≡ ReplayEnd.WriteFault) ⊎ Rose (K.faults out.old) (K.faults out.new) }
     ensures later { K.faults out.old ≤ K.faults out.new }
 {
     match line {
@@ -161,7 +168,8 @@ fn numbered<K: Sink>(out: &mut K, line: Result<String, AllocError>, ended: Repla
 /// Writes a last line. Returns `ended`, or `WriteFault` if the output fails.
 fn written_or_fault<K: Sink>(out: &mut K, last: &[u8], ended: ReplayEnd) -> ReplayEnd
     ensures wrote { WritesLast (K.written out.old) (K.written out.new) last.now ended result }
-    ensures write { result ≡ ReplayEnd.WriteFault → (ended ≡ ReplayEnd.WriteFault) ⊎ Rose (K.faults out.old) (K.faults out.new) }
+    ensures write { result ≡ ReplayEnd.WriteFault →
+        (ended ≡ ReplayEnd.WriteFault) ⊎ Rose (K.faults out.old) (K.faults out.new) }
     ensures later { K.faults out.old ≤ K.faults out.new }
 {
     match write_all(out, last) {
@@ -194,7 +202,8 @@ pub fn status_of(ended: ReplayEnd) -> u8
 /// Writes the last line of an end, and returns its status.
 pub fn report<K: Sink>(alloc: Global, out: &mut K, end: ReplayEnd) -> u8
     ensures reports { Reports end (K.written out.old) (K.written out.new) result }
-    ensures write { result ≡ 8 → (end ≡ ReplayEnd.WriteFault) ⊎ Rose (K.faults out.old) (K.faults out.new) }
+    ensures write { result ≡ 8 →
+        (end ≡ ReplayEnd.WriteFault) ⊎ Rose (K.faults out.old) (K.faults out.new) }
 {
     status_of(finish(alloc, out, end, 0))
 }

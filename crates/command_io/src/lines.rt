@@ -29,14 +29,19 @@ pub enum LineEnd {
 
 /// Reads to the end of a line, and leaves the line in `line` without its LF.
 pub fn read_line<S: Source>(reader: &mut Reader, source: &mut S, line: &mut ByteList) -> LineEnd
-    ensures consumed { result ≢ LineEnd.NoMemory → Consumes (ahead reader.old (S.left source.old)) (ahead reader.new (S.left source.new)) (line_used result line.new) }
-    ensures used { result ≢ LineEnd.NoMemory → reader.new.used ≡ reader.old.used + length (line_used result line.new) }
+    ensures consumed { result ≢ LineEnd.NoMemory →
+        Consumes (ahead reader.old (S.left source.old)) (ahead reader.new (S.left source.new))
+        (line_used result line.new) }
+    ensures used { result ≢ LineEnd.NoMemory →
+        reader.new.used ≡ reader.old.used + length (line_used result line.new) }
     ensures bounded { reader.new.used ≤ 2 ^ 40 }
     ensures line { IsTrue (is_line line.new) }
     ensures short { result ≡ LineEnd.Line → length line.new ≤ 1048576 }
-    ensures end { result ≡ LineEnd.End → IsAtEnd (ahead reader.new (S.left source.new)) × (length line.new ≤ 1048576) }
+    ensures end { result ≡ LineEnd.End →
+        IsAtEnd (ahead reader.new (S.left source.new)) × (length line.new ≤ 1048576) }
     ensures long { result ≡ LineEnd.TooLong → length line.new ≡ 1048577 }
-    ensures past { result ≡ LineEnd.Past → (reader.new.used ≡ 2 ^ 40) × IsMore (ahead reader.new (S.left source.new)) }
+    ensures past { result ≡ LineEnd.Past →
+        (reader.new.used ≡ 2 ^ 40) × IsMore (ahead reader.new (S.left source.new)) }
     ensures later { S.faults source.old ≤ S.faults source.new }
     ensures fault { result ≡ LineEnd.Fault → Rose (S.faults source.old) (S.faults source.new) }
 {

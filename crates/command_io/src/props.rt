@@ -24,9 +24,11 @@ pub enum PropsFault {
 /// Reads a source to its end, or to one byte more than properties may have.
 fn read_text<A: Source>(alloc: Global, source: &mut A) -> Result<ByteList, PropsFault>
     ensures text { IfOk result (λ text. ReadsText (A.left source.old) (A.left source.new) text) }
-    ensures fault { (why : PropsFault) → IsErrOf result why → HasPropsFault (A.left source.old) why }
+    ensures fault { (why : PropsFault) → IsErrOf result why →
+        HasPropsFault (A.left source.old) why }
     ensures later { A.faults source.old ≤ A.faults source.new }
-    ensures cause { IsErrOf result props_fault.ReadFault → Rose (A.faults source.old) (A.faults source.new) }
+    ensures cause { IsErrOf result props_fault.ReadFault →
+        Rose (A.faults source.old) (A.faults source.new) }
 {
     let mut reader = Reader::new();
     let mut text = ByteList::new(alloc);
@@ -54,7 +56,8 @@ pub fn read_properties<A: Source>(alloc: Global, acls: &mut A) -> Result<Props, 
     ensures read { IfOk result (ReadsProperties (A.left acls.old) (A.left acls.new)) }
     ensures fault { (why : PropsFault) → IsErrOf result why → HasPropsFault (A.left acls.old) why }
     ensures later { A.faults acls.old ≤ A.faults acls.new }
-    ensures cause { IsErrOf result props_fault.ReadFault → Rose (A.faults acls.old) (A.faults acls.new) }
+    ensures cause { IsErrOf result props_fault.ReadFault →
+        Rose (A.faults acls.old) (A.faults acls.new) }
 {
     let text = match read_text(alloc, acls) {
         Err(fault) => return Err(fault),

@@ -17,17 +17,22 @@ pub fn commands_alone_are_named()
 /// `--port` gives the port of `serve`, `--conns` the number of connections, and `--connections` how many
 /// are served at a time.
 pub fn options_are_named()
-    ensures numbers { Names (order.Serve 1 2 16) (codes "serve" ∷ codes "--port" ∷ codes "1" ∷ codes "--conns" ∷ codes "2" ∷ []) }
-    ensures at_a_time { Names (order.Serve 9600 4294967295 3) (codes "serve" ∷ codes "--connections" ∷ codes "3" ∷ []) }
+    ensures numbers { Names (order.Serve 1 2 16)
+        (codes "serve" ∷ codes "--port" ∷ codes "1" ∷ codes "--conns" ∷ codes "2" ∷ []) }
+    ensures at_a_time { Names (order.Serve 9600 4294967295 3)
+        (codes "serve" ∷ codes "--connections" ∷ codes "3" ∷ []) }
 {}
 
 /// A load has from 1 to 20,000 steps, which the word after `load` says. Another number is a mistake, and so are
 /// a word that is no number, no word, and one word more.
 pub fn loads_have_a_count()
     ensures one { Names (order.Load 1) (codes "load" ∷ codes "1" ∷ []) }
-    ensures named { (count : ℕ) → IsRightCount count → Names (order.Load count) (codes "load" ∷ decimal count ∷ []) }
-    ensures right { (count : ℕ) (words : List Text) → Names (order.Load count) words → IsRightCount count }
-    ensures wrong { (number : ℕ) → number < 2 ^ 64 → ¬ IsRightCount number → IsMistake (line_fault (codes "load" ∷ decimal number ∷ [])) }
+    ensures named { (count : ℕ) → IsRightCount count →
+        Names (order.Load count) (codes "load" ∷ decimal count ∷ []) }
+    ensures right { (count : ℕ) (words : List Text) → Names (order.Load count) words →
+        IsRightCount count }
+    ensures wrong { (number : ℕ) → number < 2 ^ 64 → ¬ IsRightCount number →
+        IsMistake (line_fault (codes "load" ∷ decimal number ∷ [])) }
     ensures no_number { IsMistake (line_fault (codes "load" ∷ codes "one" ∷ [])) }
     ensures no_word { IsMistake (line_fault (codes "load" ∷ [])) }
     ensures one_more { IsMistake (line_fault (codes "load" ∷ codes "1" ∷ codes "2" ∷ [])) }

@@ -46,7 +46,8 @@ fn number_at(text: &str, most: u32) -> Option<u32>
 /// Returns the number of an option, from 1 to `most`, or `absent` if the option was not given.
 fn number_or(options: &ArgMatches, name: &str, absent: u32, most: u32) -> Option<u32>
     requires { absent ≤ most }
-    ensures value { result ≡ number_or absent most (first_of name.now (rows_of (found_of options.now))) }
+    ensures value { result ≡
+        number_or absent most (first_of name.now (rows_of (found_of options.now))) }
     ensures most { IfSome result (λ number. number ≤ most) }
 {
     match options.get_str(name) {
@@ -108,7 +109,11 @@ fn text_of(alloc: Global, error: &Error) -> Result<String, OrderFault>
 /// Returns what to do if there are no matches: show a text, or report a fault.
 fn without_matches(alloc: Global, error: &Error) -> Result<Order, OrderFault>
     ensures shown { IfOk result (λ order. IsShown order (kind_of error.now)) }
-    ensures usage { IfErr result (λ fault. fault ≡ OrderFault.Usage → (kind_of error.now ≢ ErrorKind.OutOfMemory) × (kind_of error.now ≢ ErrorKind.DisplayHelp) × (kind_of error.now ≢ ErrorKind.DisplayVersion)) }
+    ensures usage { IfErr result
+        (λ fault. fault ≡ OrderFault.Usage →
+        (kind_of error.now ≢ ErrorKind.OutOfMemory) ×
+        (kind_of error.now ≢ ErrorKind.DisplayHelp) ×
+        (kind_of error.now ≢ ErrorKind.DisplayVersion)) }
 {
     match error.kind() {
         ErrorKind::OutOfMemory => Err(OrderFault::NoMemory),
@@ -121,7 +126,8 @@ fn without_matches(alloc: Global, error: &Error) -> Result<Order, OrderFault>
 /// Does what `read_order` does, for words of any type.
 fn read<'a, S: AsStr>(alloc: Global, words: &'a [S]) -> Result<Order, OrderFault>
     ensures ok { IfOk result (λ order. Answers order (map S.text words.entry.now)) }
-    ensures usage { IfErr result (λ fault. fault ≡ OrderFault.Usage → HasMistake (line_fault (map S.text words.entry.now))) }
+    ensures usage { IfErr result
+        (λ fault. fault ≡ OrderFault.Usage → HasMistake (line_fault (map S.text words.entry.now))) }
 {
     let command = hkms(alloc)?;
     match command.try_get_matches_from(words) {
@@ -148,9 +154,12 @@ fn texts_of<'w>(alloc: Global, words: &'w [Text]) -> Result<Vec<&'w str>, AllocE
 /// `OrderFault::NoMemory` may come in place of any other answer.
 pub fn read_order(alloc: Global, words: &[Text]) -> Result<Order, OrderFault>
     ensures ok { IfOk result (λ order. Answers order words.now) }
-    ensures usage { IfErr result (λ fault. fault ≡ OrderFault.Usage → IsMistake (line_fault words.now)) }
-    ensures mistake { IsMistake (line_fault words.now) → (result ≡ Err OrderFault.Usage) ⊎ (result ≡ Err OrderFault.NoMemory) }
-    ensures named { (order : AnOrder) → IsSpelled order words.now → (result ≡ Ok order) ⊎ (result ≡ Err OrderFault.NoMemory) }
+    ensures usage { IfErr result
+        (λ fault. fault ≡ OrderFault.Usage → IsMistake (line_fault words.now)) }
+    ensures mistake { IsMistake (line_fault words.now) →
+        (result ≡ Err OrderFault.Usage) ⊎ (result ≡ Err OrderFault.NoMemory) }
+    ensures named { (order : AnOrder) → IsSpelled order words.now →
+        (result ≡ Ok order) ⊎ (result ≡ Err OrderFault.NoMemory) }
     ensures help { FindsHelp words.now → ShownAs IsHelp result }
     ensures version { FindsVersion words.now → ShownAs IsVersion result }
     ensures count { IfOk result HasRightCount }

@@ -56,10 +56,15 @@ fn obey<A: Source, S: Source, K: Sink, D: Disk, V: Vault, W: Words, C: Clock>(
         ((disk.new ≡ disk.old) × (acls.new ≡ acls.old) × (input.new ≡ input.old) × (vault.new ≡ vault.old) × (rand.new ≡ rand.old) × (clock.new ≡ clock.old))
         (K.written out.old) (K.written out.new) result }
     ensures own { result ≡ 2 → order ≡ Err OrderFault.Usage }
-    ensures read_fault { result ≡ 7 → Rose (S.faults input.old) (S.faults input.new) ⊎ Rose (A.faults acls.old) (A.faults acls.new) }
+    ensures read_fault { result ≡ 7 →
+        Rose (S.faults input.old) (S.faults input.new) ⊎
+        Rose (A.faults acls.old) (A.faults acls.new) }
     ensures write_fault { result ≡ 8 → Rose (K.faults out.old) (K.faults out.new) }
-    ensures vault_fault { result ≡ 12 → Rose (V.state vault.old).faults (V.state vault.new).faults ⊎ (TellsBodies (V.state vault.old) → HadBody (V.state vault.old)) }
-    ensures long { result ≡ 13 → (all : List ℕ) → S.left input.old ≡ Some all → longest_body < length all }
+    ensures vault_fault { result ≡ 12 →
+        Rose (V.state vault.old).faults (V.state vault.new).faults ⊎
+        (TellsBodies (V.state vault.old) → HadBody (V.state vault.old)) }
+    ensures long { result ≡ 13 → (all : List ℕ) → S.left input.old ≡ Some all →
+        longest_body < length all }
     ensures reason { HasReason (record {
       mistake = order ≡ Err OrderFault.Usage;
       puts = OrdersPut order;
@@ -158,11 +163,16 @@ pub fn hkfs<A: Source, S: Source, K: Sink, D: Disk, V: Vault, W: Words, C: Clock
         (NothingHappened ((vault.new ≡ vault.old) × (rand.new ≡ rand.old) × (clock.new ≡ clock.old)) past (D.state disk.old) (D.state disk.new)
         ⊎ ReadKept past user path from count (D.state disk.old) (D.state disk.new) (A.left acls.old) (A.left acls.new) (W.to_come rand.old) (W.to_come rand.new) (V.state vault.old) (V.state vault.new) (K.written out.old) (K.written out.new) result)
         ⊎ WantsMemory ((disk.new ≡ disk.old) × (acls.new ≡ acls.old) × (input.new ≡ input.old) × (vault.new ≡ vault.old) × (rand.new ≡ rand.old) × (clock.new ≡ clock.old)) (K.written out.old) (K.written out.new) result }
-    ensures read_fault { result ≡ 7 → Rose (S.faults input.old) (S.faults input.new) ⊎ Rose (A.faults acls.old) (A.faults acls.new) }
+    ensures read_fault { result ≡ 7 →
+        Rose (S.faults input.old) (S.faults input.new) ⊎
+        Rose (A.faults acls.old) (A.faults acls.new) }
     ensures write_fault { result ≡ 8 → Rose (K.faults out.old) (K.faults out.new) }
     // The vault failed, or it had a body under an id that was new.
-    ensures vault_fault { result ≡ 12 → Rose (V.state vault.old).faults (V.state vault.new).faults ⊎ (TellsBodies (V.state vault.old) → HadBody (V.state vault.old)) }
-    ensures long { result ≡ 13 → (all : List ℕ) → S.left input.old ≡ Some all → longest_body < length all }
+    ensures vault_fault { result ≡ 12 →
+        Rose (V.state vault.old).faults (V.state vault.new).faults ⊎
+        (TellsBodies (V.state vault.old) → HadBody (V.state vault.old)) }
+    ensures long { result ≡ 13 → (all : List ℕ) → S.left input.old ≡ Some all →
+        longest_body < length all }
     // Every status has its cause.
     ensures reason { HasReason (record {
       mistake = IsMistake (line_fault words.now);

@@ -26,9 +26,12 @@ impl<'a, D, W> WorldEvents<'a, D, W> {
         words: &'a mut W,
         now: u64,
     ) -> WorldEvents<'a, D, W>
-        ensures world { (result.world.ghost_name ≡ world.entry.ghost_name) × (result.world.now ≡ world.old) }
-        ensures disk { (result.disk.ghost_name ≡ disk.entry.ghost_name) × (result.disk.now ≡ disk.old) }
-        ensures words { (result.words.ghost_name ≡ words.entry.ghost_name) × (result.words.now ≡ words.old) }
+        ensures world { (result.world.ghost_name ≡ world.entry.ghost_name) ×
+            (result.world.now ≡ world.old) }
+        ensures disk { (result.disk.ghost_name ≡ disk.entry.ghost_name) ×
+            (result.disk.now ≡ disk.old) }
+        ensures words { (result.words.ghost_name ≡ words.entry.ghost_name) ×
+            (result.words.now ≡ words.old) }
         ensures now { result.now ≡ now }
     {
         WorldEvents {
@@ -41,7 +44,8 @@ impl<'a, D, W> WorldEvents<'a, D, W> {
 }
 
 impl<'a, D: Disk, W: Words> Events for WorldEvents<'a, D, W> {
-    ghost ready = { λ v. IsReady D.state (record { disk = v.disk.now; world = v.world.now; words = v.words.now }) };
+    ghost ready = { λ v.
+        IsReady D.state (record { disk = v.disk.now; world = v.world.now; words = v.words.now }) };
 
     ghost leads = { λ old e answer new. ((new.world.ghost_name ≡ old.world.ghost_name) × ((new.disk.ghost_name ≡ old.disk.ghost_name) × ((new.words.ghost_name ≡ old.words.ghost_name) × (new.now ≡ old.now))))
         × LeadsAt D.state W.to_come old.now (record { disk = old.disk.now; world = old.world.now; words = old.words.now }) e answer (record { disk = new.disk.now; world = new.world.now; words = new.words.now }) };

@@ -32,7 +32,12 @@ fn put_over<'a, S: Source, D: Disk, V: Vault, W: Words>(
     input: &mut S,
     vault: &mut V,
 ) -> FsEnd
-    requires { IsReady D.state (record { disk = events.old.disk.now; world = events.old.world.now; words = events.old.words.now }) }
+    requires { IsReady D.state
+        (record {
+          disk = events.old.disk.now;
+          world = events.old.world.now;
+          words = events.old.words.now;
+        }) }
     ensures puts { Puts (LeadsAt D.state W.to_come events.old.now) user.now path.now
         (record { disk = events.old.disk.now; world = events.old.world.now; words = events.old.words.now }) result
         (record { disk = events.new.disk.now; world = events.new.world.now; words = events.new.words.now }) (S.left input.old) (S.left input.new) (V.state vault.old) (V.state vault.new) }
@@ -40,8 +45,11 @@ fn put_over<'a, S: Source, D: Disk, V: Vault, W: Words>(
     ensures disk { events.new.disk.ghost_name ≡ events.old.disk.ghost_name }
     ensures words { events.new.words.ghost_name ≡ events.old.words.ghost_name }
     ensures read { result ≡ FsEnd.ReadFault → Rose (S.faults input.old) (S.faults input.new) }
-    ensures vault { result ≡ FsEnd.VaultFault → Rose (V.state vault.old).faults (V.state vault.new).faults ⊎ (TellsBodies (V.state vault.old) → HadBody (V.state vault.old)) }
-    ensures long { result ≡ FsEnd.TooLong → (all : List ℕ) → S.left input.old ≡ Some all → longest_body < length all }
+    ensures vault { result ≡ FsEnd.VaultFault →
+        Rose (V.state vault.old).faults (V.state vault.new).faults ⊎
+        (TellsBodies (V.state vault.old) → HadBody (V.state vault.old)) }
+    ensures long { result ≡ FsEnd.TooLong → (all : List ℕ) → S.left input.old ≡ Some all →
+        longest_body < length all }
     ensures own { result ≡ FsEnd.WriteFault → ⊥ }
 {
     put_file(alloc, events, user, path, input, vault)
@@ -60,11 +68,17 @@ fn put_from<S: Source, D: Disk, V: Vault, W: Words, C: Clock>(
     clock: &mut C,
 ) -> FsEnd
     requires { IsReady D.state (record { disk = disk.old; world = world.old; words = rand.old }) }
-    ensures puts { (now : ℕ) × Puts (LeadsAt D.state W.to_come now) user.now path.now (record { disk = disk.old; world = world.old; words = rand.old }) result
-        (record { disk = disk.new; world = world.new; words = rand.new }) (S.left input.old) (S.left input.new) (V.state vault.old) (V.state vault.new) }
+    ensures puts { (now : ℕ) ×
+        Puts (LeadsAt D.state W.to_come now) user.now path.now
+        (record { disk = disk.old; world = world.old; words = rand.old }) result
+        (record { disk = disk.new; world = world.new; words = rand.new }) (S.left input.old)
+        (S.left input.new) (V.state vault.old) (V.state vault.new) }
     ensures read { result ≡ FsEnd.ReadFault → Rose (S.faults input.old) (S.faults input.new) }
-    ensures vault { result ≡ FsEnd.VaultFault → Rose (V.state vault.old).faults (V.state vault.new).faults ⊎ (TellsBodies (V.state vault.old) → HadBody (V.state vault.old)) }
-    ensures long { result ≡ FsEnd.TooLong → (all : List ℕ) → S.left input.old ≡ Some all → longest_body < length all }
+    ensures vault { result ≡ FsEnd.VaultFault →
+        Rose (V.state vault.old).faults (V.state vault.new).faults ⊎
+        (TellsBodies (V.state vault.old) → HadBody (V.state vault.old)) }
+    ensures long { result ≡ FsEnd.TooLong → (all : List ℕ) → S.left input.old ≡ Some all →
+        longest_body < length all }
     ensures own { result ≡ FsEnd.WriteFault → ⊥ }
 {
     let mut events = WorldEvents::new(world, disk, rand, clock.now_ms());
@@ -87,8 +101,11 @@ fn put_in<S: Source, D: Disk, V: Vault, W: Words, C: Clock>(
     ensures puts { (now : ℕ) × (then : RunningWorld) × Puts (LeadsAt D.state W.to_come now) user.now path.now (record { disk = disk.old; world = world; words = rand.old }) result
         (record { disk = disk.new; world = then; words = rand.new }) (S.left input.old) (S.left input.new) (V.state vault.old) (V.state vault.new) }
     ensures read { result ≡ FsEnd.ReadFault → Rose (S.faults input.old) (S.faults input.new) }
-    ensures vault { result ≡ FsEnd.VaultFault → Rose (V.state vault.old).faults (V.state vault.new).faults ⊎ (TellsBodies (V.state vault.old) → HadBody (V.state vault.old)) }
-    ensures long { result ≡ FsEnd.TooLong → (all : List ℕ) → S.left input.old ≡ Some all → longest_body < length all }
+    ensures vault { result ≡ FsEnd.VaultFault →
+        Rose (V.state vault.old).faults (V.state vault.new).faults ⊎
+        (TellsBodies (V.state vault.old) → HadBody (V.state vault.old)) }
+    ensures long { result ≡ FsEnd.TooLong → (all : List ℕ) → S.left input.old ≡ Some all →
+        longest_body < length all }
     ensures own { result ≡ FsEnd.WriteFault → ⊥ }
 {
     let mut world = world;
@@ -115,8 +132,11 @@ fn put_under<S: Source, K: Sink, D: Disk, V: Vault, W: Words, C: Clock>(
     ensures put { PutUnder props.now ((input.new ≡ input.old) × (vault.new ≡ vault.old) × (rand.new ≡ rand.old) × (clock.new ≡ clock.old)) user.now path.now (D.state disk.old) (D.state disk.new) (W.to_come rand.old) (W.to_come rand.new) (S.left input.old) (S.left input.new) (V.state vault.old) (V.state vault.new) (K.written out.old) (K.written out.new) result }
     ensures read_fault { result ≡ 7 → Rose (S.faults input.old) (S.faults input.new) }
     ensures write_fault { result ≡ 8 → Rose (K.faults out.old) (K.faults out.new) }
-    ensures vault_fault { result ≡ 12 → Rose (V.state vault.old).faults (V.state vault.new).faults ⊎ (TellsBodies (V.state vault.old) → HadBody (V.state vault.old)) }
-    ensures long { result ≡ 13 → (all : List ℕ) → S.left input.old ≡ Some all → longest_body < length all }
+    ensures vault_fault { result ≡ 12 →
+        Rose (V.state vault.old).faults (V.state vault.new).faults ⊎
+        (TellsBodies (V.state vault.old) → HadBody (V.state vault.old)) }
+    ensures long { result ≡ 13 → (all : List ℕ) → S.left input.old ≡ Some all →
+        longest_body < length all }
 {
     match World::start(alloc, disk, props) {
         Err(why) => report(alloc, out, ended_by(why.file, why.fault)),
@@ -144,10 +164,15 @@ pub(crate) fn run_put<A: Source, S: Source, K: Sink, D: Disk, V: Vault, W: Words
     ensures kept { Tells (D.state disk.old) → (past : Past) → StartsSound (D.state disk.old) past →
         NothingHappened ((input.new ≡ input.old) × (vault.new ≡ vault.old) × (rand.new ≡ rand.old) × (clock.new ≡ clock.old)) past (D.state disk.old) (D.state disk.new)
         ⊎ PutKept past user.now path.now (D.state disk.old) (D.state disk.new) (A.left acls.old) (A.left acls.new) (W.to_come rand.old) (W.to_come rand.new) (S.left input.old) (S.left input.new) (V.state vault.old) (V.state vault.new) (K.written out.old) (K.written out.new) result }
-    ensures read_fault { result ≡ 7 → Rose (S.faults input.old) (S.faults input.new) ⊎ Rose (A.faults acls.old) (A.faults acls.new) }
+    ensures read_fault { result ≡ 7 →
+        Rose (S.faults input.old) (S.faults input.new) ⊎
+        Rose (A.faults acls.old) (A.faults acls.new) }
     ensures write_fault { result ≡ 8 → Rose (K.faults out.old) (K.faults out.new) }
-    ensures vault_fault { result ≡ 12 → Rose (V.state vault.old).faults (V.state vault.new).faults ⊎ (TellsBodies (V.state vault.old) → HadBody (V.state vault.old)) }
-    ensures long { result ≡ 13 → (all : List ℕ) → S.left input.old ≡ Some all → longest_body < length all }
+    ensures vault_fault { result ≡ 12 →
+        Rose (V.state vault.old).faults (V.state vault.new).faults ⊎
+        (TellsBodies (V.state vault.old) → HadBody (V.state vault.old)) }
+    ensures long { result ≡ 13 → (all : List ℕ) → S.left input.old ≡ Some all →
+        longest_body < length all }
 {
     let props = match read_properties(alloc, acls) {
         Err(fault) => return report(alloc, out, ended_by_props(fault)),

@@ -32,7 +32,12 @@ fn read_over<'a, K: Sink, D: Disk, V: Vault, W: Words>(
     vault: &mut V,
     out: &mut K,
 ) -> FsEnd
-    requires { IsReady D.state (record { disk = events.old.disk.now; world = events.old.world.now; words = events.old.words.now }) }
+    requires { IsReady D.state
+        (record {
+          disk = events.old.disk.now;
+          world = events.old.world.now;
+          words = events.old.words.now;
+        }) }
     ensures reads { Reads (LeadsAt D.state W.to_come events.old.now) user.now path.now from count
         (record { disk = events.old.disk.now; world = events.old.world.now; words = events.old.words.now }) result
         (record { disk = events.new.disk.now; world = events.new.world.now; words = events.new.words.now }) (V.state vault.old) (V.state vault.new) (K.written out.old) (K.written out.new) }
@@ -40,7 +45,8 @@ fn read_over<'a, K: Sink, D: Disk, V: Vault, W: Words>(
     ensures disk { events.new.disk.ghost_name ≡ events.old.disk.ghost_name }
     ensures words { events.new.words.ghost_name ≡ events.old.words.ghost_name }
     ensures write { result ≡ FsEnd.WriteFault → Rose (K.faults out.old) (K.faults out.new) }
-    ensures vault { result ≡ FsEnd.VaultFault → Rose (V.state vault.old).faults (V.state vault.new).faults }
+    ensures vault { result ≡ FsEnd.VaultFault →
+        Rose (V.state vault.old).faults (V.state vault.new).faults }
     ensures own { (result ≡ FsEnd.ReadFault → ⊥) × (result ≡ FsEnd.TooLong → ⊥) }
     ensures out_later { K.faults out.old ≤ K.faults out.new }
 {
@@ -65,7 +71,8 @@ fn read_from<K: Sink, D: Disk, V: Vault, W: Words, C: Clock>(
     ensures reads { (now : ℕ) × Reads (LeadsAt D.state W.to_come now) user.now path.now from count (record { disk = disk.old; world = world.old; words = rand.old }) result
         (record { disk = disk.new; world = world.new; words = rand.new }) (V.state vault.old) (V.state vault.new) (K.written out.old) (K.written out.new) }
     ensures write { result ≡ FsEnd.WriteFault → Rose (K.faults out.old) (K.faults out.new) }
-    ensures vault { result ≡ FsEnd.VaultFault → Rose (V.state vault.old).faults (V.state vault.new).faults }
+    ensures vault { result ≡ FsEnd.VaultFault →
+        Rose (V.state vault.old).faults (V.state vault.new).faults }
     ensures own { (result ≡ FsEnd.ReadFault → ⊥) × (result ≡ FsEnd.TooLong → ⊥) }
     ensures out_later { K.faults out.old ≤ K.faults out.new }
 {
@@ -91,7 +98,8 @@ fn read_in<K: Sink, D: Disk, V: Vault, W: Words, C: Clock>(
     ensures reads { (now : ℕ) × (then : RunningWorld) × Reads (LeadsAt D.state W.to_come now) user.now path.now from count (record { disk = disk.old; world = world; words = rand.old }) result
         (record { disk = disk.new; world = then; words = rand.new }) (V.state vault.old) (V.state vault.new) (K.written out.old) (K.written out.new) }
     ensures write { result ≡ FsEnd.WriteFault → Rose (K.faults out.old) (K.faults out.new) }
-    ensures vault { result ≡ FsEnd.VaultFault → Rose (V.state vault.old).faults (V.state vault.new).faults }
+    ensures vault { result ≡ FsEnd.VaultFault →
+        Rose (V.state vault.old).faults (V.state vault.new).faults }
     ensures own { (result ≡ FsEnd.ReadFault → ⊥) × (result ≡ FsEnd.TooLong → ⊥) }
     ensures out_later { K.faults out.old ≤ K.faults out.new }
 {

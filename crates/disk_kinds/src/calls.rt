@@ -21,7 +21,13 @@ impl Model for CallPlan {
 
     ghost Value = { Plan };
 
-    ghost view = { λ p. record { failing = p.failing.items; made = p.made; faults = p.faults; shortages = p.shortages } };
+    ghost view = { λ p.
+        record {
+          failing = p.failing.items;
+          made = p.made;
+          faults = p.faults;
+          shortages = p.shortages;
+        } };
 }
 
 impl CallPlan {

@@ -25,7 +25,13 @@ impl Model for MemSink {
 
     ghost Value = { Collected };
 
-    ghost view = { λ s. record { written = s.bytes.items; room = vec_capacity s.bytes; most = s.most; plan = s.plan } };
+    ghost view = { λ s.
+        record {
+          written = s.bytes.items;
+          room = vec_capacity s.bytes;
+          most = s.most;
+          plan = s.plan;
+        } };
 
     ghost invariant = { λ s. 0 < s.most };
 }
@@ -86,10 +92,14 @@ impl Sink for MemSink {
 
     fn write(&mut self, bytes: &[u8]) -> Result<usize, Failed>
         ensures bound { WritesAtMost result bytes.now }
-        ensures bytes { WriteAppends (Some self.old.written) (Some self.new.written) result bytes.now }
+        ensures bytes { WriteAppends (Some self.old.written) (Some self.new.written) result
+            bytes.now }
         ensures cause { HasCause self.old.plan.faults self.new.plan.faults result }
-        ensures nothing { result ≡ Ok 0 → 0 < length bytes.now → Rose self.old.plan.faults self.new.plan.faults }
-        ensures room { OnErr result (¬ NextFails self.old.plan → self.old.room < length self.old.written + min (length bytes.now) self.old.most) }
+        ensures nothing { result ≡ Ok 0 → 0 < length bytes.now →
+            Rose self.old.plan.faults self.new.plan.faults }
+        ensures room { OnErr result
+            (¬ NextFails self.old.plan →
+            self.old.room < length self.old.written + min (length bytes.now) self.old.most) }
         ensures count { IfOk result (λ n. n ≡ min (length bytes.now) self.old.most) }
         ensures most { self.new.most ≡ self.old.most }
         ensures plan { FollowsPlan self.old.plan self.new.plan result }

@@ -75,7 +75,8 @@ impl Source for MemSource {
         ensures bytes { ReadConsumes (Some self.old.left) (Some self.new.left) result buf.new }
         ensures cause { HasCause self.old.plan.faults self.new.plan.faults result }
         ensures listed { IsErr result ↔ NextFails self.old.plan }
-        ensures count { IfOk result (λ n. n ≡ min (min (length self.old.left) (length buf.new)) self.old.most) }
+        ensures count { IfOk result
+            (λ n. n ≡ min (min (length self.old.left) (length buf.new)) self.old.most) }
         ensures most { self.new.most ≡ self.old.most }
         ensures plan { CallMade self.old.plan self.new.plan result }
     {

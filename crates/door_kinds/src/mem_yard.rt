@@ -128,7 +128,8 @@ impl MemYard {
     pub fn disk(&self, file: u8) -> Option<&MemDisk>
         requires { file < 2 }
         ensures lies { is_some result ≡ (mem_yard_state self.now).lies file }
-        ensures reads { IfSome result (λ disk. reads_of disk.now file ≡ (mem_yard_state self.now).reads file) }
+        ensures reads { IfSome result
+            (λ disk. reads_of disk.now file ≡ (mem_yard_state self.now).reads file) }
     {
         if file == 0 {
             self.first.as_ref()
@@ -148,7 +149,8 @@ impl MemYard {
     fn try_take(&mut self, file: u8) -> Result<MemDisk, Failed>
         requires file { file < 2 }
         requires lies { IsTrue ((mem_yard_state self.old).lies file) }
-        ensures taken { IfOk result (λ own. Taken file (mem_yard_state self.old) (mem_yard_state self.new) (state_of own)) }
+        ensures taken { IfOk result
+            (λ own. Taken file (mem_yard_state self.old) (mem_yard_state self.new) (state_of own)) }
         ensures kept { OnErr result (mem_yard_state self.new ≡ mem_yard_state self.old) }
     {
         self.takes.call()?;

@@ -85,7 +85,9 @@ fn try_accept<'n, C: Clock>(
     alloc: Global,
     listener: &TcpListener,
 ) -> io::Result<Option<TcpConnection<'n, C>>>
-    ensures { IfOk result (λ next. IfSome next (λ came. (came.input.reading.faults ≡ 0) × (came.out.writing.faults ≡ 0))) }
+    ensures { IfOk result
+        (λ next.
+        IfSome next (λ came. (came.input.reading.faults ≡ 0) × (came.out.writing.faults ≡ 0))) }
 {
     match listener.accept() {
         Ok((stream, _)) => Ok(ends_of(clock, alloc, stream)),
@@ -109,7 +111,9 @@ fn accept_ends<'n, C: Clock>(
     listener: &TcpListener,
     alarm: &Alarm,
 ) -> io::Result<Option<TcpConnection<'n, C>>>
-    ensures { IfOk result (λ next. IfSome next (λ came. (came.input.reading.faults ≡ 0) × (came.out.writing.faults ≡ 0))) }
+    ensures { IfOk result
+        (λ next.
+        IfSome next (λ came. (came.input.reading.faults ≡ 0) × (came.out.writing.faults ≡ 0))) }
 {
     for _ in 0..u64::MAX {
         if alarm.is_raised() {
@@ -128,7 +132,8 @@ fn unless_raised<'n, C: Clock>(
     came: TcpConnection<'n, C>,
 ) -> Option<TcpConnection<'n, C>>
     requires { (came.input.reading.faults ≡ 0) × (came.out.writing.faults ≡ 0) }
-    ensures { IfSome result (λ came. (came.input.reading.faults ≡ 0) × (came.out.writing.faults ≡ 0)) }
+    ensures { IfSome result
+        (λ came. (came.input.reading.faults ≡ 0) × (came.out.writing.faults ≡ 0)) }
 {
     if alarm.is_raised() {
         drop(came);
@@ -147,7 +152,9 @@ fn next_ends<'n, C: Clock>(
     accepted: u64,
 ) -> Result<Option<TcpConnection<'n, C>>, Failed>
     ensures room { OnOk result (accepted < 2 ^ 64 - 1) }
-    ensures fresh { IfOk result (λ next. IfSome next (λ came. (came.input.reading.faults ≡ 0) × (came.out.writing.faults ≡ 0))) }
+    ensures fresh { IfOk result
+        (λ next.
+        IfSome next (λ came. (came.input.reading.faults ≡ 0) × (came.out.writing.faults ≡ 0))) }
 {
     let Some(listener) = listener else {
         return Err(Failed);

@@ -202,7 +202,8 @@ pub(crate) fn ends_of<'n, C: Clock>(
     alloc: Global,
     stream: TcpStream,
 ) -> Option<Accepted<TcpSource<'n, C>, TcpSink<'n, C>, TcpHandle>>
-    ensures { IfSome result (λ came. (came.input.reading.faults ≡ 0) × (came.out.writing.faults ≡ 0)) }
+    ensures { IfSome result
+        (λ came. (came.input.reading.faults ≡ 0) × (came.out.writing.faults ≡ 0)) }
 {
     let longest = Some(Duration::from_secs(LONGEST_WAIT));
     stream.set_nodelay(true).ok()?;

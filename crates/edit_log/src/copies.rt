@@ -10,7 +10,8 @@ use std::alloc::Global;
 /// Returns the operation whose record the bytes are.
 pub(crate) fn operation_of(alloc: Global, bytes: &[u8]) -> Result<EditOp, NoMemory>
     requires { (op : EditOp) × HasSpelling op × (bytes.now ≡ spelling op) }
-    ensures { IfOk result (λ copy. (op : EditOp) → HasSpelling op → bytes.now ≡ spelling op → copy ≡ op) }
+    ensures { IfOk result
+        (λ copy. (op : EditOp) → HasSpelling op → bytes.now ≡ spelling op → copy ≡ op) }
 {
     match EditOp::read(alloc, bytes) {
         Ok(op) => Ok(op),

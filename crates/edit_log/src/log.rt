@@ -55,18 +55,22 @@ impl EditLog {
         alloc: Global,
         disk: &mut D,
     ) -> Result<(EditLog, OpReader), StartFault>
-        ensures opened { IfOk result (λ r. Tells (D.state disk.old) → IsOpened ((D.state disk.old).reads 1) (D.state disk.new) r.0 r.1) }
+        ensures opened { IfOk result
+            (λ r. Tells (D.state disk.old) →
+            IsOpened ((D.state disk.old).reads 1) (D.state disk.new) r.0 r.1) }
         ensures settled { IfOk result (λ r. (r.0.pending ≡ None) × (r.0.log.file ≡ 1)) }
         ensures spent { IsErrOf result start.Spent → ⊥ }
 
         // Whatever the result, after the first sync of the call a crash leaves the log found, or that log
         // with its end gate read as 1. A file that is not a log stays byte for byte. If that sync failed,
         // nothing was written.
-        ensures opens { Recovers 1 (D.state disk.old) (D.state disk.new) (λ fault. IsErrOf result fault) }
+        ensures opens { Recovers 1 (D.state disk.old) (D.state disk.new)
+            (λ fault. IsErrOf result fault) }
 
         // A crash at any moment leaves what it might have left before, or the log found, or that with
         // its end gate read as 1.
-        ensures any_moment { Tells (D.state disk.old) → LeavesOnly 1 (D.state disk.old) (D.state disk.new)
+        ensures any_moment { Tells (D.state disk.old) →
+            LeavesOnly 1 (D.state disk.old) (D.state disk.new)
             (λ c. (D.state disk.old).leaves 1 c ⊎ IsAsFound 1 ((D.state disk.old).reads 1) c) }
     {
         let (log, records) = Log::recover_records(alloc, disk, NAMES)?;
@@ -87,25 +91,36 @@ impl EditLog {
         last: u32,
     ) -> Result<(), StartFault>
         requires settled { self.old.pending ≡ None }
-        requires stands { Tells (D.state disk.old) → ((ops : List EditOp) × IsEditLogOf (D.state disk.old) self.old ops) }
+        requires stands { Tells (D.state disk.old) →
+            ((ops : List EditOp) × IsEditLogOf (D.state disk.old) self.old ops) }
 
-        ensures committed { OnOk result (Tells (D.state disk.old) → (ops : List EditOp) → IsEditLogOf (D.state disk.old) self.old ops
+        ensures committed { OnOk result
+            (Tells (D.state disk.old) → (ops : List EditOp) →
+            IsEditLogOf (D.state disk.old) self.old ops
             → IsEditLogOf (D.state disk.new) self.new (ops ++ op.Opened (last + 1) ∷ [])) }
         ensures opened { OnOk result (self.new.pending ≡ None) }
-        ensures pending { IsErrOf result start.StoreFault → self.new.pending ≡ Some (op.Opened (last + 1)) }
-        ensures memory { IsErrOf result start.NoMemory → (self.new ≡ self.old) × (disk.new ≡ disk.old) }
-        ensures spent { IsErrOf result start.Spent → (last ≡ 4294967295) × (self.new ≡ self.old) × (disk.new ≡ disk.old) }
+        ensures pending { IsErrOf result start.StoreFault →
+            self.new.pending ≡ Some (op.Opened (last + 1)) }
+        ensures memory { IsErrOf result start.NoMemory →
+            (self.new ≡ self.old) × (disk.new ≡ disk.old) }
+        ensures spent { IsErrOf result start.Spent →
+            (last ≡ 4294967295) × (self.new ≡ self.old) × (disk.new ≡ disk.old) }
         ensures room { OnOk result (last < 4294967295) }
         ensures damaged { (at : ℕ) → IsErrOf result (start.Damaged at) → ⊥ }
-        ensures refused { OnErr result (Tells (D.state disk.old) → (ops : List EditOp) → IsEditLogOf (D.state disk.old) self.old ops
+        ensures refused { OnErr result
+            (Tells (D.state disk.old) → (ops : List EditOp) →
+            IsEditLogOf (D.state disk.old) self.old ops
             → IsEditLogOf (D.state disk.new) self.new ops) }
 
         // A crash at any moment of the call leaves the operations from before it, with the opening or without.
-        ensures any_moment { Tells (D.state disk.old) → (ops : List EditOp) → IsEditLogOf (D.state disk.old) self.old ops
-            → LeavesOnly 1 (D.state disk.old) (D.state disk.new) (IsWithOrWithout ops (op.Opened (last + 1))) }
+        ensures any_moment { Tells (D.state disk.old) → (ops : List EditOp) →
+            IsEditLogOf (D.state disk.old) self.old ops
+            → LeavesOnly 1 (D.state disk.old) (D.state disk.new)
+            (IsWithOrWithout ops (op.Opened (last + 1))) }
 
         ensures run { RunOn 1 (D.state disk.old) (D.state disk.new) }
-        ensures cause { IsErrOf result start.StoreFault → Rose (D.state disk.old).faults (D.state disk.new).faults }
+        ensures cause { IsErrOf result start.StoreFault →
+            Rose (D.state disk.old).faults (D.state disk.new).faults }
     {
         if last == u32::MAX {
             return Err(StartFault::Spent);
@@ -130,23 +145,31 @@ impl EditLog {
     ) -> Result<(), StoreRefusal>
         requires settled { self.old.pending ≡ None }
         requires fits { IsTrue (fits op.now) }
-        requires stands { Tells (D.state disk.old) → ((ops : List EditOp) × IsEditLogOf (D.state disk.old) self.old ops) }
+        requires stands { Tells (D.state disk.old) →
+            ((ops : List EditOp) × IsEditLogOf (D.state disk.old) self.old ops) }
 
-        ensures committed { OnOk result (Tells (D.state disk.old) → (ops : List EditOp) → IsEditLogOf (D.state disk.old) self.old ops
+        ensures committed { OnOk result
+            (Tells (D.state disk.old) → (ops : List EditOp) →
+            IsEditLogOf (D.state disk.old) self.old ops
             → IsEditLogOf (D.state disk.new) self.new (ops ++ op.now ∷ [])) }
         ensures done { OnOk result (self.new.pending ≡ None) }
 
         ensures pending { IsErrOf result store.StoreFault → self.new.pending ≡ Some op.now }
-        ensures memory { IsErrOf result store.NoMemory → (self.new ≡ self.old) × (disk.new ≡ disk.old) }
-        ensures refused { OnErr result (Tells (D.state disk.old) → (ops : List EditOp) → IsEditLogOf (D.state disk.old) self.old ops
+        ensures memory { IsErrOf result store.NoMemory →
+            (self.new ≡ self.old) × (disk.new ≡ disk.old) }
+        ensures refused { OnErr result
+            (Tells (D.state disk.old) → (ops : List EditOp) →
+            IsEditLogOf (D.state disk.old) self.old ops
             → IsEditLogOf (D.state disk.new) self.new ops) }
 
         // A crash at any moment of the call leaves the operations from before it, with the new one or without.
-        ensures any_moment { Tells (D.state disk.old) → (ops : List EditOp) → IsEditLogOf (D.state disk.old) self.old ops
+        ensures any_moment { Tells (D.state disk.old) → (ops : List EditOp) →
+            IsEditLogOf (D.state disk.old) self.old ops
             → LeavesOnly 1 (D.state disk.old) (D.state disk.new) (IsWithOrWithout ops op.now) }
 
         ensures run { RunOn 1 (D.state disk.old) (D.state disk.new) }
-        ensures cause { IsErrOf result store.StoreFault → Rose (D.state disk.old).faults (D.state disk.new).faults }
+        ensures cause { IsErrOf result store.StoreFault →
+            Rose (D.state disk.old).faults (D.state disk.new).faults }
     {
         let mut record = ByteList::new(alloc);
         op.write(&mut record)?;
@@ -181,24 +204,31 @@ impl EditLog {
     /// after a sync, and dropped otherwise. Does nothing if none is pending. After `StoreFault`, the only
     /// error, it is still pending. Does not allocate.
     pub fn settle<D: Disk>(&mut self, disk: &mut D) -> Result<Option<EditOp>, StoreRefusal>
-        requires stands { Tells (D.state disk.old) → ((ops : List EditOp) × IsEditLogOf (D.state disk.old) self.old ops) }
+        requires stands { Tells (D.state disk.old) →
+            ((ops : List EditOp) × IsEditLogOf (D.state disk.old) self.old ops) }
 
-        ensures nothing { self.old.pending ≡ None → (result ≡ Ok None) × (self.new ≡ self.old) × (disk.new ≡ disk.old) }
+        ensures nothing { self.old.pending ≡ None →
+            (result ≡ Ok None) × (self.new ≡ self.old) × (disk.new ≡ disk.old) }
         ensures settled { OnOk result (self.new.pending ≡ None) }
         ensures answer { IfOk result (λ kept. (kept ≡ None) ⊎ (kept ≡ self.old.pending)) }
         ensures kept { IfOk result (λ kept. Tells (D.state disk.old) → (ops : List EditOp) (op : EditOp) → IsEditLogOf (D.state disk.old) self.old ops → self.old.pending ≡ Some op
             → slice_get ((D.state disk.old).reads 1) self.old.log.end ≡ Some 1
             → (kept ≡ Some op) × IsEditLogOf (D.state disk.new) self.new (ops ++ op ∷ [])) }
-        ensures dropped { IfOk result (λ kept. Tells (D.state disk.old) → (ops : List EditOp) → IsEditLogOf (D.state disk.old) self.old ops
+        ensures dropped { IfOk result
+            (λ kept. Tells (D.state disk.old) → (ops : List EditOp) →
+            IsEditLogOf (D.state disk.old) self.old ops
             → slice_get ((D.state disk.old).reads 1) self.old.log.end ≢ Some 1
             → (kept ≡ None) × IsEditLogOf (D.state disk.new) self.new ops) }
         ensures still_pending { OnErr result (self.new ≡ self.old) }
-        ensures refused { OnErr result (Tells (D.state disk.old) → (ops : List EditOp) → IsEditLogOf (D.state disk.old) self.old ops
+        ensures refused { OnErr result
+            (Tells (D.state disk.old) → (ops : List EditOp) →
+            IsEditLogOf (D.state disk.old) self.old ops
             → IsEditLogOf (D.state disk.new) self.new ops) }
         ensures fault { IsErr result → IsErrOf result store.StoreFault }
 
         // A crash at any moment of the call leaves the operations from before it, with the pending one or without.
-        ensures any_moment { Tells (D.state disk.old) → (ops : List EditOp) (op : EditOp) → IsEditLogOf (D.state disk.old) self.old ops → self.old.pending ≡ Some op
+        ensures any_moment { Tells (D.state disk.old) → (ops : List EditOp) (op : EditOp) →
+            IsEditLogOf (D.state disk.old) self.old ops → self.old.pending ≡ Some op
             → LeavesOnly 1 (D.state disk.old) (D.state disk.new) (IsWithOrWithout ops op) }
 
         ensures run { RunOn 1 (D.state disk.old) (D.state disk.new) }

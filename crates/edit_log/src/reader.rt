@@ -35,21 +35,30 @@ impl OpReader {
         alloc: Global,
         disk: &mut D,
     ) -> Result<Option<PlacedOp>, StartFault>
-        requires ahead { Tells (D.state disk.old) → ((done : List EditOp) × (todo : List (List ℕ)) × OpsAhead (D.state disk.old) self.old done todo) }
+        requires ahead { Tells (D.state disk.old) →
+            ((done : List EditOp) × (todo : List (List ℕ)) ×
+            OpsAhead (D.state disk.old) self.old done todo) }
 
-        ensures next { IfOk result (λ found. Tells (D.state disk.old) → (done : List EditOp) (todo : List (List ℕ)) → OpsAhead (D.state disk.old) self.old done todo
+        ensures next { IfOk result
+            (λ found. Tells (D.state disk.old) → (done : List EditOp) (todo : List (List ℕ)) →
+            OpsAhead (D.state disk.old) self.old done todo
             → IsNextOp (D.state disk.new) self.new done todo found) }
-        ensures damaged { (at : ℕ) → IsErrOf result (Damaged at) → Tells (D.state disk.old) → (done : List EditOp) (todo : List (List ℕ)) → OpsAhead (D.state disk.old) self.old done todo
+        ensures damaged { (at : ℕ) → IsErrOf result (Damaged at) → Tells (D.state disk.old) →
+            (done : List EditOp) (todo : List (List ℕ)) →
+            OpsAhead (D.state disk.old) self.old done todo
             → HasNoNextOp self.old done todo at }
         ensures spent { IsErrOf result Spent → ⊥ }
 
         // Whatever the disk answers, fewer bytes are left afterwards.
-        ensures nearer { IfOk result (λ found. IsSome found → left self.new.records < left self.old.records) }
+        ensures nearer { IfOk result
+            (λ found. IsSome found → left self.new.records < left self.old.records) }
 
-        ensures cause { IsErrOf result StoreFault → Rose (D.state disk.old).faults (D.state disk.new).faults }
+        ensures cause { IsErrOf result StoreFault →
+            Rose (D.state disk.old).faults (D.state disk.new).faults }
         ensures same { Reads 1 (D.state disk.old) (D.state disk.new) }
         ensures run { RunOn 1 (D.state disk.old) (D.state disk.new) }
-        ensures moments { LeavesOnly 1 (D.state disk.old) (D.state disk.new) ((D.state disk.old).leaves 1) }
+        ensures moments { LeavesOnly 1 (D.state disk.old) (D.state disk.new)
+            ((D.state disk.old).leaves 1) }
     {
         match self.records.next(disk)? {
             None => return Ok(None),

@@ -59,7 +59,8 @@ pub(crate) fn read_record(
     payload: &[u8],
 ) -> Result<PlacedOp, StartFault>
     ensures read { IfOk result (λ placed. (placed.at ≡ at) × IsNext last payload.now placed.op) }
-    ensures damaged { (other : ℕ) → IsErrOf result (Damaged other) → (other ≡ at) × IsNoNext last payload.now }
+    ensures damaged { (other : ℕ) → IsErrOf result (Damaged other) →
+        (other ≡ at) × IsNoNext last payload.now }
     ensures fault { IsErrOf result StoreFault → ⊥ }
     ensures spent { IsErrOf result Spent → ⊥ }
 {

@@ -431,7 +431,8 @@ impl EditOp {
     /// only if the bytes are the record of no operation.
     pub fn read(alloc: Global, bytes: &[u8]) -> Result<EditOp, RecordFault>
         ensures read { IfOk result (λ op. HasSpelling op × (bytes.now ≡ spelling op)) }
-        ensures none { IsErrOf result fault.NoRecord → (op : EditOp) → HasSpelling op → ¬ (bytes.now ≡ spelling op) }
+        ensures none { IsErrOf result fault.NoRecord → (op : EditOp) → HasSpelling op →
+            ¬ (bytes.now ≡ spelling op) }
     {
         op_of(alloc, bytes)
     }

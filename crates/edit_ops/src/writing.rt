@@ -84,7 +84,8 @@ fn append_opt_edek(out: &mut ByteList, edek: &Option<Edek>) -> Result<(), NoMemo
 /// Appends the first byte of a record, an id and a path. If allocation fails, a prefix may have
 /// been appended.
 fn append_front(out: &mut ByteList, tag: u8, id: u64, path: &NPath) -> Result<(), NoMemory>
-    ensures ok { OnOk result (out.new ≡ out.old ++ tag ∷ (to_be_bytes w64 id ++ path_field path.now)) }
+    ensures ok { OnOk result
+        (out.new ≡ out.old ++ tag ∷ (to_be_bytes w64 id ++ path_field path.now)) }
     ensures rule { OnOk result (is_relative path.now ≡ true) }
     ensures err { OnErr result (take (length out.old) out.new ≡ out.old) }
 {
@@ -100,7 +101,10 @@ fn append_file(
     path: &NPath,
     edek: &Option<Edek>,
 ) -> Result<(), NoMemory>
-    ensures ok { OnOk result (out.new ≡ out.old ++ 3 ∷ (to_be_bytes w64 id ++ (path_field path.now ++ opt_field edek_field edek.now))) }
+    ensures ok { OnOk result
+        (out.new ≡
+        out.old ++
+        3 ∷ (to_be_bytes w64 id ++ (path_field path.now ++ opt_field edek_field edek.now))) }
     ensures rule { OnOk result (is_relative path.now ≡ true) }
     ensures is_edek { OnOk result (IsOpt IsEdek edek.now) }
     ensures err { OnErr result (take (length out.old) out.new ≡ out.old) }
@@ -147,7 +151,8 @@ fn append_component(out: &mut ByteList, name: &Text) -> Result<(), NoMemory>
 /// prefix may have been appended.
 fn append_snapshot(out: &mut ByteList, tag: u8, path: &NPath, name: &Text) -> Result<(), NoMemory>
     requires { is_component name.now ≡ true }
-    ensures ok { OnOk result (out.new ≡ out.old ++ tag ∷ (path_field path.now ++ text_field name.now)) }
+    ensures ok { OnOk result
+        (out.new ≡ out.old ++ tag ∷ (path_field path.now ++ text_field name.now)) }
     ensures rule { OnOk result (is_relative path.now ≡ true) }
     ensures err { OnErr result (take (length out.old) out.new ≡ out.old) }
 {
@@ -158,7 +163,8 @@ fn append_snapshot(out: &mut ByteList, tag: u8, path: &NPath, name: &Text) -> Re
 /// Appends the record of a directory that was made a zone. If allocation fails, a prefix may have
 /// been appended.
 fn append_zone(out: &mut ByteList, path: &NPath, key: &KeyName) -> Result<(), NoMemory>
-    ensures ok { OnOk result (out.new ≡ out.old ++ 6 ∷ (path_field path.now ++ name_field key.now)) }
+    ensures ok { OnOk result
+        (out.new ≡ out.old ++ 6 ∷ (path_field path.now ++ name_field key.now)) }
     ensures rule { OnOk result (is_relative path.now ≡ true) }
     ensures is_name { OnOk result (IsKeyName key.now) }
     ensures err { OnErr result (take (length out.old) out.new ≡ out.old) }
@@ -175,7 +181,10 @@ fn append_submit(
     path: &NPath,
     noted: &VersionName,
 ) -> Result<(), NoMemory>
-    ensures ok { OnOk result (out.new ≡ out.old ++ 11 ∷ (to_be_bytes w64 session ++ (path_field path.now ++ version_field noted.now))) }
+    ensures ok { OnOk result
+        (out.new ≡
+        out.old ++
+        11 ∷ (to_be_bytes w64 session ++ (path_field path.now ++ version_field noted.now))) }
     ensures rule { OnOk result (is_relative path.now ≡ true) }
     ensures is_version { OnOk result (IsVersion noted.now) }
     ensures err { OnErr result (take (length out.old) out.new ≡ out.old) }
@@ -250,7 +259,12 @@ fn append_counts(
     failed: u32,
     files: &FileKeys,
 ) -> Result<(), NoMemory>
-    ensures ok { OnOk result (out.new ≡ out.old ++ 12 ∷ (to_be_bytes w64 session ++ (to_be_bytes w32 (length files.now) ++ to_be_bytes w32 failed))) }
+    ensures ok { OnOk result
+        (out.new ≡
+        out.old ++
+        12 ∷
+        (to_be_bytes w64 session ++
+        (to_be_bytes w32 (length files.now) ++ to_be_bytes w32 failed))) }
     ensures err { OnErr result (take (length out.old) out.new ≡ out.old) }
 {
     append_head(out, 12, session)?;
@@ -266,7 +280,14 @@ fn append_update(
     mark: &Option<NPath>,
     files: &FileKeys,
 ) -> Result<(), NoMemory>
-    ensures ok { OnOk result (out.new ≡ out.old ++ 12 ∷ (to_be_bytes w64 session ++ (to_be_bytes w32 (length files.now) ++ (to_be_bytes w32 failed ++ (opt_field path_field mark.now ++ counted_field files.now))))) }
+    ensures ok { OnOk result
+        (out.new ≡
+        out.old ++
+        12 ∷
+        (to_be_bytes w64 session ++
+        (to_be_bytes w32 (length files.now) ++
+        (to_be_bytes w32 failed ++
+        (opt_field path_field mark.now ++ counted_field files.now))))) }
     ensures rule { OnOk result (IsOpt (λ p. IsTrue (is_relative p)) mark.now) }
     ensures are_file_keys { OnOk result (AllByRecursion IsFileKey files.now) }
     ensures most { OnOk result (length files.now ≤ 1000) }

@@ -68,7 +68,8 @@ impl Order {
     pub fn enter(&mut self, place: Place)
         requires order { InOrder self.old.places.items }
         requires room { length self.old.places.items < vec_capacity self.old.places }
-        ensures places { self.new.places.items ≡ with_place self.old.limit place self.old.places.items }
+        ensures places { self.new.places.items ≡
+            with_place self.old.limit place self.old.places.items }
         ensures limit { self.new.limit ≡ self.old.limit }
         ensures room { vec_capacity self.old.places ≤ vec_capacity self.new.places }
     {
@@ -80,8 +81,11 @@ impl Order {
 
     /// Removes a queue from its place in the order if it is low. It does not allocate.
     pub fn leave(&mut self, place: Place)
-        requires { Stands self.old.limit place self.old.places.items (vec_capacity self.old.places) }
-        ensures places { (others : List Place) → self.old.places.items ≡ with_place self.old.limit place others → self.new.places.items ≡ others }
+        requires { Stands self.old.limit place self.old.places.items
+            (vec_capacity self.old.places) }
+        ensures places { (others : List Place) →
+            self.old.places.items ≡ with_place self.old.limit place others →
+            self.new.places.items ≡ others }
         ensures limit { self.new.limit ≡ self.old.limit }
         ensures room { vec_capacity self.old.places ≤ vec_capacity self.new.places }
     {
@@ -94,7 +98,9 @@ impl Order {
     /// Moves a queue from its place to another. It does not allocate.
     pub fn follow(&mut self, from: Place, to: Place)
         requires { Stands self.old.limit from self.old.places.items (vec_capacity self.old.places) }
-        ensures places { (others : List Place) → self.old.places.items ≡ with_place self.old.limit from others → self.new.places.items ≡ with_place self.old.limit to others }
+        ensures places { (others : List Place) →
+            self.old.places.items ≡ with_place self.old.limit from others →
+            self.new.places.items ≡ with_place self.old.limit to others }
         ensures limit { self.new.limit ≡ self.old.limit }
         ensures room { vec_capacity self.old.places ≤ vec_capacity self.new.places }
     {
@@ -107,7 +113,8 @@ impl Order {
 fn place_in(places: &Vec<Place>, place: Place) -> usize
     requires { InOrder places.now.items }
     ensures most { result ≤ length places.now.items }
-    ensures parted { IsPartitionPoint (λ p. is_before p place ≡ true) (λ p. is_before p place ≡ false) places.now.items result }
+    ensures parted { IsPartitionPoint (λ p. is_before p place ≡ true)
+        (λ p. is_before p place ≡ false) places.now.items result }
 {
     places.as_slice().partition_point(|p| p.is_before(&place))
 }

@@ -32,9 +32,12 @@ impl Model for Queues {
 
     ghost Value = { AllQueues };
 
-    ghost view = { λ a. record { size = a.size; watermark = a.watermark; queues = queues_of a.rings.items } };
+    ghost view = { λ a.
+        record { size = a.size; watermark = a.watermark; queues = queues_of a.rings.items } };
 
-    ghost invariant = { λ a. IsKept a.size a.order.limit a.rings.items a.order.places.items (vec_capacity a.order.places) × (a.order.limit ≡ min a.watermark a.size) };
+    ghost invariant = { λ a.
+        IsKept a.size a.order.limit a.rings.items a.order.places.items
+        (vec_capacity a.order.places) × (a.order.limit ≡ min a.watermark a.size) };
 }
 
 impl Queues {
@@ -108,7 +111,12 @@ impl Queues {
     /// queues are then unchanged.
     pub fn make(&mut self, birth: u64) -> Result<(), NoMemory>
         requires { has_queue self.old.queues birth ≡ false }
-        ensures ok { OnOk result (self.new ≡ record self.old { queues = put_queue (record { birth = birth; ready = [] }) self.old.queues }) }
+        ensures ok { OnOk result
+            (self.new ≡
+            record self.old {
+              queues = put_queue (record { birth = birth; ready = [] })
+                  self.old.queues;
+            }) }
         ensures err { OnErr result (self.new ≡ self.old) }
     {
         self.order.reserve(self.rings.len() + 1)?;
@@ -123,7 +131,11 @@ impl Queues {
     pub fn take(&mut self, birth: u64) -> Option<Edek>
         ensures value { result ≡ slice_get (ready_in self.old.queues birth) 0 }
         ensures none { IsNone result ↔ (ready_in self.old.queues birth ≡ []) }
-        ensures queues { self.new ≡ record self.old { queues = set_ready self.old.queues birth (drop 1 (ready_in self.old.queues birth)) } }
+        ensures queues { self.new ≡
+            record self.old {
+              queues = set_ready self.old.queues birth
+                  (drop 1 (ready_in self.old.queues birth));
+            } }
     {
         let at = find(&self.rings, birth)?;
         let ring = &mut self.rings[at];
@@ -144,7 +156,11 @@ impl Queues {
 
     /// Removes the `count` oldest ready keys of a birth, or all of them if it has fewer.
     pub fn remove(&mut self, birth: u64, count: usize)
-        ensures { self.new ≡ record self.old { queues = set_ready self.old.queues birth (drop count (ready_in self.old.queues birth)) } }
+        ensures { self.new ≡
+            record self.old {
+              queues = set_ready self.old.queues birth
+                  (drop count (ready_in self.old.queues birth));
+            } }
     {
         if let Some(at) = find(&self.rings, birth) {
             let ring = &mut self.rings[at];
@@ -168,7 +184,12 @@ impl Queues {
     pub fn put(&mut self, birth: u64, ready: Edek) -> Result<(), Edek>
         requires { has_queue self.old.queues birth ≡ true }
         ensures full { IsErr result ↔ (length (ready_in self.old.queues birth) ≡ self.old.size) }
-        ensures ok { OnOk result (self.new ≡ record self.old { queues = set_ready self.old.queues birth (ready_in self.old.queues birth ++ ready ∷ []) }) }
+        ensures ok { OnOk result
+            (self.new ≡
+            record self.old {
+              queues = set_ready self.old.queues birth
+                  (ready_in self.old.queues birth ++ ready ∷ []);
+            }) }
         ensures err { IfErr result (λ back. (back ≡ ready) × (self.new ≡ self.old)) }
     {
         let at = find(&self.rings, birth).unwrap();
@@ -221,7 +242,8 @@ impl Queues {
     /// Returns the birth of the low queue with the fewest ready keys, the least birth among equals.
     /// Returns `None` if no queue is low.
     pub fn low(&self) -> Option<u64>
-        ensures value { result ≡ option_map (λ q. q.birth) (lowest (limit self.now) self.now.queues) }
+        ensures value { result ≡
+            option_map (λ q. q.birth) (lowest (limit self.now) self.now.queues) }
         ensures none { IsNone result ↔ All (λ q. limit self.now ≤ length q.ready) self.now.queues }
         ensures lowest { IfSome result (IsLowest (limit self.now) self.now.queues) }
     {

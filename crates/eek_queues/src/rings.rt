@@ -18,7 +18,8 @@ pub struct Ring {
 pub fn place_of_birth(rings: &Vec<Ring>, birth: u64) -> usize
     requires { Rising (queues_of rings.now.items) }
     ensures most { result ≤ length rings.now.items }
-    ensures parted { IsPartitionPoint (λ ring. nat_lt ring.birth birth ≡ true) (λ ring. nat_lt ring.birth birth ≡ false) rings.now.items result }
+    ensures parted { IsPartitionPoint (λ ring. nat_lt ring.birth birth ≡ true)
+        (λ ring. nat_lt ring.birth birth ≡ false) rings.now.items result }
 {
     rings.as_slice().partition_point(|ring| ring.birth < birth)
 }
@@ -28,7 +29,8 @@ pub fn find(rings: &Vec<Ring>, birth: u64) -> Option<usize>
     requires { Rising (queues_of rings.now.items) }
     ensures none { IfNone result (has_queue (queues_of rings.now.items) birth ≡ false) }
     ensures within { IfSome result (λ at. at < length rings.now.items) }
-    ensures birth { IfSome result (λ at. (ring : Ring) → (slice_index_or rings.now.items at ring).birth ≡ birth) }
+    ensures birth { IfSome result
+        (λ at. (ring : Ring) → (slice_index_or rings.now.items at ring).birth ≡ birth) }
 {
     let at = place_of_birth(rings, birth);
     if at == rings.len() {

@@ -36,7 +36,15 @@ impl Model for Sealed {
 
     ghost Value = { SealedKey };
 
-    ghost view = { λ a. record { opening = a.opening; birth = a.birth; version = a.version; iv = a.iv; dek = a.dek; sealed = a.sealed } };
+    ghost view = { λ a.
+        record {
+          opening = a.opening;
+          birth = a.birth;
+          version = a.version;
+          iv = a.iv;
+          dek = a.dek;
+          sealed = a.sealed;
+        } };
 
     ghost invariant = { λ a. IsSealed a.iv a.dek a.sealed };
 }
@@ -46,7 +54,15 @@ impl Sealed {
     /// material.
     pub fn make(ticket: &Ticket, iv: Iv, dek: Dek) -> Sealed
         requires { length dek ≡ length ticket.now.material }
-        ensures { result ≡ record { opening = ticket.now.opening; birth = ticket.now.birth; version = ticket.now.version; iv = iv; dek = dek; sealed = seal ticket.now.material iv dek } }
+        ensures { result ≡
+            record {
+              opening = ticket.now.opening;
+              birth = ticket.now.birth;
+              version = ticket.now.version;
+              iv = iv;
+              dek = dek;
+              sealed = seal ticket.now.material iv dek;
+            } }
     {
         Sealed {
             opening: ticket.opening,
@@ -60,7 +76,8 @@ impl Sealed {
 
     /// Returns the encrypted key.
     pub fn edek(&self) -> Edek
-        ensures edek { result ≡ record { version = self.now.version; iv = self.now.iv; sealed = self.now.sealed } }
+        ensures edek { result ≡
+            record { version = self.now.version; iv = self.now.iv; sealed = self.now.sealed } }
         ensures sealed { IsSealed self.now.iv self.now.dek self.now.sealed }
     {
         Edek {

@@ -211,7 +211,8 @@ fn as_sent(alloc: Global, edek: &Edek) -> Result<RawEdek, NoMemory>
 
 /// Makes the event that decrypts an encrypted key.
 fn decrypt_event(alloc: Global, user: &Text, edek: &Edek) -> Result<Event, NoMemory>
-    ensures { IfOk result (λ e. e ≡ event.Kms user.now (call.Decrypt edek.now.version.key (as_sent edek.now))) }
+    ensures { IfOk result
+        (λ e. e ≡ event.Kms user.now (call.Decrypt edek.now.version.key (as_sent edek.now))) }
 {
     let user = copy_text(alloc, user)?;
     let sent = as_sent(alloc, edek)?;

@@ -16,8 +16,11 @@ use std::alloc::Global;
 fn has_none<V: Vault>(vault: &mut V, id: u64) -> bool
     ensures keeps { KeepsBodies (V.state vault.old) (V.state vault.new) }
     ensures later { (V.state vault.old).faults ≤ (V.state vault.new).faults }
-    ensures none { IsTrue result → TellsBodies (V.state vault.old) → (V.state vault.old).bodies id ≡ [] }
-    ensures cause { result ≡ false → Rose (V.state vault.old).faults (V.state vault.new).faults ⊎ (TellsBodies (V.state vault.old) → (V.state vault.old).bodies id ≢ []) }
+    ensures none { IsTrue result → TellsBodies (V.state vault.old) →
+        (V.state vault.old).bodies id ≡ [] }
+    ensures cause { result ≡ false →
+        Rose (V.state vault.old).faults (V.state vault.new).faults ⊎
+        (TellsBodies (V.state vault.old) → (V.state vault.old).bodies id ≢ []) }
 {
     match vault.size(id) {
         Ok(size) => size == 0,
@@ -27,13 +30,17 @@ fn has_none<V: Vault>(vault: &mut V, id: u64) -> bool
 
 /// Puts the input as the body of a new file.
 fn store<S: Source, V: Vault>(input: &mut S, vault: &mut V, file: OpenFile) -> FsEnd
-    ensures stores { StoresFile file result (S.left input.old) (S.left input.new) (V.state vault.old) (V.state vault.new) }
+    ensures stores { StoresFile file result (S.left input.old) (S.left input.new)
+        (V.state vault.old) (V.state vault.new) }
     ensures input_later { S.faults input.old ≤ S.faults input.new }
     ensures vault_later { (V.state vault.old).faults ≤ (V.state vault.new).faults }
     ensures read { result ≡ FsEnd.ReadFault → Rose (S.faults input.old) (S.faults input.new) }
-    ensures long { result ≡ FsEnd.TooLong → (all : List ℕ) → S.left input.old ≡ Some all → longest_body < length all }
+    ensures long { result ≡ FsEnd.TooLong → (all : List ℕ) → S.left input.old ≡ Some all →
+        longest_body < length all }
     ensures own { result ≡ FsEnd.WriteFault → ⊥ }
-    ensures vault { result ≡ FsEnd.VaultFault → Rose (V.state vault.old).faults (V.state vault.new).faults ⊎ (TellsBodies (V.state vault.old) → HadBody (V.state vault.old)) }
+    ensures vault { result ≡ FsEnd.VaultFault →
+        Rose (V.state vault.old).faults (V.state vault.new).faults ⊎
+        (TellsBodies (V.state vault.old) → HadBody (V.state vault.old)) }
 {
     if !has_none(vault, file.id) {
         return FsEnd::VaultFault;
@@ -56,11 +63,15 @@ pub fn put_file<T: Events, S: Source, V: Vault>(
     vault: &mut V,
 ) -> FsEnd
     requires { T.ready events.old }
-    ensures puts { Puts T.leads user.now path.now events.old result events.new (S.left input.old) (S.left input.new) (V.state vault.old) (V.state vault.new) }
+    ensures puts { Puts T.leads user.now path.now events.old result events.new (S.left input.old)
+        (S.left input.new) (V.state vault.old) (V.state vault.new) }
     ensures ready { T.ready events.new }
     ensures read { result ≡ FsEnd.ReadFault → Rose (S.faults input.old) (S.faults input.new) }
-    ensures vault { result ≡ FsEnd.VaultFault → Rose (V.state vault.old).faults (V.state vault.new).faults ⊎ (TellsBodies (V.state vault.old) → HadBody (V.state vault.old)) }
-    ensures long { result ≡ FsEnd.TooLong → (all : List ℕ) → S.left input.old ≡ Some all → longest_body < length all }
+    ensures vault { result ≡ FsEnd.VaultFault →
+        Rose (V.state vault.old).faults (V.state vault.new).faults ⊎
+        (TellsBodies (V.state vault.old) → HadBody (V.state vault.old)) }
+    ensures long { result ≡ FsEnd.TooLong → (all : List ℕ) → S.left input.old ≡ Some all →
+        longest_body < length all }
     ensures own { result ≡ FsEnd.WriteFault → ⊥ }
 {
     match make_file(alloc, events, user, path) {

@@ -19,11 +19,13 @@ fn send<V: Vault, K: Sink>(
     from: u64,
     count: u64,
 ) -> FsEnd
-    ensures sends { Sends from count (Ok file) result (V.state vault.old) (V.state vault.new) (K.written out.old) (K.written out.new) }
+    ensures sends { Sends from count (Ok file) result (V.state vault.old) (V.state vault.new)
+        (K.written out.old) (K.written out.new) }
     ensures out_later { K.faults out.old ≤ K.faults out.new }
     ensures vault_later { (V.state vault.old).faults ≤ (V.state vault.new).faults }
     ensures write { result ≡ FsEnd.WriteFault → Rose (K.faults out.old) (K.faults out.new) }
-    ensures vault { result ≡ FsEnd.VaultFault → Rose (V.state vault.old).faults (V.state vault.new).faults }
+    ensures vault { result ≡ FsEnd.VaultFault →
+        Rose (V.state vault.old).faults (V.state vault.new).faults }
     ensures own { (result ≡ FsEnd.ReadFault → ⊥) × (result ≡ FsEnd.TooLong → ⊥) }
 {
     match read_body(vault, out, file.id, file.key, from, count) {
@@ -44,11 +46,13 @@ pub fn read_file<T: Events, V: Vault, K: Sink>(
     out: &mut K,
 ) -> FsEnd
     requires { T.ready events.old }
-    ensures reads { Reads T.leads user.now path.now from count events.old result events.new (V.state vault.old) (V.state vault.new) (K.written out.old) (K.written out.new) }
+    ensures reads { Reads T.leads user.now path.now from count events.old result events.new
+        (V.state vault.old) (V.state vault.new) (K.written out.old) (K.written out.new) }
     ensures ready { T.ready events.new }
     ensures out_later { K.faults out.old ≤ K.faults out.new }
     ensures write { result ≡ FsEnd.WriteFault → Rose (K.faults out.old) (K.faults out.new) }
-    ensures vault { result ≡ FsEnd.VaultFault → Rose (V.state vault.old).faults (V.state vault.new).faults }
+    ensures vault { result ≡ FsEnd.VaultFault →
+        Rose (V.state vault.old).faults (V.state vault.new).faults }
     ensures own { (result ≡ FsEnd.ReadFault → ⊥) × (result ≡ FsEnd.TooLong → ⊥) }
 {
     match open_file(alloc, events, user, path) {

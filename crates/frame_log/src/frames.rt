@@ -31,14 +31,19 @@ pub(crate) fn read_frames<D: Disk>(
     disk: &mut D,
     records: &mut Records,
 ) -> Result<Frames, LogFault>
-    requires ahead { Tells (D.state disk.old) → ((todo : List (List ℕ)) × Ahead (D.state disk.old) records.old todo) }
+    requires ahead { Tells (D.state disk.old) →
+        ((todo : List (List ℕ)) × Ahead (D.state disk.old) records.old todo) }
 
-    ensures frames { IfOk result (λ frames. Tells (D.state disk.old) → (todo : List (List ℕ)) → Ahead (D.state disk.old) records.old todo → view frames ≡ placed records.old.at todo) }
+    ensures frames { IfOk result
+        (λ frames. Tells (D.state disk.old) → (todo : List (List ℕ)) →
+        Ahead (D.state disk.old) records.old todo → view frames ≡ placed records.old.at todo) }
     ensures damaged { (at : ℕ) → IsErrOf result (Damaged at) → Tells (D.state disk.old) → ⊥ }
-    ensures cause { IsErrOf result StoreFault → Rose (D.state disk.old).faults (D.state disk.new).faults }
+    ensures cause { IsErrOf result StoreFault →
+        Rose (D.state disk.old).faults (D.state disk.new).faults }
     ensures same { Reads records.old.file (D.state disk.old) (D.state disk.new) }
     ensures run { RunOn records.old.file (D.state disk.old) (D.state disk.new) }
-    ensures moments { LeavesOnly records.old.file (D.state disk.old) (D.state disk.new) ((D.state disk.old).leaves records.old.file) }
+    ensures moments { LeavesOnly records.old.file (D.state disk.old) (D.state disk.new)
+        ((D.state disk.old).leaves records.old.file) }
 {
     let mut list = Vec::new(alloc);
     'payloads: loop {

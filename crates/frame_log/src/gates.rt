@@ -47,7 +47,8 @@ fn count_of(head: &[u8]) -> u32
 /// Returns what follows at a gate. `head` has the first five bytes from the gate on, or all if there are
 /// fewer; `left` is the number of bytes from the gate to the end of the file.
 pub(crate) fn next_at(head: &[u8], left: u64) -> Next
-    ensures next { (bytes : List ℕ) → left ≡ length bytes → head.now ≡ take 5 bytes → IsNext bytes result }
+    ensures next { (bytes : List ℕ) → left ≡ length bytes → head.now ≡ take 5 bytes →
+        IsNext bytes result }
     ensures fits { NextFits left result }
 {
     if head.is_empty() {
@@ -79,13 +80,17 @@ pub(crate) fn pass_frames<D: Disk>(
     requires limit { size ≤ 2 ^ 62 }
     requires size { Tells (D.state disk.old) → size ≡ length ((D.state disk.old).reads file) }
 
-    ensures scan { IfOk result (λ scan. Tells (D.state disk.old) → IsScanned ((D.state disk.old).reads file) scan) }
+    ensures scan { IfOk result
+        (λ scan. Tells (D.state disk.old) → IsScanned ((D.state disk.old).reads file) scan) }
     ensures end { IfOk result (λ scan. scan.end < size) }
-    ensures damaged { (at : ℕ) → IsErrOf result (Damaged at) → Tells (D.state disk.old) → frames_at size 8 (drop 8 ((D.state disk.old).reads file)) ≡ NoLog at }
-    ensures cause { IsErrOf result StoreFault → Rose (D.state disk.old).faults (D.state disk.new).faults }
+    ensures damaged { (at : ℕ) → IsErrOf result (Damaged at) → Tells (D.state disk.old) →
+        frames_at size 8 (drop 8 ((D.state disk.old).reads file)) ≡ NoLog at }
+    ensures cause { IsErrOf result StoreFault →
+        Rose (D.state disk.old).faults (D.state disk.new).faults }
     ensures same { Reads file (D.state disk.old) (D.state disk.new) }
     ensures run { RunOn file (D.state disk.old) (D.state disk.new) }
-    ensures moments { LeavesOnly file (D.state disk.old) (D.state disk.new) ((D.state disk.old).leaves file) }
+    ensures moments { LeavesOnly file (D.state disk.old) (D.state disk.new)
+        ((D.state disk.old).leaves file) }
 {
     let mut window = Window::empty(alloc);
     let mut at: u64 = 8;

@@ -71,7 +71,8 @@ impl Log {
     ) -> Result<(Log, Frames), LogFault>
         requires { file < 2 }
 
-        ensures log { IfOk result (λ r. Tells (D.state disk.old) → ((payloads : List (List ℕ)) × (gate : ℕ)
+        ensures log { IfOk result
+            (λ r. Tells (D.state disk.old) → ((payloads : List (List ℕ)) × (gate : ℕ)
             × (log_of file ((D.state disk.old).reads file) ≡ Found payloads gate)
             × (view r.1 ≡ placed 8 payloads)
             × Stands (D.state disk.new) r.0 payloads None)) }
@@ -84,8 +85,10 @@ impl Log {
 
         // A crash at any moment leaves what it might have left before, or the log found, or that log
         // with its end gate read as 1.
-        ensures any_moment { Tells (D.state disk.old) → LeavesOnly file (D.state disk.old) (D.state disk.new)
-            (λ c. (D.state disk.old).leaves file c ⊎ IsAsFound file ((D.state disk.old).reads file) c) }
+        ensures any_moment { Tells (D.state disk.old) →
+            LeavesOnly file (D.state disk.old) (D.state disk.new)
+            (λ c. (D.state disk.old).leaves file c ⊎
+            IsAsFound file ((D.state disk.old).reads file) c) }
     {
         let (log, mut records) = Log::recover_records(alloc, disk, file)?;
         let frames = read_frames(alloc, disk, &mut records)?;
@@ -101,7 +104,8 @@ impl Log {
     ) -> Result<(Log, Records), LogFault>
         requires { file < 2 }
 
-        ensures log { IfOk result (λ r. Tells (D.state disk.old) → ((payloads : List (List ℕ)) × (gate : ℕ)
+        ensures log { IfOk result
+            (λ r. Tells (D.state disk.old) → ((payloads : List (List ℕ)) × (gate : ℕ)
             × (log_of file ((D.state disk.old).reads file) ≡ Found payloads gate)
             × Ahead (D.state disk.new) r.1 payloads
             × Stands (D.state disk.new) r.0 payloads None)) }
@@ -110,8 +114,10 @@ impl Log {
 
         // As for `recover`: a crash after the first sync, a crash at any moment.
         ensures opens { Recovers file (D.state disk.old) (D.state disk.new) (FailsAs result) }
-        ensures any_moment { Tells (D.state disk.old) → LeavesOnly file (D.state disk.old) (D.state disk.new)
-            (λ c. (D.state disk.old).leaves file c ⊎ IsAsFound file ((D.state disk.old).reads file) c) }
+        ensures any_moment { Tells (D.state disk.old) →
+            LeavesOnly file (D.state disk.old) (D.state disk.new)
+            (λ c. (D.state disk.old).leaves file c ⊎
+            IsAsFound file ((D.state disk.old).reads file) c) }
     {
         disk.sync(file)?; // What is read from here on is what a crash leaves.
         let (log, size) = Log::open_synced(alloc, disk, file)?;
@@ -123,18 +129,24 @@ impl Log {
     /// the size of the file. A crash leaves the log found, or that log with its end gate read as 1.
     fn open_synced<D: Disk>(alloc: Global, disk: &mut D, file: u8) -> Result<(Log, u64), LogFault>
         requires file { file < 2 }
-        requires synced { Tells (D.state disk.old) → Only ((D.state disk.old).reads file) ((D.state disk.old).leaves file) }
+        requires synced { Tells (D.state disk.old) →
+            Only ((D.state disk.old).reads file) ((D.state disk.old).leaves file) }
 
-        ensures log { IfOk result (λ r. Tells (D.state disk.old) → ((payloads : List (List ℕ)) × (gate : ℕ)
+        ensures log { IfOk result
+            (λ r. Tells (D.state disk.old) → ((payloads : List (List ℕ)) × (gate : ℕ)
             × (log_of file ((D.state disk.old).reads file) ≡ Found payloads gate)
             × (r.1 ≡ length ((D.state disk.new).reads file))
             × Stands (D.state disk.new) r.0 payloads None)) }
         ensures size { IfOk result (λ r. (8 < r.1) × (r.1 ≤ 2 ^ 62)) }
         ensures settled { IfOk result (λ r. (r.0.file ≡ file) × (r.0.unsettled ≡ None)) }
-        ensures damaged { (at : ℕ) → IsErrOf result (Damaged at) → Tells (D.state disk.old) → log_of file ((D.state disk.old).reads file) ≡ NoLog at }
-        ensures moments { Tells (D.state disk.old) → LeavesOnly file (D.state disk.old) (D.state disk.new) (IsRecovered file ((D.state disk.old).reads file)) }
+        ensures damaged { (at : ℕ) → IsErrOf result (Damaged at) → Tells (D.state disk.old) →
+            log_of file ((D.state disk.old).reads file) ≡ NoLog at }
+        ensures moments { Tells (D.state disk.old) →
+            LeavesOnly file (D.state disk.old) (D.state disk.new)
+            (IsRecovered file ((D.state disk.old).reads file)) }
         ensures run { RunOn file (D.state disk.old) (D.state disk.new) }
-        ensures cause { IsErrOf result StoreFault → Rose (D.state disk.old).faults (D.state disk.new).faults }
+        ensures cause { IsErrOf result StoreFault →
+            Rose (D.state disk.old).faults (D.state disk.new).faults }
     {
         let size = disk.len(file)?;
         if size <= 9 {
@@ -177,19 +189,25 @@ impl Log {
     ) -> Result<u64, LogFault>
         requires settled { self.old.unsettled ≡ None }
         requires payload { IsPayload payload.now }
-        requires stands { Tells (D.state disk.old) → ((payloads : List (List ℕ)) × Stands (D.state disk.old) self.old payloads None) }
+        requires stands { Tells (D.state disk.old) →
+            ((payloads : List (List ℕ)) × Stands (D.state disk.old) self.old payloads None) }
 
         ensures place { IfOk result (λ at. at ≡ self.old.end + 5) }
 
         // From then on every crash leaves a file with the payload.
-        ensures added { OnOk result (Tells (D.state disk.old) → (payloads : List (List ℕ)) → Stands (D.state disk.old) self.old payloads None
+        ensures added { OnOk result
+            (Tells (D.state disk.old) → (payloads : List (List ℕ)) →
+            Stands (D.state disk.old) self.old payloads None
             → Stands (D.state disk.new) self.new (payloads ++ payload.now ∷ []) None) }
 
         // A crash at any moment of the call leaves the payloads from before it, with or without the new one.
-        ensures any_moment { Tells (D.state disk.old) → (payloads : List (List ℕ)) → Stands (D.state disk.old) self.old payloads None
-            → LeavesOnly self.old.file (D.state disk.old) (D.state disk.new) (IsBeforeOrAfter self.old.file payloads payload.now) }
+        ensures any_moment { Tells (D.state disk.old) → (payloads : List (List ℕ)) →
+            Stands (D.state disk.old) self.old payloads None
+            → LeavesOnly self.old.file (D.state disk.old) (D.state disk.new)
+            (IsBeforeOrAfter self.old.file payloads payload.now) }
 
-        ensures unsettled { IsErrOf result StoreFault → Tells (D.state disk.old) → (payloads : List (List ℕ)) → Stands (D.state disk.old) self.old payloads None
+        ensures unsettled { IsErrOf result StoreFault → Tells (D.state disk.old) →
+            (payloads : List (List ℕ)) → Stands (D.state disk.old) self.old payloads None
             → Stands (D.state disk.new) self.new payloads (Some payload.now) }
         ensures memory { IsErrOf result NoMemory → (self.new ≡ self.old) × (disk.new ≡ disk.old) }
         ensures damaged { (at : ℕ) → IsErrOf result (Damaged at) → ⊥ }
@@ -197,7 +215,8 @@ impl Log {
         ensures file { self.new.file ≡ self.old.file }
         ensures now_settled { OnOk result (self.new.unsettled ≡ None) }
         ensures now_unsettled { IsErrOf result StoreFault → IsSome self.new.unsettled }
-        ensures cause { IsErrOf result StoreFault → Rose (D.state disk.old).faults (D.state disk.new).faults }
+        ensures cause { IsErrOf result StoreFault →
+            Rose (D.state disk.old).faults (D.state disk.new).faults }
     {
         let mut behind = Vec::new(alloc);
         behind.extend_from_slice(&(payload.len() as u32).to_be_bytes())?;
@@ -219,14 +238,27 @@ impl Log {
     /// sync. After `StoreFault`, the only error, the payload is still unsettled.
     pub fn settle<D: Disk>(&mut self, disk: &mut D) -> Result<bool, LogFault>
         requires unsettled { IsSome self.old.unsettled }
-        requires stands { Tells (D.state disk.old) → ((payloads : List (List ℕ)) × (payload : List ℕ) × Stands (D.state disk.old) self.old payloads (Some payload)) }
+        requires stands { Tells (D.state disk.old) →
+            ((payloads : List (List ℕ)) × (payload : List ℕ) ×
+            Stands (D.state disk.old) self.old payloads (Some payload)) }
 
-        ensures settled { IfOk result (λ kept. Tells (D.state disk.old) → (payloads : List (List ℕ)) (payload : List ℕ) → Stands (D.state disk.old) self.old payloads (Some payload)
-            → Stands (D.state disk.new) self.new (if kept then payloads ++ payload ∷ [] else payloads) None) }
-        ensures kept { IfOk result (λ kept. Tells (D.state disk.old) → (IsTrue kept ↔ (slice_get ((D.state disk.old).reads self.old.file) self.old.end ≡ Some 1))) }
-        ensures any_moment { Tells (D.state disk.old) → (payloads : List (List ℕ)) (payload : List ℕ) → Stands (D.state disk.old) self.old payloads (Some payload)
-            → LeavesOnly self.old.file (D.state disk.old) (D.state disk.new) (IsBeforeOrAfter self.old.file payloads payload) }
-        ensures unsettled { IsErr result → Tells (D.state disk.old) → (payloads : List (List ℕ)) (payload : List ℕ) → Stands (D.state disk.old) self.old payloads (Some payload)
+        ensures settled { IfOk result
+            (λ kept. Tells (D.state disk.old) → (payloads : List (List ℕ)) (payload : List ℕ) →
+            Stands (D.state disk.old) self.old payloads (Some payload)
+            → Stands (D.state disk.new) self.new
+            (if kept then payloads ++ payload ∷ [] else payloads) None) }
+        ensures kept { IfOk result
+            (λ kept. Tells (D.state disk.old) →
+            (IsTrue kept ↔
+            (slice_get ((D.state disk.old).reads self.old.file) self.old.end ≡ Some 1))) }
+        ensures any_moment { Tells (D.state disk.old) →
+            (payloads : List (List ℕ)) (payload : List ℕ) →
+            Stands (D.state disk.old) self.old payloads (Some payload)
+            → LeavesOnly self.old.file (D.state disk.old) (D.state disk.new)
+            (IsBeforeOrAfter self.old.file payloads payload) }
+        ensures unsettled { IsErr result → Tells (D.state disk.old) →
+            (payloads : List (List ℕ)) (payload : List ℕ) →
+            Stands (D.state disk.old) self.old payloads (Some payload)
             → Stands (D.state disk.new) self.new payloads (Some payload) }
         ensures fault { IsErr result → IsErrOf result StoreFault }
         ensures run { RunOn self.old.file (D.state disk.old) (D.state disk.new) }

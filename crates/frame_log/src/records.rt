@@ -52,20 +52,27 @@ impl Records {
     /// Copies the payload of `count` bytes at an offset.
     fn copy_payload<D: Disk>(&mut self, disk: &mut D, at: u64, count: u32) -> Result<(), LogFault>
         requires place { at + count ≤ self.old.size }
-        requires size { Tells (D.state disk.old) → self.old.size ≡ length ((D.state disk.old).reads self.old.file) }
+        requires size { Tells (D.state disk.old) →
+            self.old.size ≡ length ((D.state disk.old).reads self.old.file) }
 
-        ensures copied { OnOk result (Tells (D.state disk.old) → HasBytesOf ((D.state disk.old).reads self.old.file) self.old.window
-            → self.new.payload.items ≡ take count (drop at ((D.state disk.old).reads self.old.file))) }
-        ensures window { Tells (D.state disk.old) → HasBytesOf ((D.state disk.old).reads self.old.file) self.old.window
+        ensures copied { OnOk result
+            (Tells (D.state disk.old) →
+            HasBytesOf ((D.state disk.old).reads self.old.file) self.old.window
+            → self.new.payload.items ≡
+            take count (drop at ((D.state disk.old).reads self.old.file))) }
+        ensures window { Tells (D.state disk.old) →
+            HasBytesOf ((D.state disk.old).reads self.old.file) self.old.window
             → HasBytesOf ((D.state disk.old).reads self.old.file) self.new.window }
         ensures file { self.new.file ≡ self.old.file }
         ensures size { self.new.size ≡ self.old.size }
         ensures at { self.new.at ≡ self.old.at }
         ensures fault { (e : ℕ) → IsErrOf result (Damaged e) → ⊥ }
-        ensures cause { IsErrOf result StoreFault → Rose (D.state disk.old).faults (D.state disk.new).faults }
+        ensures cause { IsErrOf result StoreFault →
+            Rose (D.state disk.old).faults (D.state disk.new).faults }
         ensures same { Reads self.old.file (D.state disk.old) (D.state disk.new) }
         ensures run { RunOn self.old.file (D.state disk.old) (D.state disk.new) }
-        ensures moments { LeavesOnly self.old.file (D.state disk.old) (D.state disk.new) ((D.state disk.old).leaves self.old.file) }
+        ensures moments { LeavesOnly self.old.file (D.state disk.old) (D.state disk.new)
+            ((D.state disk.old).leaves self.old.file) }
     {
         self.window
             .show(self.alloc, disk, self.file, at, count as usize)?;
@@ -79,11 +86,16 @@ impl Records {
     /// `Damaged` only if the disk doesn't tell what the file holds. After `None` and after an error the
     /// reader stays at the same place.
     pub fn next<D: Disk>(&mut self, disk: &mut D) -> Result<Option<u64>, LogFault>
-        requires ahead { Tells (D.state disk.old) → ((todo : List (List ℕ)) × Ahead (D.state disk.old) self.old todo) }
+        requires ahead { Tells (D.state disk.old) →
+            ((todo : List (List ℕ)) × Ahead (D.state disk.old) self.old todo) }
 
-        ensures first { IfOk result (λ found. Tells (D.state disk.old) → (todo : List (List ℕ)) → Ahead (D.state disk.old) self.old todo
+        ensures first { IfOk result
+            (λ found. Tells (D.state disk.old) → (todo : List (List ℕ)) →
+            Ahead (D.state disk.old) self.old todo
             → IsNextPayload (D.state disk.new) self.old self.new todo found) }
-        ensures kept { OnErr result (Tells (D.state disk.old) → (todo : List (List ℕ)) → Ahead (D.state disk.old) self.old todo
+        ensures kept { OnErr result
+            (Tells (D.state disk.old) → (todo : List (List ℕ)) →
+            Ahead (D.state disk.old) self.old todo
             → Ahead (D.state disk.new) self.new todo) }
         ensures damaged { (at : ℕ) → IsErrOf result (Damaged at) → Tells (D.state disk.old) → ⊥ }
 
@@ -91,10 +103,12 @@ impl Records {
         ensures nearer { IfOk result (λ found. IsSome found → left self.new < left self.old) }
 
         ensures file { self.new.file ≡ self.old.file }
-        ensures cause { IsErrOf result StoreFault → Rose (D.state disk.old).faults (D.state disk.new).faults }
+        ensures cause { IsErrOf result StoreFault →
+            Rose (D.state disk.old).faults (D.state disk.new).faults }
         ensures same { Reads self.old.file (D.state disk.old) (D.state disk.new) }
         ensures run { RunOn self.old.file (D.state disk.old) (D.state disk.new) }
-        ensures moments { LeavesOnly self.old.file (D.state disk.old) (D.state disk.new) ((D.state disk.old).leaves self.old.file) }
+        ensures moments { LeavesOnly self.old.file (D.state disk.old) (D.state disk.new)
+            ((D.state disk.old).leaves self.old.file) }
     {
         let gate = self.at;
         // A frame and the gates before and after it take at least seven bytes.

@@ -31,12 +31,16 @@ fn read_window<D: Disk>(
     requires place { Tells (D.state disk.old) → from ≤ length ((D.state disk.old).reads file) }
 
     ensures from { IfOk result (λ window. window.from ≡ from) }
-    ensures window { IfOk result (λ window. Tells (D.state disk.old) → Shows ((D.state disk.old).reads file) window from size) }
+    ensures window { IfOk result
+        (λ window. Tells (D.state disk.old) →
+        Shows ((D.state disk.old).reads file) window from size) }
     ensures fault { (e : ℕ) → IsErrOf result (Damaged e) → ⊥ }
-    ensures cause { IsErrOf result StoreFault → Rose (D.state disk.old).faults (D.state disk.new).faults }
+    ensures cause { IsErrOf result StoreFault →
+        Rose (D.state disk.old).faults (D.state disk.new).faults }
     ensures same { Reads file (D.state disk.old) (D.state disk.new) }
     ensures run { RunOn file (D.state disk.old) (D.state disk.new) }
-    ensures moments { LeavesOnly file (D.state disk.old) (D.state disk.new) ((D.state disk.old).leaves file) }
+    ensures moments { LeavesOnly file (D.state disk.old) (D.state disk.new)
+        ((D.state disk.old).leaves file) }
 {
     let mut bytes = vec![in alloc; 0u8; size]?;
     let count = disk.read(file, from, &mut bytes)?;
@@ -85,13 +89,17 @@ impl Window {
         requires place { Tells (D.state disk.old) → at ≤ length ((D.state disk.old).reads file) }
 
         ensures begins { OnOk result (self.new.from ≤ at) }
-        ensures shows { OnOk result (Tells (D.state disk.old) → HasBytesOf ((D.state disk.old).reads file) self.old → Shows ((D.state disk.old).reads file) self.new at want) }
+        ensures shows { OnOk result
+            (Tells (D.state disk.old) → HasBytesOf ((D.state disk.old).reads file) self.old →
+            Shows ((D.state disk.old).reads file) self.new at want) }
         ensures kept { OnErr result (self.new ≡ self.old) }
         ensures fault { (e : ℕ) → IsErrOf result (Damaged e) → ⊥ }
-        ensures cause { IsErrOf result StoreFault → Rose (D.state disk.old).faults (D.state disk.new).faults }
+        ensures cause { IsErrOf result StoreFault →
+            Rose (D.state disk.old).faults (D.state disk.new).faults }
         ensures same { Reads file (D.state disk.old) (D.state disk.new) }
         ensures run { RunOn file (D.state disk.old) (D.state disk.new) }
-        ensures moments { LeavesOnly file (D.state disk.old) (D.state disk.new) ((D.state disk.old).leaves file) }
+        ensures moments { LeavesOnly file (D.state disk.old) (D.state disk.new)
+            ((D.state disk.old).leaves file) }
     {
         if self.has(at, want) {
             return Ok(());

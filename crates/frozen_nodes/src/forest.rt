@@ -38,7 +38,10 @@ impl Model for Forest {
 
     ghost view = { λ forest. record { nodes = nodes_in forest.names.items forest.kids.items forest.nodes.items; room = record { nodes = min (vec_capacity forest.nodes - vec_len forest.nodes) (4294967295 - vec_len forest.nodes); kids = vec_capacity forest.kids - vec_len forest.kids; bytes = vec_capacity forest.names - vec_len forest.names } } };
 
-    ghost invariant = { λ forest. IsForest (nodes_in forest.names.items forest.kids.items forest.nodes.items) × AllInside (length forest.names.items) (length forest.kids.items) forest.nodes.items × (vec_len forest.nodes ≤ 4294967295) };
+    ghost invariant = { λ forest.
+        IsForest (nodes_in forest.names.items forest.kids.items forest.nodes.items) ×
+        AllInside (length forest.names.items) (length forest.kids.items) forest.nodes.items ×
+        (vec_len forest.nodes ≤ 4294967295) };
 }
 
 fn append_bytes(all: &mut Vec<u8>, bytes: &[u8])
@@ -68,16 +71,24 @@ fn append(
     name: &[u8],
     kids: &[u32],
 )
-    requires inside { AllInside (length names.old.items) (length all_kids.old.items) nodes.old.items }
+    requires inside { AllInside (length names.old.items) (length all_kids.old.items)
+        nodes.old.items }
     requires few { length kids.now ≤ 4294967295 }
     requires short { length name.now ≤ 255 }
     requires nodes_fit { vec_len nodes.old < vec_capacity nodes.old }
     requires kids_fit { vec_len all_kids.old + length kids.now ≤ vec_capacity all_kids.old }
     requires bytes_fit { vec_len names.old + length name.now ≤ vec_capacity names.old }
-    ensures nodes { nodes_in names.new.items all_kids.new.items nodes.new.items ≡ nodes_in names.old.items all_kids.old.items nodes.old.items ++ record { name = name.now; row = row; kids = kids.now } ∷ [] }
-    ensures inside { AllInside (length names.new.items) (length all_kids.new.items) nodes.new.items }
-    ensures lens { (vec_len nodes.new ≡ vec_len nodes.old + 1) × (vec_len all_kids.new ≡ vec_len all_kids.old + length kids.now) × (vec_len names.new ≡ vec_len names.old + length name.now) }
-    ensures capacities { (vec_capacity nodes.old ≤ vec_capacity nodes.new) × (vec_capacity all_kids.old ≤ vec_capacity all_kids.new) × (vec_capacity names.old ≤ vec_capacity names.new) }
+    ensures nodes { nodes_in names.new.items all_kids.new.items nodes.new.items ≡
+        nodes_in names.old.items all_kids.old.items nodes.old.items ++
+        record { name = name.now; row = row; kids = kids.now } ∷ [] }
+    ensures inside { AllInside (length names.new.items) (length all_kids.new.items)
+        nodes.new.items }
+    ensures lens { (vec_len nodes.new ≡ vec_len nodes.old + 1) ×
+        (vec_len all_kids.new ≡ vec_len all_kids.old + length kids.now) ×
+        (vec_len names.new ≡ vec_len names.old + length name.now) }
+    ensures capacities { (vec_capacity nodes.old ≤ vec_capacity nodes.new) ×
+        (vec_capacity all_kids.old ≤ vec_capacity all_kids.new) ×
+        (vec_capacity names.old ≤ vec_capacity names.new) }
 {
     let node = Node {
         row,
@@ -174,9 +185,11 @@ impl Forest {
         requires few { length kids.now ≤ 4294967295 }
         requires short { length name.now ≤ 255 }
         requires room { HasRoom 1 (length kids.now) (length name.now) self.old.room }
-        ensures nodes { self.new.nodes ≡ self.old.nodes ++ record { name = name.now; row = row; kids = kids.now } ∷ [] }
+        ensures nodes { self.new.nodes ≡
+            self.old.nodes ++ record { name = name.now; row = row; kids = kids.now } ∷ [] }
         ensures number { result ≡ length self.old.nodes }
-        ensures rows { rows_from self.new.nodes result ≡ rows_of_node self.old.nodes (record { name = name.now; row = row; kids = kids.now }) }
+        ensures rows { rows_from self.new.nodes result ≡
+            rows_of_node self.old.nodes (record { name = name.now; row = row; kids = kids.now }) }
         ensures others { KeepsNodes self.old.nodes self.new.nodes }
         ensures spent { IsLess 1 (length kids.now) (length name.now) self.old.room self.new.room }
     {
@@ -198,9 +211,14 @@ impl Forest {
         requires kids { AreKids self.old.nodes (length self.old.nodes) kids.now }
         requires few { length kids.now ≤ 4294967295 }
         requires short { length name.now ≤ 255 }
-        ensures ok { OnOk result (self.new.nodes ≡ self.old.nodes ++ record { name = name.now; row = row; kids = kids.now } ∷ []) }
+        ensures ok { OnOk result
+            (self.new.nodes ≡
+            self.old.nodes ++ record { name = name.now; row = row; kids = kids.now } ∷ []) }
         ensures number { IfOk result (λ n. n ≡ length self.old.nodes) }
-        ensures rows { IfOk result (λ n. rows_from self.new.nodes n ≡ rows_of_node self.old.nodes (record { name = name.now; row = row; kids = kids.now })) }
+        ensures rows { IfOk result
+            (λ n. rows_from self.new.nodes n ≡
+            rows_of_node self.old.nodes
+            (record { name = name.now; row = row; kids = kids.now })) }
         ensures others { OnOk result (KeepsNodes self.old.nodes self.new.nodes) }
         ensures err { OnErr result (self.new.nodes ≡ self.old.nodes) }
         ensures room { HasRoom 1 (length kids.now) (length name.now) self.old.room → IsOk result }
@@ -211,7 +229,10 @@ impl Forest {
 
     /// Returns whether there is a node at a number, with this row, this name and these kids.
     fn is_node(&self, n: u32, row: &Row, name: &[u8], kids: &[u32]) -> bool
-        ensures { IsTrue result ↔ ((n < length self.now.nodes) × (node_at self.now.nodes n ≡ record { name = name.now; row = row.now; kids = kids.now })) }
+        ensures { IsTrue result ↔
+            ((n < length self.now.nodes) ×
+            (node_at self.now.nodes n ≡
+            record { name = name.now; row = row.now; kids = kids.now })) }
     {
         if (n as usize) >= self.nodes.len() {
             return false;
@@ -230,10 +251,14 @@ impl Forest {
         requires short { length name.now ≤ 255 }
         requires room { HasRoom 1 (length kids.now) (length name.now) self.old.room }
         ensures within { result < length self.new.nodes }
-        ensures node { node_at self.new.nodes result ≡ record { name = name.now; row = row; kids = kids.now } }
-        ensures rows { rows_from self.new.nodes result ≡ rows_of_node self.old.nodes (record { name = name.now; row = row; kids = kids.now }) }
+        ensures node { node_at self.new.nodes result ≡
+            record { name = name.now; row = row; kids = kids.now } }
+        ensures rows { rows_from self.new.nodes result ≡
+            rows_of_node self.old.nodes (record { name = name.now; row = row; kids = kids.now }) }
         ensures others { KeepsNodes self.old.nodes self.new.nodes }
-        ensures shared { hint < length self.old.nodes → node_at self.old.nodes hint ≡ record { name = name.now; row = row; kids = kids.now } → (result ≡ hint) × (self.new ≡ self.old) }
+        ensures shared { hint < length self.old.nodes →
+            node_at self.old.nodes hint ≡ record { name = name.now; row = row; kids = kids.now } →
+            (result ≡ hint) × (self.new ≡ self.old) }
         ensures spent { IsLess 1 (length kids.now) (length name.now) self.old.room self.new.room }
     {
         self.invariants();

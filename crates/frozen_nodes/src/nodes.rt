@@ -52,7 +52,14 @@ impl Model for Node {
 
     ghost Value = { PlacedNode };
 
-    ghost view = { λ node. record { row = node.row; name = node.name; name_len = node.name_len; kids = node.kids; kid_count = node.kid_count } };
+    ghost view = { λ node.
+        record {
+          row = node.row;
+          name = node.name;
+          name_len = node.name_len;
+          kids = node.kids;
+          kid_count = node.kid_count;
+        } };
 }
 
 impl Node {

@@ -39,7 +39,11 @@ impl Model for CopyBuffer {
 
     ghost Value = { CopyRoom };
 
-    ghost view = { λ buffer. record { kids = vec_capacity buffer.kids - vec_len buffer.kids; bytes = vec_capacity buffer.name } };
+    ghost view = { λ buffer.
+        record {
+          kids = vec_capacity buffer.kids - vec_len buffer.kids;
+          bytes = vec_capacity buffer.name;
+        } };
 }
 
 impl CopyBuffer {
@@ -73,7 +77,8 @@ impl CopyBuffer {
         hint: u32,
     ) -> u32
         requires block { IsBlock tree.now.rows path.now at end }
-        requires room { FitsCopies (length (rows_below tree.now.rows path.now)) forest.old.room self.old }
+        requires room { FitsCopies (length (rows_below tree.now.rows path.now)) forest.old.room
+            self.old }
         ensures rows { rows_from forest.new.nodes result ≡ rows_below tree.now.rows path.now }
         ensures within { result < length forest.new.nodes }
         ensures others { KeepsNodes forest.old.nodes forest.new.nodes }
@@ -172,8 +177,10 @@ pub fn reserve_take(
 ) -> Result<(), NoMemory>
     requires { IsSome (row_at tree.now.rows path.now) }
     ensures same { forest.new.nodes ≡ forest.old.nodes }
-    ensures ok { OnOk result (FitsCopies (length (rows_below tree.now.rows path.now)) forest.new.room buffer.new) }
-    ensures room { FitsCopies (length (rows_below tree.now.rows path.now)) forest.old.room buffer.old → IsOk result }
+    ensures ok { OnOk result
+        (FitsCopies (length (rows_below tree.now.rows path.now)) forest.new.room buffer.new) }
+    ensures room { FitsCopies (length (rows_below tree.now.rows path.now)) forest.old.room
+        buffer.old → IsOk result }
 {
     reserve_rows(forest, buffer, row_count(tree, path))
 }
@@ -191,12 +198,15 @@ pub fn take(
     near: u32,
 ) -> Result<FrozenRows, NoMemory>
     requires { IsSome (row_at tree.now.rows path.now) }
-    ensures rows { IfOk result (λ frozen. rows_from forest.new.nodes frozen.root ≡ rows_below tree.now.rows path.now) }
-    ensures count { IfOk result (λ frozen. frozen.count ≡ length (rows_below tree.now.rows path.now)) }
+    ensures rows { IfOk result
+        (λ frozen. rows_from forest.new.nodes frozen.root ≡ rows_below tree.now.rows path.now) }
+    ensures count { IfOk result
+        (λ frozen. frozen.count ≡ length (rows_below tree.now.rows path.now)) }
     ensures within { IfOk result (λ frozen. frozen.root < length forest.new.nodes) }
     ensures others { KeepsNodes forest.old.nodes forest.new.nodes }
     ensures err { OnErr result (forest.new.nodes ≡ forest.old.nodes) }
-    ensures room { FitsCopies (length (rows_below tree.now.rows path.now)) forest.old.room buffer.old → IsOk result }
+    ensures room { FitsCopies (length (rows_below tree.now.rows path.now)) forest.old.room
+        buffer.old → IsOk result }
 {
     reserve_take(forest, buffer, tree, path)?;
     let block = block_of(tree, path);

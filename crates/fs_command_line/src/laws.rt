@@ -11,16 +11,24 @@ ghost use Rattle.fs_command_line.specs.declared.order.FsOrder.TheVariants as ord
 pub fn words_name_their_order()
     ensures spelled { (o : FsOrder) (words : List Text) → IsSpelled o words → Names o words }
     ensures right { (o : FsOrder) (words : List Text) → Names o words → HasRightValues o }
-    ensures put { Names (order.Put (codes "alice") (codes "/b")) (codes "put" ∷ codes "alice" ∷ codes "/b" ∷ []) }
+    ensures put { Names (order.Put (codes "alice") (codes "/b"))
+        (codes "put" ∷ codes "alice" ∷ codes "/b" ∷ []) }
 {}
 
 /// A user of no byte or of more than 255 is a mistake, and so are a number of 2^63 or more, a number with a
 /// leading zero or a sign, a word too few, and a word too many.
 pub fn other_words_are_refused()
-    ensures user { (user path : Text) → IsPlain user → IsPlain path → ¬ ((1 ≤ length user) × (length user ≤ 255)) → IsMistake (line_fault (codes "put" ∷ user ∷ path ∷ [])) }
-    ensures number { (number : ℕ) → number < 2 ^ 64 → 2 ^ 63 ≤ number → IsMistake (line_fault (codes "read" ∷ codes "alice" ∷ codes "/b" ∷ codes "0" ∷ decimal number ∷ [])) }
-    ensures zeros { IsMistake (line_fault (codes "read" ∷ codes "alice" ∷ codes "/b" ∷ codes "00" ∷ codes "1" ∷ [])) }
-    ensures sign { IsMistake (line_fault (codes "read" ∷ codes "alice" ∷ codes "/b" ∷ codes "0" ∷ codes "+1" ∷ [])) }
+    ensures user { (user path : Text) → IsPlain user → IsPlain path →
+        ¬ ((1 ≤ length user) × (length user ≤ 255)) →
+        IsMistake (line_fault (codes "put" ∷ user ∷ path ∷ [])) }
+    ensures number { (number : ℕ) → number < 2 ^ 64 → 2 ^ 63 ≤ number →
+        IsMistake
+        (line_fault (codes "read" ∷ codes "alice" ∷ codes "/b" ∷ codes "0" ∷ decimal number ∷ [])) }
+    ensures zeros { IsMistake
+        (line_fault (codes "read" ∷ codes "alice" ∷ codes "/b" ∷ codes "00" ∷ codes "1" ∷ [])) }
+    ensures sign { IsMistake
+        (line_fault (codes "read" ∷ codes "alice" ∷ codes "/b" ∷ codes "0" ∷ codes "+1" ∷ [])) }
     ensures one_less { IsMistake (line_fault (codes "put" ∷ codes "alice" ∷ [])) }
-    ensures one_more { IsMistake (line_fault (codes "put" ∷ codes "alice" ∷ codes "/b" ∷ codes "/c" ∷ [])) }
+    ensures one_more { IsMistake
+        (line_fault (codes "put" ∷ codes "alice" ∷ codes "/b" ∷ codes "/c" ∷ [])) }
 {}

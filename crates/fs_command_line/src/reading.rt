@@ -78,8 +78,12 @@ fn copy(alloc: Global, word: &str) -> Result<Text, OrderFault>
 /// Returns the order to put a file with these values.
 fn put_order(alloc: Global, values: &ArgMatches) -> Result<FsOrder, OrderFault>
     ensures { MatchResult result
-        (λ order. put_order (user_in (rows_of (found_of values.now))) (path_in (rows_of (found_of values.now))) ≡ Some order)
-        (λ fault. fault ≡ OrderFault.Usage → put_order (user_in (rows_of (found_of values.now))) (path_in (rows_of (found_of values.now))) ≡ None) }
+        (λ order.
+        put_order (user_in (rows_of (found_of values.now)))
+        (path_in (rows_of (found_of values.now))) ≡ Some order)
+        (λ fault. fault ≡ OrderFault.Usage →
+        put_order (user_in (rows_of (found_of values.now)))
+        (path_in (rows_of (found_of values.now))) ≡ None) }
 {
     let Some(user) = user_in(values) else {
         return Err(OrderFault::Usage);
@@ -124,7 +128,8 @@ fn read_order_in(alloc: Global, values: &ArgMatches) -> Result<FsOrder, OrderFau
 fn order_named(alloc: Global, name: &str, values: &ArgMatches) -> Result<FsOrder, OrderFault>
     ensures { MatchResult result
         (λ order. order_named name.now (rows_of (found_of values.now)) ≡ Some order)
-        (λ fault. fault ≡ OrderFault.Usage → order_named name.now (rows_of (found_of values.now)) ≡ None) }
+        (λ fault. fault ≡ OrderFault.Usage →
+        order_named name.now (rows_of (found_of values.now)) ≡ None) }
 {
     if name == "put" {
         put_order(alloc, values)
@@ -157,7 +162,11 @@ fn text_of(alloc: Global, error: &Error) -> Result<String, OrderFault>
 /// Returns what to do if there are no matches: show a text, or report a fault.
 fn without_matches(alloc: Global, error: &Error) -> Result<FsOrder, OrderFault>
     ensures shown { IfOk result (λ order. IsShown order (kind_of error.now)) }
-    ensures usage { IfErr result (λ fault. fault ≡ OrderFault.Usage → (kind_of error.now ≢ ErrorKind.OutOfMemory) × (kind_of error.now ≢ ErrorKind.DisplayHelp) × (kind_of error.now ≢ ErrorKind.DisplayVersion)) }
+    ensures usage { IfErr result
+        (λ fault. fault ≡ OrderFault.Usage →
+        (kind_of error.now ≢ ErrorKind.OutOfMemory) ×
+        (kind_of error.now ≢ ErrorKind.DisplayHelp) ×
+        (kind_of error.now ≢ ErrorKind.DisplayVersion)) }
 {
     match error.kind() {
         ErrorKind::OutOfMemory => Err(OrderFault::NoMemory),
@@ -170,7 +179,8 @@ fn without_matches(alloc: Global, error: &Error) -> Result<FsOrder, OrderFault>
 /// Does what `read_order` does, for words of any type.
 fn read<'a, S: AsStr>(alloc: Global, words: &'a [S]) -> Result<FsOrder, OrderFault>
     ensures ok { IfOk result (λ order. Answers order (map S.text words.entry.now)) }
-    ensures usage { IfErr result (λ fault. fault ≡ OrderFault.Usage → HasMistake (line_fault (map S.text words.entry.now))) }
+    ensures usage { IfErr result
+        (λ fault. fault ≡ OrderFault.Usage → HasMistake (line_fault (map S.text words.entry.now))) }
 {
     let command = hkfs(alloc)?;
     match command.try_get_matches_from(words) {
@@ -195,9 +205,12 @@ fn texts_of<'w>(alloc: Global, words: &'w [Text]) -> Result<Vec<&'w str>, AllocE
 /// any other answer.
 pub fn read_order(alloc: Global, words: &[Text]) -> Result<FsOrder, OrderFault>
     ensures ok { IfOk result (λ order. Answers order words.now) }
-    ensures usage { IfErr result (λ fault. fault ≡ OrderFault.Usage → IsMistake (line_fault words.now)) }
-    ensures mistake { IsMistake (line_fault words.now) → (result ≡ Err OrderFault.Usage) ⊎ (result ≡ Err OrderFault.NoMemory) }
-    ensures named { (order : AnOrder) → IsSpelled order words.now → (result ≡ Ok order) ⊎ (result ≡ Err OrderFault.NoMemory) }
+    ensures usage { IfErr result
+        (λ fault. fault ≡ OrderFault.Usage → IsMistake (line_fault words.now)) }
+    ensures mistake { IsMistake (line_fault words.now) →
+        (result ≡ Err OrderFault.Usage) ⊎ (result ≡ Err OrderFault.NoMemory) }
+    ensures named { (order : AnOrder) → IsSpelled order words.now →
+        (result ≡ Ok order) ⊎ (result ≡ Err OrderFault.NoMemory) }
     ensures help { FindsHelp words.now → ShownAs IsHelp result }
     ensures version { FindsVersion words.now → ShownAs IsVersion result }
     ensures values { IfOk result HasRightValues }

@@ -80,7 +80,8 @@ impl<C: Core, N: Naming> Cell<C, N> {
         C: Holds,
         requires allowed { C.allows pass.old.seen call }
         requires alone { C.alone call }
-        ensures lent { IfOk result (λ r. Lends C.step C.allows C.lends pass.old call r.0 pass.new r.1) }
+        ensures lent { IfOk result
+            (λ r. Lends C.step C.allows C.lends pass.old call r.0 pass.new r.1) }
         ensures none { IfErr result (λ _. pass.new ≡ pass.old) }
     {
         self.lock

@@ -35,13 +35,16 @@ pub trait Core {
         ensures { acts self.old call result self.new };
 
     /// What a history allows, each longer one allows too.
-    ghost grows: { (es fs : List (AnEntry Self.Call Self.Reply Self)) (q : Self.Call) → IsPrefix es fs → allows es q → allows fs q };
+    ghost grows: { (es fs : List (AnEntry Self.Call Self.Reply Self)) (q : Self.Call) →
+        IsPrefix es fs → allows es q → allows fs q };
 
     /// A legal history that allows a call ends in a state that can answer it.
-    ghost fits: { (s : Self) (es : List (AnEntry Self.Call Self.Reply Self)) (q : Self.Call) → sound s → Legal step allows s es → allows es q → can (state_after s es) q };
+    ghost fits: { (s : Self) (es : List (AnEntry Self.Call Self.Reply Self)) (q : Self.Call) →
+        sound s → Legal step allows s es → allows es q → can (state_after s es) q };
 
     /// What `act` does for a call that needs no pass of another cell is a step.
-    ghost plain: { (s t : Self) (q : Self.Call) (r : Self.Reply) → can s q → alone q → acts s q r t → step s q r t };
+    ghost plain: { (s t : Self) (q : Self.Call) (r : Self.Reply) → can s q → alone q →
+        acts s q r t → step s q r t };
 }
 
 /// Answers a call that needs no pass of another cell.

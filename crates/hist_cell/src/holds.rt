@@ -56,16 +56,21 @@ pub trait Holds: Core {
         ensures lent { IfOk result (λ w. lends self.old w) };
 
     /// A pass that a call needs after a history, it needs after each longer one.
-    ghost needs_grow: { (es fs : List (AnEntry Self.Call Self.Reply Self)) (q : Self.Call) (w : Self.OtherPass) → IsPrefix es fs → needs es q w → needs fs q w };
+    ghost needs_grow: { (es fs : List (AnEntry Self.Call Self.Reply Self)) (q : Self.Call)
+        (w : Self.OtherPass) → IsPrefix es fs → needs es q w → needs fs q w };
 
     /// A pass that a call needs after a legal history suits it in the state after that history.
-    ghost needs_fit: { (s : Self) (es : List (AnEntry Self.Call Self.Reply Self)) (q : Self.Call) (w : Self.OtherPass) → Self.sound s → Legal Self.step Self.allows s es → needs es q w → suits (state_after s es) q w };
+    ghost needs_fit: { (s : Self) (es : List (AnEntry Self.Call Self.Reply Self)) (q : Self.Call)
+        (w : Self.OtherPass) → Self.sound s → Legal Self.step Self.allows s es → needs es q w →
+        suits (state_after s es) q w };
 
     /// A call that a state can answer can still be answered once a pass was taken in.
-    ghost still_can: { (s m : Self) (w : Self.OtherPass) (q : Self.Call) → takes s w m → Self.can s q → Self.can m q };
+    ghost still_can: { (s m : Self) (w : Self.OtherPass) (q : Self.Call) → takes s w m →
+        Self.can s q → Self.can m q };
 
     /// Taking in a pass that suits the call, and then answering the call, is one step.
-    ghost meeting: { (s m t : Self) (w : Self.OtherPass) (q : Self.Call) (r : Self.Reply) → suits s q w → takes s w m → Self.acts m q r t → Self.step s q r t };
+    ghost meeting: { (s m t : Self) (w : Self.OtherPass) (q : Self.Call) (r : Self.Reply) →
+        suits s q w → takes s w m → Self.acts m q r t → Self.step s q r t };
 }
 
 /// Meets a pass into the kept one, and answers the call.

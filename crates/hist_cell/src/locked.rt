@@ -109,7 +109,8 @@ impl<C: Core, N: Naming> Locked<C, N> {
         requires word { (word.now.table_id ≡ N.table) × (0 < word.now.table_id.words) }
         requires allowed { C.allows pass.old.seen call }
         requires needs { C.needs pass.old.seen call with }
-        ensures acts { MakesEntryOn C.step C.allows self.old pass.old call result pass.new self.new }
+        ensures acts { MakesEntryOn C.step C.allows self.old pass.old call result pass.new
+            self.new }
         ensures meets { (met : C) × C.takes self.old with met × C.acts met call result self.new }
     {
         let turn: Place<C> = mem::replace(&mut self.turn, Badge::blank()).into_seat();
@@ -138,7 +139,8 @@ impl<C: Core, N: Naming> Locked<C, N> {
         requires word { (word.now.table_id ≡ N.table) × (0 < word.now.table_id.words) }
         requires allowed { C.allows pass.old.seen call }
         requires alone { C.alone call }
-        ensures lent { IfOk result (λ r. Lends C.step C.allows C.lends pass.old call r.0 pass.new r.1) }
+        ensures lent { IfOk result
+            (λ r. Lends C.step C.allows C.lends pass.old call r.0 pass.new r.1) }
         ensures none { IfErr result (λ _. pass.new ≡ pass.old) }
     {
         let lent = self.core.lend(rt, other)?;

@@ -29,7 +29,8 @@ impl<C: Core> Model for Opened<C> {
 
     ghost view = { λ o. record { table = o.table.shared.table_id; core = o.core } };
 
-    ghost invariant = { λ o. IsOpened C.sound o.table.shared.table_id o.turn.table_id o.turn.me o.core };
+    ghost invariant = { λ o.
+        IsOpened C.sound o.table.shared.table_id o.turn.table_id o.turn.me o.core };
 }
 
 impl<C: Core + Drop> Opened<C> {

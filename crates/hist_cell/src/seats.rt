@@ -33,11 +33,17 @@ pub fn commit<C: Core, W: AddsEntry<EntryOf<C>>>(
     _reply: &C::Reply,
     _core: &C,
 ) -> u64
-    requires seat { (seat.old.table_id ≡ word.now.table_id) × (0 < word.now.table_id.words) × (seat.old.me.1 ≡ []) }
+    requires seat { (seat.old.table_id ≡ word.now.table_id) × (0 < word.now.table_id.words) ×
+        (seat.old.me.1 ≡ []) }
     requires turn { (seat.old.me.0.turn ≡ true) × (length seat.old.me.0.seen + 1 < 2 ^ 64) }
-    requires said { (e : AnEntry C.Call C.Reply C) × (W.entry ≡ Some e) × IsIn e.by seat.old.me.0.numbers × Follows C.step C.allows seat.old.me.0.start seat.old.me.0.seen e }
-    ensures seat { (seat.new.table_id ≡ seat.old.table_id) × (seat.new.id ≡ seat.old.id) × (seat.new.me.1 ≡ []) }
-    ensures entry { (e : AnEntry C.Call C.Reply C) × (W.entry ≡ Some e) × (seat.new.me.0 ≡ with_entry seat.old.me.0 e) × LegalOf C.step C.allows seat.old.me.0.start (seat.old.me.0.seen ++ e ∷ []) }
+    requires said { (e : AnEntry C.Call C.Reply C) × (W.entry ≡ Some e) ×
+        IsIn e.by seat.old.me.0.numbers ×
+        Follows C.step C.allows seat.old.me.0.start seat.old.me.0.seen e }
+    ensures seat { (seat.new.table_id ≡ seat.old.table_id) × (seat.new.id ≡ seat.old.id) ×
+        (seat.new.me.1 ≡ []) }
+    ensures entry { (e : AnEntry C.Call C.Reply C) × (W.entry ≡ Some e) ×
+        (seat.new.me.0 ≡ with_entry seat.old.me.0 e) ×
+        LegalOf C.step C.allows seat.old.me.0.start (seat.old.me.0.seen ++ e ∷ []) }
 {
     word.fetch_add::<Commit<C, W>>(seat, 0, 1)
 }
@@ -45,7 +51,8 @@ pub fn commit<C: Core, W: AddsEntry<EntryOf<C>>>(
 /// Reads the number of entries, which tells what the rule says of the view.
 pub fn learn<C: Core>(word: &Word<C>, seat: &mut Place<C>) -> u64
     requires seat { (seat.old.table_id ≡ word.now.table_id) × (0 < word.now.table_id.words) }
-    ensures same { (seat.new.table_id ≡ seat.old.table_id) × (seat.new.id ≡ seat.old.id) × (seat.new.me ≡ seat.old.me) }
+    ensures same { (seat.new.table_id ≡ seat.old.table_id) × (seat.new.id ≡ seat.old.id) ×
+        (seat.new.me ≡ seat.old.me) }
     ensures tells { Learns C.step C.allows seat.old.me.0 result }
 {
     word.load::<Learn<C>>(seat, 0)
@@ -54,9 +61,11 @@ pub fn learn<C: Core>(word: &Word<C>, seat: &mut Place<C>) -> u64
 /// Takes the turn. The view has then seen the whole history.
 pub fn take_turn<C: Core>(word: &Word<C>, seat: &mut Place<C>, turn: Place<C>)
     requires seat { (seat.old.table_id ≡ word.now.table_id) × (0 < word.now.table_id.words) }
-    requires turn { (turn.table_id ≡ word.now.table_id) × (turn.me.1 ≡ []) × (turn.me.0.turn ≡ true) }
+    requires turn { (turn.table_id ≡ word.now.table_id) × (turn.me.1 ≡ []) ×
+        (turn.me.0.turn ≡ true) }
     requires alive { seat.old.me.0.spent ≡ false }
-    ensures { (seat.new.table_id ≡ seat.old.table_id) × (seat.new.id ≡ seat.old.id) × (seat.new.me ≡ (with_turn seat.old.me.0 turn.me.0, seat.old.me.1)) }
+    ensures { (seat.new.table_id ≡ seat.old.table_id) × (seat.new.id ≡ seat.old.id) ×
+        (seat.new.me ≡ (with_turn seat.old.me.0 turn.me.0, seat.old.me.1)) }
 {
     word.join_seat::<TakeTurn>(seat, turn);
 }
@@ -66,7 +75,8 @@ pub fn unite<C: Core>(word: &Word<C>, seat: &mut Place<C>, other: Place<C>)
     requires seat { (seat.old.table_id ≡ word.now.table_id) × (0 < word.now.table_id.words) }
     requires other { (other.table_id ≡ word.now.table_id) × (other.me.1 ≡ []) }
     requires alive { (seat.old.me.0.spent ≡ false) × (other.me.0.spent ≡ false) }
-    ensures { (seat.new.table_id ≡ seat.old.table_id) × (seat.new.id ≡ seat.old.id) × (seat.new.me ≡ (united seat.old.me.0 other.me.0, seat.old.me.1)) }
+    ensures { (seat.new.table_id ≡ seat.old.table_id) × (seat.new.id ≡ seat.old.id) ×
+        (seat.new.me ≡ (united seat.old.me.0 other.me.0, seat.old.me.1)) }
 {
     word.join_seat::<Unite>(seat, other);
 }
@@ -75,8 +85,10 @@ pub fn unite<C: Core>(word: &Word<C>, seat: &mut Place<C>, other: Place<C>)
 pub fn give_turn<C: Core>(word: &Word<C>, seat: &mut Place<C>) -> Place<C>
     requires seat { (seat.old.table_id ≡ word.now.table_id) × (0 < word.now.table_id.words) }
     requires turn { seat.old.me.0.turn ≡ true }
-    ensures mine { (seat.new.table_id ≡ seat.old.table_id) × (seat.new.id ≡ seat.old.id) × (seat.new.me ≡ (without_turn seat.old.me.0, seat.old.me.1)) }
-    ensures turn { (result.table_id ≡ seat.old.table_id) × (result.me ≡ (turn_of seat.old.me.0, [])) }
+    ensures mine { (seat.new.table_id ≡ seat.old.table_id) × (seat.new.id ≡ seat.old.id) ×
+        (seat.new.me ≡ (without_turn seat.old.me.0, seat.old.me.1)) }
+    ensures turn { (result.table_id ≡ seat.old.table_id) ×
+        (result.me ≡ (turn_of seat.old.me.0, [])) }
 {
     word.split_seat::<GiveTurn>(seat)
 }
@@ -89,13 +101,28 @@ pub fn add_entry<C: Core>(
     reply: &C::Reply,
     core: &C,
 ) -> Place<C>
-    requires seat { (seat.old.table_id ≡ word.now.table_id) × (0 < word.now.table_id.words) × (seat.old.me.1 ≡ []) }
+    requires seat { (seat.old.table_id ≡ word.now.table_id) × (0 < word.now.table_id.words) ×
+        (seat.old.me.1 ≡ []) }
     requires turn { (seat.old.me.0.turn ≡ true) × (length seat.old.me.0.seen + 1 < 2 ^ 64) }
     requires number { IsIn (first_number seat.old.me.0.numbers) seat.old.me.0.numbers }
-    requires follows { Follows C.step C.allows seat.old.me.0.start seat.old.me.0.seen (entry_by seat.old.me.0 call.now.value reply.now core.now) }
-    ensures mine { (seat.new.table_id ≡ seat.old.table_id) × (seat.new.id ≡ seat.old.id) × (seat.new.me ≡ (without_turn (with_entry seat.old.me.0 (entry_by seat.old.me.0 call.now.value reply.now core.now)), [])) }
-    ensures turn { (result.table_id ≡ seat.old.table_id) × (result.me ≡ (turn_of (with_entry seat.old.me.0 (entry_by seat.old.me.0 call.now.value reply.now core.now)), [])) }
-    ensures legal { LegalOf C.step C.allows seat.old.me.0.start (seat.old.me.0.seen ++ entry_by seat.old.me.0 call.now.value reply.now core.now ∷ []) }
+    requires follows { Follows C.step C.allows seat.old.me.0.start seat.old.me.0.seen
+        (entry_by seat.old.me.0 call.now.value reply.now core.now) }
+    ensures mine { (seat.new.table_id ≡ seat.old.table_id) × (seat.new.id ≡ seat.old.id) ×
+        (seat.new.me ≡ (
+          without_turn
+              (with_entry seat.old.me.0
+              (entry_by seat.old.me.0 call.now.value reply.now core.now)),
+          [],
+        )) }
+    ensures turn { (result.table_id ≡ seat.old.table_id) ×
+        (result.me ≡ (
+          turn_of
+              (with_entry seat.old.me.0
+              (entry_by seat.old.me.0 call.now.value reply.now core.now)),
+          [],
+        )) }
+    ensures legal { LegalOf C.step C.allows seat.old.me.0.start
+        (seat.old.me.0.seen ++ entry_by seat.old.me.0 call.now.value reply.now core.now ∷ []) }
 {
     commit::<C, Brand>(word, seat, call, reply, core);
     give_turn(word, seat)
@@ -106,8 +133,10 @@ pub fn return_turn<C: Core>(word: &Word<C>, seat: &mut Place<C>) -> Place<C>
     requires seat { (seat.old.table_id ≡ word.now.table_id) × (0 < word.now.table_id.words) }
     requires turn { seat.old.me.0.turn ≡ true }
     requires held { seat.old.me.0.held ≡ seat.old.me.0.numbers }
-    ensures mine { (seat.new.table_id ≡ seat.old.table_id) × (seat.new.id ≡ seat.old.id) × (seat.new.me ≡ (as_before seat.old.me.0, seat.old.me.1)) }
-    ensures turn { (result.table_id ≡ seat.old.table_id) × (result.me ≡ (turn_of seat.old.me.0, [])) }
+    ensures mine { (seat.new.table_id ≡ seat.old.table_id) × (seat.new.id ≡ seat.old.id) ×
+        (seat.new.me ≡ (as_before seat.old.me.0, seat.old.me.1)) }
+    ensures turn { (result.table_id ≡ seat.old.table_id) ×
+        (result.me ≡ (turn_of seat.old.me.0, [])) }
 {
     word.split_seat::<ReturnTurn>(seat)
 }
@@ -116,8 +145,10 @@ pub fn return_turn<C: Core>(word: &Word<C>, seat: &mut Place<C>) -> Place<C>
 pub fn new_seat<C: Core>(word: &Word<C>, seat: &mut Place<C>) -> Place<C>
     requires seat { (seat.old.table_id ≡ word.now.table_id) × (0 < word.now.table_id.words) }
     requires turn { seat.old.me.0.turn ≡ true }
-    ensures mine { (seat.new.table_id ≡ seat.old.table_id) × (seat.new.id ≡ seat.old.id) × (seat.new.me ≡ (counted seat.old.me.0, seat.old.me.1)) }
-    ensures new { (result.table_id ≡ seat.old.table_id) × (result.me ≡ (newcomer seat.old.me.0, [])) }
+    ensures mine { (seat.new.table_id ≡ seat.old.table_id) × (seat.new.id ≡ seat.old.id) ×
+        (seat.new.me ≡ (counted seat.old.me.0, seat.old.me.1)) }
+    ensures new { (result.table_id ≡ seat.old.table_id) ×
+        (result.me ≡ (newcomer seat.old.me.0, [])) }
 {
     word.split_seat::<NewView>(seat)
 }
@@ -126,7 +157,8 @@ pub fn new_seat<C: Core>(word: &Word<C>, seat: &mut Place<C>) -> Place<C>
 pub fn has_room<C: Core, R: Wait>(rt: &R, word: &Word<C>, seat: &mut Place<C>) -> u64
     requires seat { (seat.old.table_id ≡ word.now.table_id) × (0 < word.now.table_id.words) }
     requires turn { seat.old.me.0.turn ≡ true }
-    ensures same { (seat.new.table_id ≡ seat.old.table_id) × (seat.new.id ≡ seat.old.id) × (seat.new.me ≡ seat.old.me) }
+    ensures same { (seat.new.table_id ≡ seat.old.table_id) × (seat.new.id ≡ seat.old.id) ×
+        (seat.new.me ≡ seat.old.me) }
     ensures tells { Learns C.step C.allows seat.old.me.0 result }
     ensures room { (result ≡ length seat.old.me.0.seen) × (result + 1 < 2 ^ 64) }
 {

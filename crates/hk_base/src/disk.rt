@@ -24,7 +24,8 @@ pub trait Disk {
     /// Returns the size of a file in bytes.
     fn len(&mut self, file: u8) -> Result<u64, Failed>
         requires { file < 2 }
-        ensures answer { IfOk result (λ n. Tells (state self.old) → n ≡ length ((state self.old).reads file)) }
+        ensures answer { IfOk result
+            (λ n. Tells (state self.old) → n ≡ length ((state self.old).reads file)) }
         ensures limit { IfOk result (λ n. n ≤ 2 ^ 62) }
         ensures same { Reads file (state self.old) (state self.new) }
         ensures call { CallOn file (state self.old) (state self.new) }
@@ -36,8 +37,12 @@ pub trait Disk {
         requires file { file < 2 }
         requires place { Tells (state self.old) → at ≤ length ((state self.old).reads file) }
         ensures count { IfOk result (λ n. n ≤ length buf.new) }
-        ensures answer { IfOk result (λ n. Tells (state self.old) → n ≡ min (length buf.new) (length ((state self.old).reads file) - at)) }
-        ensures bytes { IfOk result (λ n. Tells (state self.old) → take n buf.new ≡ piece at n ((state self.old).reads file)) }
+        ensures answer { IfOk result
+            (λ n. Tells (state self.old) →
+            n ≡ min (length buf.new) (length ((state self.old).reads file) - at)) }
+        ensures bytes { IfOk result
+            (λ n. Tells (state self.old) →
+            take n buf.new ≡ piece at n ((state self.old).reads file)) }
         ensures rest { IfOk result (λ n. drop n buf.new ≡ drop n buf.old) }
         ensures same { Reads file (state self.old) (state self.new) }
         ensures call { CallOn file (state self.old) (state self.new) }
@@ -49,10 +54,16 @@ pub trait Disk {
     fn write_at(&mut self, file: u8, at: u64, bytes: &[u8]) -> Result<(), Failed>
         requires file { file < 2 }
         requires place { Tells (state self.old) → at ≤ length ((state self.old).reads file) }
-        ensures written { OnOk result (Tells (state self.old) → (state self.new).reads file ≡ written at bytes.now ((state self.old).reads file)) }
-        ensures torn { OnErr result (Tells (state self.old) → Torn at (length bytes.now) ((state self.old).reads file) ((state self.new).reads file)) }
+        ensures written { OnOk result
+            (Tells (state self.old) →
+            (state self.new).reads file ≡ written at bytes.now ((state self.old).reads file)) }
+        ensures torn { OnErr result
+            (Tells (state self.old) →
+            Torn at (length bytes.now) ((state self.old).reads file)
+            ((state self.new).reads file)) }
         ensures limit { OnOk result (at + length bytes.now ≤ 2 ^ 62) }
-        ensures crash { Follows (Torn at (length bytes.now)) ((state self.old).leaves file) ((state self.new).leaves file) }
+        ensures crash { Follows (Torn at (length bytes.now)) ((state self.old).leaves file)
+            ((state self.new).leaves file) }
         ensures call { CallOn file (state self.old) (state self.new) }
         ensures cause { OnErr result (Rose (state self.old).faults (state self.new).faults) };
 
@@ -60,9 +71,14 @@ pub trait Disk {
     fn cut(&mut self, file: u8, len: u64) -> Result<(), Failed>
         requires file { file < 2 }
         requires place { Tells (state self.old) → len ≤ length ((state self.old).reads file) }
-        ensures cut { OnOk result (Tells (state self.old) → (state self.new).reads file ≡ take len ((state self.old).reads file)) }
-        ensures torn { OnErr result (Tells (state self.old) → Cut len ((state self.old).reads file) ((state self.new).reads file)) }
-        ensures crash { Follows (Cut len) ((state self.old).leaves file) ((state self.new).leaves file) }
+        ensures cut { OnOk result
+            (Tells (state self.old) →
+            (state self.new).reads file ≡ take len ((state self.old).reads file)) }
+        ensures torn { OnErr result
+            (Tells (state self.old) →
+            Cut len ((state self.old).reads file) ((state self.new).reads file)) }
+        ensures crash { Follows (Cut len) ((state self.old).leaves file)
+            ((state self.new).leaves file) }
         ensures call { CallOn file (state self.old) (state self.new) }
         ensures cause { OnErr result (Rose (state self.old).faults (state self.new).faults) };
 
@@ -70,23 +86,30 @@ pub trait Disk {
     /// return the same bytes as before.
     fn sync(&mut self, file: u8) -> Result<(), Failed>
         requires { file < 2 }
-        ensures durable { OnOk result (Tells (state self.old) → Only ((state self.old).reads file) ((state self.new).leaves file)) }
+        ensures durable { OnOk result
+            (Tells (state self.old) →
+            Only ((state self.old).reads file) ((state self.new).leaves file)) }
         ensures same { Reads file (state self.old) (state self.new) }
         ensures call { CallOn file (state self.old) (state self.new) }
         ensures cause { OnErr result (Rose (state self.old).faults (state self.new).faults) };
 
     /// The present moment counts among the moments since any earlier one.
-    ghost counts_now: { (disk : Self) (t : ℕ) (c : Image) → t ≤ (state disk).moment → IsImage (state disk) c → (state disk).left_since t c };
+    ghost counts_now: { (disk : Self) (t : ℕ) (c : Image) → t ≤ (state disk).moment →
+        IsImage (state disk) c → (state disk).left_since t c };
 
     /// No moment follows the present one.
-    ghost only_now: { (disk : Self) (c : Image) → (state disk).left_since (state disk).moment c → IsImage (state disk) c };
+    ghost only_now: { (disk : Self) (c : Image) → (state disk).left_since (state disk).moment c →
+        IsImage (state disk) c };
 
     /// The current content of a file is one of the images that a crash may leave.
-    ghost is_one: { (disk : Self) (f : ℕ) → Tells (state disk) → f < 2 → (state disk).leaves f ((state disk).reads f) };
+    ghost is_one: { (disk : Self) (f : ℕ) → Tells (state disk) → f < 2 →
+        (state disk).leaves f ((state disk).reads f) };
 
     /// No file is longer than 2^62 bytes.
-    ghost bounded: { (disk : Self) (f : ℕ) → Tells (state disk) → f < 2 → length ((state disk).reads f) ≤ 2 ^ 62 };
+    ghost bounded: { (disk : Self) (f : ℕ) → Tells (state disk) → f < 2 →
+        length ((state disk).reads f) ≤ 2 ^ 62 };
 
     /// What a crash may have left since a moment includes what it may have left since a later one.
-    ghost later_leaves_less: { (disk : Self) (s t : ℕ) (c : Image) → s ≤ t → (state disk).left_since t c → (state disk).left_since s c };
+    ghost later_leaves_less: { (disk : Self) (s t : ℕ) (c : Image) → s ≤ t →
+        (state disk).left_since t c → (state disk).left_since s c };
 }

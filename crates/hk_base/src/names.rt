@@ -24,7 +24,8 @@ impl Model for KeyName {
 
     ghost view = { λ a. take a.len a.bytes };
 
-    ghost invariant = { λ a. IsKeyName (take a.len a.bytes) × (padded 64 (take a.len a.bytes) ≡ a.bytes) × (length (take a.len a.bytes) ≡ a.len) };
+    ghost invariant = { λ a. IsKeyName (take a.len a.bytes) ×
+        (padded 64 (take a.len a.bytes) ≡ a.bytes) × (length (take a.len a.bytes) ≡ a.len) };
 
     ghost inverse = { λ name. record { bytes = padded 64 name; len = length name } };
 
@@ -178,7 +179,8 @@ impl Model for Dek {
 
     ghost view = { λ a. take a.len a.bytes };
 
-    ghost invariant = { λ a. IsTrue (is_key_length a.len) × (padded 32 (take a.len a.bytes) ≡ a.bytes) × (length (take a.len a.bytes) ≡ a.len) };
+    ghost invariant = { λ a. IsTrue (is_key_length a.len) ×
+        (padded 32 (take a.len a.bytes) ≡ a.bytes) × (length (take a.len a.bytes) ≡ a.len) };
 
     ghost inverse = { λ key. record { len = length key; bytes = padded 32 key } };
 
@@ -250,7 +252,11 @@ impl VersionName {
     /// Parses the text form of a version. Returns `None` if the bytes are not the text form of any
     /// version. The number is decimal, without leading zeros, at most 65,535.
     pub fn read(bytes: &[u8]) -> Option<VersionName>
-        ensures { MatchOption result ((key : List ℕ) (number : ℕ) → IsKeyName key → number < 2 ^ 16 → ¬ (bytes.now ≡ version_text key number)) (λ version. IsKeyName version.key × (bytes.now ≡ version_text version.key version.number)) }
+        ensures { MatchOption result
+            ((key : List ℕ) (number : ℕ) → IsKeyName key → number < 2 ^ 16 →
+            ¬ (bytes.now ≡ version_text key number))
+            (λ version. IsKeyName version.key ×
+            (bytes.now ≡ version_text version.key version.number)) }
     {
         let at = at_sign(bytes)?;
         let key = KeyName::read(&bytes[..at])?;

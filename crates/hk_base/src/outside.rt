@@ -38,7 +38,8 @@ pub trait Sink {
         ensures bound { WritesAtMost result bytes.now }
         ensures bytes { WriteAppends (written self.old) (written self.new) result bytes.now }
         ensures cause { HasCause (faults self.old) (faults self.new) result }
-        ensures nothing { result ≡ Ok 0 → 0 < length bytes.now → Rose (faults self.old) (faults self.new) };
+        ensures nothing { result ≡ Ok 0 → 0 < length bytes.now →
+            Rose (faults self.old) (faults self.new) };
 }
 
 /// A supply of random words. Drawing a word cannot fail.

@@ -61,7 +61,8 @@ impl Reader {
 
     /// Refills the buffer if it is empty. Returns `false` if the source failed.
     fn fill<S: Source>(&mut self, source: &mut S) -> bool
-        ensures kept { Consumes (ahead self.old (S.left source.old)) (ahead self.new (S.left source.new)) [] }
+        ensures kept { Consumes (ahead self.old (S.left source.old))
+            (ahead self.new (S.left source.new)) [] }
         ensures used { self.new.used ≡ self.old.used }
         ensures later { S.faults source.old ≤ S.faults source.new }
         ensures fault { result ≡ false → Rose (S.faults source.old) (S.faults source.new) }
@@ -83,11 +84,13 @@ impl Reader {
 
     /// Uses the next byte and returns it.
     pub fn next<S: Source>(&mut self, source: &mut S) -> Next
-        ensures consumed { Consumes (ahead self.old (S.left source.old)) (ahead self.new (S.left source.new)) (byte_used result) }
+        ensures consumed { Consumes (ahead self.old (S.left source.old))
+            (ahead self.new (S.left source.new)) (byte_used result) }
         ensures used { self.new.used ≡ self.old.used + length (byte_used result) }
         ensures bounded { self.new.used ≤ 2 ^ 40 }
         ensures end { result ≡ Next.End → IsAtEnd (ahead self.new (S.left source.new)) }
-        ensures past { result ≡ Next.Past → (self.old.used ≡ 2 ^ 40) × IsMore (ahead self.new (S.left source.new)) }
+        ensures past { result ≡ Next.Past →
+            (self.old.used ≡ 2 ^ 40) × IsMore (ahead self.new (S.left source.new)) }
         ensures later { S.faults source.old ≤ S.faults source.new }
         ensures fault { result ≡ Next.Fault → Rose (S.faults source.old) (S.faults source.new) }
     {

@@ -143,7 +143,8 @@ impl Text {
 
     /// Converts UTF-8 bytes to a text. Returns `None` if the bytes are not UTF-8. Does not allocate.
     pub fn from_utf8(bytes: Vec<u8>) -> Option<Text>
-        ensures { MatchOption result (¬ IsUtf8 bytes.items) (λ text. (text ≡ bytes.items) × IsUtf8 bytes.items) }
+        ensures { MatchOption result (¬ IsUtf8 bytes.items)
+            (λ text. (text ≡ bytes.items) × IsUtf8 bytes.items) }
     {
         match String::from_utf8(bytes) {
             Err(_) => None,

@@ -44,7 +44,11 @@ fn pipe_under<S: Source, K: Sink, D: Disk, W: Words, C: Clock>(
     rand: &mut W,
     clock: &mut C,
 ) -> u8
-    ensures pipe { PipeUnder props.now ((input.new ≡ input.old) × (out.new ≡ out.old) × (rand.new ≡ rand.old) × (clock.new ≡ clock.old)) (D.state disk.old) (D.state disk.new) (W.to_come rand.old) (W.to_come rand.new) (S.left input.old) (S.left input.new) (K.written out.old) (K.written out.new) result }
+    ensures pipe { PipeUnder props.now
+        ((input.new ≡ input.old) × (out.new ≡ out.old) × (rand.new ≡ rand.old) ×
+        (clock.new ≡ clock.old)) (D.state disk.old) (D.state disk.new) (W.to_come rand.old)
+        (W.to_come rand.new) (S.left input.old) (S.left input.new) (K.written out.old)
+        (K.written out.new) result }
     ensures read { result ≡ 7 → Rose (S.faults input.old) (S.faults input.new) }
     ensures write { result ≡ 8 → Rose (K.faults out.old) (K.faults out.new) }
     ensures store { result ≡ 5 → Rose (D.state disk.old).faults (D.state disk.new).faults }
@@ -108,7 +112,9 @@ pub fn run_pipe<A: Source, S: Source, K: Sink, D: Disk, W: Words, C: Clock>(
     ensures pipe { Pipe (disk.new ≡ disk.old) ((input.new ≡ input.old) × (out.new ≡ out.old) × (rand.new ≡ rand.old) × (clock.new ≡ clock.old)) (D.state disk.old) (D.state disk.new) (A.left acls.old) (A.left acls.new) (W.to_come rand.old) (W.to_come rand.new) (S.left input.old) (S.left input.new) (K.written out.old) (K.written out.new) result }
     ensures headline { Tells (D.state disk.old) → (past : Past) → StartsSound (D.state disk.old) past →
         ConnectionKeepsFiles ((input.new ≡ input.old) × (rand.new ≡ rand.old) × (clock.new ≡ clock.old)) past (D.state disk.old) (D.state disk.new) (A.left acls.old) (A.left acls.new) (W.to_come rand.old) (W.to_come rand.new) (S.left input.old) (S.left input.new) (K.written out.old) (K.written out.new) result }
-    ensures read { result ≡ 7 → Rose (S.faults input.old) (S.faults input.new) ⊎ Rose (A.faults acls.old) (A.faults acls.new) }
+    ensures read { result ≡ 7 →
+        Rose (S.faults input.old) (S.faults input.new) ⊎
+        Rose (A.faults acls.old) (A.faults acls.new) }
     ensures write { result ≡ 8 → Rose (K.faults out.old) (K.faults out.new) }
     ensures store { result ≡ 5 → Rose (D.state disk.old).faults (D.state disk.new).faults }
 {

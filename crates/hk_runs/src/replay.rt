@@ -35,7 +35,8 @@ impl ReplayRun {
     /// A replay before its first line.
     fn new(alloc: Global, world: World) -> ReplayRun
         ensures world { result.stage.world ≡ world }
-        ensures fresh { (result.stage.events ≡ 0) × (result.count ≡ 0) × (result.reader.used ≡ 0) × (result.reader.bytes ≡ []) }
+        ensures fresh { (result.stage.events ≡ 0) × (result.count ≡ 0) × (result.reader.used ≡ 0) ×
+            (result.reader.bytes ≡ []) }
     {
         ReplayRun {
             reader: Reader::new(),
@@ -71,13 +72,19 @@ impl ReplayRun {
         out: &mut K,
         words: &mut W,
     ) -> ReplayEnd
-        requires fresh { (self.old.stage.events ≡ 0) × (self.old.count ≡ 0) × (self.old.reader.used ≡ 0) × (self.old.reader.bytes ≡ []) }
+        requires fresh { (self.old.stage.events ≡ 0) × (self.old.count ≡ 0) ×
+            (self.old.reader.used ≡ 0) × (self.old.reader.bytes ≡ []) }
         requires lists { (lines : List PropLine) × HasLists self.old.stage.world lines }
-        requires stands { Tells (D.state disk.old) → ((done : Acknowledged) × HoldsLogs (D.state disk.old) self.old.stage.world done) }
-        ensures ran { (lines : List PropLine) → HasLists self.old.stage.world lines → Ran lines (D.state disk.old) (D.state disk.new) self.old.stage.world (W.to_come words.old) (W.to_come words.new) (S.left input.old) (K.written out.old) (K.written out.new) result self.new.count }
+        requires stands { Tells (D.state disk.old) →
+            ((done : Acknowledged) × HoldsLogs (D.state disk.old) self.old.stage.world done) }
+        ensures ran { (lines : List PropLine) → HasLists self.old.stage.world lines →
+            Ran lines (D.state disk.old) (D.state disk.new) self.old.stage.world
+            (W.to_come words.old) (W.to_come words.new) (S.left input.old) (K.written out.old)
+            (K.written out.new) result self.new.count }
         ensures end { result ≡ ReplayEnd.Done → IsAtEnd (S.left input.new) }
         ensures count { self.new.count < 2 ^ 41 }
-        ensures caused { Caused (S.faults input.old) (S.faults input.new) (K.faults out.old) (K.faults out.new) (D.state disk.old).faults (D.state disk.new).faults (Some result) }
+        ensures caused { Caused (S.faults input.old) (S.faults input.new) (K.faults out.old)
+            (K.faults out.new) (D.state disk.old).faults (D.state disk.new).faults (Some result) }
     {
         'lines: loop {
             match self.next(input, disk, out, words) {
@@ -98,11 +105,13 @@ impl ReplayRun {
         requires few { self.old.stage.events ≤ self.old.count }
         requires count { self.old.count ≤ 2 ^ 40 }
         requires lists { (lines : List PropLine) × HasLists self.old.stage.world lines }
-        requires stands { Tells (D.state disk.old) → ((done : Acknowledged) × HoldsLogs (D.state disk.old) self.old.stage.world done) }
+        requires stands { Tells (D.state disk.old) →
+            ((done : Acknowledged) × HoldsLogs (D.state disk.old) self.old.stage.world done) }
         ensures next { (lines : List PropLine) → HasLists self.old.stage.world lines → Next lines (D.state disk.old) (D.state disk.new) (record { view = record { world = self.old.stage.world; words = W.to_come words.old; events = self.old.stage.events; written = K.written out.old }; ahead = ahead self.old.reader (S.left input.old); used = self.old.reader.used; count = self.old.count }) result (record { view = record { world = self.new.stage.world; words = W.to_come words.new; events = self.new.stage.events; written = K.written out.new }; ahead = ahead self.new.reader (S.left input.new); used = self.new.reader.used; count = self.new.count }) }
         ensures few { self.new.stage.events ≤ self.new.count }
         ensures small { self.new.reader.used ≤ 2 ^ 40 }
-        ensures caused { Caused (S.faults input.old) (S.faults input.new) (K.faults out.old) (K.faults out.new) (D.state disk.old).faults (D.state disk.new).faults result }
+        ensures caused { Caused (S.faults input.old) (S.faults input.new) (K.faults out.old)
+            (K.faults out.new) (D.state disk.old).faults (D.state disk.new).faults result }
     {
         match read_line(&mut self.reader, input, &mut self.line) {
             LineEnd::Line => self.play(false, disk, out, words),
@@ -125,12 +134,14 @@ impl ReplayRun {
         requires short { length self.old.line ≤ 1048576 }
         requires few { self.old.stage.events ≤ self.old.count }
         requires count { self.old.count ≤ 2 ^ 40 }
-        requires stands { Tells (D.state disk.old) → ((done : Acknowledged) × HoldsLogs (D.state disk.old) self.old.stage.world done) }
+        requires stands { Tells (D.state disk.old) →
+            ((done : Acknowledged) × HoldsLogs (D.state disk.old) self.old.stage.world done) }
         ensures played { (lines : List PropLine) → HasLists self.old.stage.world lines → LinePlayed lines (D.state disk.old) (D.state disk.new) (record { world = self.old.stage.world; words = W.to_come words.old; events = self.old.stage.events; written = K.written out.old }) self.old.line last result (record { world = self.new.stage.world; words = W.to_come words.new; events = self.new.stage.events; written = K.written out.new }) self.old.count self.new.count }
         ensures same { (self.new.reader ≡ self.old.reader) × (self.new.line ≡ self.old.line) }
         ensures few { self.new.stage.events ≤ self.new.count }
         ensures later { K.faults out.old ≤ K.faults out.new }
-        ensures fault { result ≡ Some ReplayEnd.WriteFault → Rose (K.faults out.old) (K.faults out.new) }
+        ensures fault { result ≡ Some ReplayEnd.WriteFault →
+            Rose (K.faults out.old) (K.faults out.new) }
     {
         match self.stage.play_line(self.line.as_slice(), disk, out, words) {
             LineOutcome::Played => {
@@ -161,11 +172,14 @@ fn replay_under<S: Source, D: Disk, K: Sink, W: Words>(
     disk: &mut D,
     rand: &mut W,
 ) -> ReplayEnd
-    ensures replay { ReplayUnder props.now ((input.new ≡ input.old) × (rand.new ≡ rand.old)) (D.state disk.old) (D.state disk.new) (W.to_come rand.old) (W.to_come rand.new) (S.left input.old) (K.written out.old) (K.written out.new) result }
+    ensures replay { ReplayUnder props.now ((input.new ≡ input.old) × (rand.new ≡ rand.old))
+        (D.state disk.old) (D.state disk.new) (W.to_come rand.old) (W.to_come rand.new)
+        (S.left input.old) (K.written out.old) (K.written out.new) result }
     ensures end { result ≡ ReplayEnd.Done → IsAtEnd (S.left input.new) }
     ensures read { result ≡ ReplayEnd.ReadFault → Rose (S.faults input.old) (S.faults input.new) }
     ensures write { result ≡ ReplayEnd.WriteFault → Rose (K.faults out.old) (K.faults out.new) }
-    ensures store { result ≡ ReplayEnd.StoreFault → Rose (D.state disk.old).faults (D.state disk.new).faults }
+    ensures store { result ≡ ReplayEnd.StoreFault →
+        Rose (D.state disk.old).faults (D.state disk.new).faults }
 {
     match World::start(alloc, disk, props) {
         Err(why) => finish(alloc, out, ended_by(why.file, why.fault), 0),
@@ -183,10 +197,14 @@ fn replay_in<S: Source, D: Disk, K: Sink, W: Words>(
     rand: &mut W,
 ) -> ReplayEnd
     requires lists { (lines : List PropLine) × HasLists world lines }
-    requires stands { Tells (D.state disk.old) → ((done : Acknowledged) × HoldsLogs (D.state disk.old) world done) }
-    ensures ran { (lines : List PropLine) → HasLists world lines → RanToEnd lines (D.state disk.old) (D.state disk.new) world (W.to_come rand.old) (W.to_come rand.new) (S.left input.old) (K.written out.old) (K.written out.new) result }
+    requires stands { Tells (D.state disk.old) →
+        ((done : Acknowledged) × HoldsLogs (D.state disk.old) world done) }
+    ensures ran { (lines : List PropLine) → HasLists world lines →
+        RanToEnd lines (D.state disk.old) (D.state disk.new) world (W.to_come rand.old)
+        (W.to_come rand.new) (S.left input.old) (K.written out.old) (K.written out.new) result }
     ensures end { result ≡ ReplayEnd.Done → IsAtEnd (S.left input.new) }
-    ensures caused { Caused (S.faults input.old) (S.faults input.new) (K.faults out.old) (K.faults out.new) (D.state disk.old).faults (D.state disk.new).faults (Some result) }
+    ensures caused { Caused (S.faults input.old) (S.faults input.new) (K.faults out.old)
+        (K.faults out.new) (D.state disk.old).faults (D.state disk.new).faults (Some result) }
 {
     let mut replaying = ReplayRun::new(alloc, world);
     let stop = replaying.run(input, disk, out, rand);
@@ -224,7 +242,9 @@ pub fn run_replay<A: Source, S: Source, D: Disk, K: Sink, W: Words>(
     ensures headline { Tells (D.state disk.old) → (past : Past) → StartsSound (D.state disk.old) past →
         KeepsFiles ((input.new ≡ input.old) × (rand.new ≡ rand.old)) past (D.state disk.old) (D.state disk.new) (A.left acls.old) (A.left acls.new) (W.to_come rand.old) (W.to_come rand.new) (S.left input.old) (K.written out.old) (K.written out.new) result }
     ensures end { result ≡ 0 → IsAtEnd (S.left input.new) }
-    ensures read { result ≡ 7 → Rose (S.faults input.old) (S.faults input.new) ⊎ Rose (A.faults acls.old) (A.faults acls.new) }
+    ensures read { result ≡ 7 →
+        Rose (S.faults input.old) (S.faults input.new) ⊎
+        Rose (A.faults acls.old) (A.faults acls.new) }
     ensures write { result ≡ 8 → Rose (K.faults out.old) (K.faults out.new) }
     ensures store { result ≡ 5 → Rose (D.state disk.old).faults (D.state disk.new).faults }
 {

@@ -61,11 +61,13 @@ impl Session {
     ) -> LineOutcome
         requires short { length line.now ≤ 1048576 }
         requires few { self.old.events ≤ 2 ^ 40 }
-        requires stands { Tells (D.state disk.old) → ((done : Acknowledged) × HoldsLogs (D.state disk.old) self.old.world done) }
+        requires stands { Tells (D.state disk.old) →
+            ((done : Acknowledged) × HoldsLogs (D.state disk.old) self.old.world done) }
         ensures plays { (lines : List PropLine) → HasLists self.old.world lines → PlaysSo lines (D.state disk.old) (D.state disk.new) (record { world = self.old.world; words = W.to_come words.old; events = self.old.events; written = K.written out.old }) line.now result (record { world = self.new.world; words = W.to_come words.new; events = self.new.events; written = K.written out.new }) }
         ensures few { self.new.events ≤ self.old.events + counts result }
         ensures later { K.faults out.old ≤ K.faults out.new }
-        ensures fault { result ≡ LineOutcome.Unwritten → Rose (K.faults out.old) (K.faults out.new) }
+        ensures fault { result ≡ LineOutcome.Unwritten →
+            Rose (K.faults out.old) (K.faults out.new) }
     {
         let event = match read_event(self.alloc, line) {
             Err(LineFault::BadLine) => return LineOutcome::BadLine,
@@ -84,11 +86,13 @@ impl Session {
         words: &mut W,
     ) -> LineOutcome
         requires few { self.old.events ≤ 2 ^ 40 }
-        requires stands { Tells (D.state disk.old) → ((done : Acknowledged) × HoldsLogs (D.state disk.old) self.old.world done) }
+        requires stands { Tells (D.state disk.old) →
+            ((done : Acknowledged) × HoldsLogs (D.state disk.old) self.old.world done) }
         ensures plays { (lines : List PropLine) → HasLists self.old.world lines → (line : List ℕ) → Spells line event → PlaysSo lines (D.state disk.old) (D.state disk.new) (record { world = self.old.world; words = W.to_come words.old; events = self.old.events; written = K.written out.old }) line result (record { world = self.new.world; words = W.to_come words.new; events = self.new.events; written = K.written out.new }) }
         ensures few { self.new.events ≤ self.old.events + counts result }
         ensures later { K.faults out.old ≤ K.faults out.new }
-        ensures fault { result ≡ LineOutcome.Unwritten → Rose (K.faults out.old) (K.faults out.new) }
+        ensures fault { result ≡ LineOutcome.Unwritten →
+            Rose (K.faults out.old) (K.faults out.new) }
     {
         match self.world.step(disk, words, self.events + 1, event) {
             Err(why) => LineOutcome::Unopened(why),
@@ -99,12 +103,14 @@ impl Session {
     /// Counts an event, and writes and drops its answer.
     fn tell_line<K: Sink>(&mut self, reply: Line, out: &mut K) -> LineOutcome
         requires few { self.old.events ≤ 2 ^ 40 }
-        ensures tells { TellsSo (self.old.events + 1) reply (K.written out.old) (K.written out.new) result }
+        ensures tells { TellsSo (self.old.events + 1) reply (K.written out.old) (K.written out.new)
+            result }
         ensures world { self.new.world ≡ self.old.world }
         ensures counted { self.new.events ≡ self.old.events + 1 }
         ensures counts { counts result ≡ 1 }
         ensures later { K.faults out.old ≤ K.faults out.new }
-        ensures fault { result ≡ LineOutcome.Unwritten → Rose (K.faults out.old) (K.faults out.new) }
+        ensures fault { result ≡ LineOutcome.Unwritten →
+            Rose (K.faults out.old) (K.faults out.new) }
     {
         let play = self.tell(&reply, out);
         drop(reply);
@@ -114,12 +120,14 @@ impl Session {
     /// Counts an event, and writes its answer.
     fn tell<K: Sink>(&mut self, reply: &Line, out: &mut K) -> LineOutcome
         requires few { self.old.events ≤ 2 ^ 40 }
-        ensures tells { TellsSo (self.old.events + 1) reply.now (K.written out.old) (K.written out.new) result }
+        ensures tells { TellsSo (self.old.events + 1) reply.now (K.written out.old)
+            (K.written out.new) result }
         ensures world { self.new.world ≡ self.old.world }
         ensures counted { self.new.events ≡ self.old.events + 1 }
         ensures counts { counts result ≡ 1 }
         ensures later { K.faults out.old ≤ K.faults out.new }
-        ensures fault { result ≡ LineOutcome.Unwritten → Rose (K.faults out.old) (K.faults out.new) }
+        ensures fault { result ≡ LineOutcome.Unwritten →
+            Rose (K.faults out.old) (K.faults out.new) }
     {
         self.events += 1;
         self.answer.clear();

@@ -35,7 +35,9 @@ pub(crate) fn ask_keys<E: Desk>(
     call: KmsCall,
 ) -> Result<Response, NoMemory>
     requires { E.ready desk.old }
-    ensures asked { (reply : KmsReply) × (E.answers desk.old user (OfKeys call reply) desk.new × IfOk result (Responds (Replied user (OfKeys call reply)))) }
+    ensures asked { (reply : KmsReply) ×
+        (E.answers desk.old user (OfKeys call reply) desk.new ×
+        IfOk result (Responds (Replied user (OfKeys call reply)))) }
     ensures ready { E.ready desk.new }
 {
     let created = creates(&call);
@@ -51,7 +53,9 @@ pub(crate) fn ask_names<E: Desk>(
     order: NameOrder,
 ) -> Result<Response, NoMemory>
     requires { E.ready desk.old }
-    ensures asked { (reply : NameReply) × (E.answers desk.old user (OfNames order reply) desk.new × IfOk result (Responds (Replied user (OfNames order reply)))) }
+    ensures asked { (reply : NameReply) ×
+        (E.answers desk.old user (OfNames order reply) desk.new ×
+        IfOk result (Responds (Replied user (OfNames order reply)))) }
     ensures ready { E.ready desk.new }
 {
     let created = creates_file(&order);

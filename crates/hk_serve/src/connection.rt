@@ -47,12 +47,17 @@ fn send<K: Sink>(
     response: &Response,
 ) -> Result<(), SendFault>
     requires { IsStatus response.now.status }
-    ensures ok { OnOk result (Appends (K.written sink.old) (K.written sink.new) (sent_text head response.now.status response.now.body)) }
-    ensures err { OnErr result (WroteFront (K.written sink.old) (K.written sink.new) (sent_text head response.now.status response.now.body)) }
+    ensures ok { OnOk result
+        (Appends (K.written sink.old) (K.written sink.new)
+        (sent_text head response.now.status response.now.body)) }
+    ensures err { OnErr result
+        (WroteFront (K.written sink.old) (K.written sink.new)
+        (sent_text head response.now.status response.now.body)) }
     ensures no_memory { result ≡ Err SendFault.NoMemory → K.written sink.new ≡ K.written sink.old }
 
     ensures later { K.faults sink.old ≤ K.faults sink.new }
-    ensures write_fault { result ≡ Err SendFault.WriteFault → Rose (K.faults sink.old) (K.faults sink.new) }
+    ensures write_fault { result ≡ Err SendFault.WriteFault →
+        Rose (K.faults sink.old) (K.faults sink.new) }
 {
     let body = response.body.as_slice();
     if head {
@@ -83,7 +88,9 @@ impl Connection {
         desk: &mut E,
     ) -> Result<Response, NoMemory>
         requires { E.ready desk.old }
-        ensures comes { (outcome : Outcome) × (ComesOf request.now outcome × (Leaves E.answers desk.old outcome desk.new × IfOk result (Responds outcome))) }
+        ensures comes { (outcome : Outcome) ×
+            (ComesOf request.now outcome ×
+            (Leaves E.answers desk.old outcome desk.new × IfOk result (Responds outcome))) }
         ensures ready { E.ready desk.new }
         ensures same { (self.new.scratch ≡ self.old.scratch) × (self.new.bytes ≡ self.old.bytes) }
     {
@@ -102,7 +109,9 @@ impl Connection {
     ) -> Result<Response, NoMemory>
         requires ready { E.ready desk.old }
         requires says { Says request.now (Err fault) }
-        ensures comes { (outcome : Outcome) × (ComesOf request.now outcome × (Leaves E.answers desk.old outcome desk.new × IfOk result (Responds outcome))) }
+        ensures comes { (outcome : Outcome) ×
+            (ComesOf request.now outcome ×
+            (Leaves E.answers desk.old outcome desk.new × IfOk result (Responds outcome))) }
         ensures ready { E.ready desk.new }
         ensures same { (self.new.scratch ≡ self.old.scratch) × (self.new.bytes ≡ self.old.bytes) }
     {
@@ -120,7 +129,9 @@ impl Connection {
     ) -> Result<Response, NoMemory>
         requires ready { E.ready desk.old }
         requires names { IsForNames request.now }
-        ensures comes { (outcome : Outcome) × (ComesOf request.now outcome × (Leaves E.answers desk.old outcome desk.new × IfOk result (Responds outcome))) }
+        ensures comes { (outcome : Outcome) ×
+            (ComesOf request.now outcome ×
+            (Leaves E.answers desk.old outcome desk.new × IfOk result (Responds outcome))) }
         ensures ready { E.ready desk.new }
         ensures same { (self.new.scratch ≡ self.old.scratch) × (self.new.bytes ≡ self.old.bytes) }
     {
@@ -155,11 +166,13 @@ impl Connection {
     ) -> Option<Ended>
         requires ready { E.ready desk.old }
         requires few { self.old.bytes < 2 ^ 40 }
-        ensures answered { Answered E.answers request.now self.old.bytes self.new.bytes desk.old desk.new (K.written sink.old) (K.written sink.new) result }
+        ensures answered { Answered E.answers request.now self.old.bytes self.new.bytes desk.old
+            desk.new (K.written sink.old) (K.written sink.new) result }
         ensures ready { E.ready desk.new }
         ensures same { self.new.scratch ≡ self.old.scratch }
         ensures later { K.faults sink.old ≤ K.faults sink.new }
-        ensures write_fault { result ≡ Some Ended.WriteFault → Rose (K.faults sink.old) (K.faults sink.new) }
+        ensures write_fault { result ≡ Some Ended.WriteFault →
+            Rose (K.faults sink.old) (K.faults sink.new) }
         ensures no_read_fault { result ≡ Some Ended.ReadFault → ⊥ }
     {
         let Ok(response) = self.response_to(request, desk) else {
@@ -183,13 +196,23 @@ impl Connection {
         requires ready { E.ready desk.old }
         requires few { self.old.bytes < 2 ^ 40 }
         ensures turns { Turns E.answers self.old.bytes self.new.bytes
-            (record { ahead = ahead self.old.scratch (S.left source.old); desk = desk.old; written = K.written sink.old }) result
-            (record { ahead = ahead self.new.scratch (S.left source.new); desk = desk.new; written = K.written sink.new }) }
+            (record {
+              ahead = ahead self.old.scratch (S.left source.old);
+              desk = desk.old;
+              written = K.written sink.old;
+            }) result
+            (record {
+              ahead = ahead self.new.scratch (S.left source.new);
+              desk = desk.new;
+              written = K.written sink.new;
+            }) }
         ensures ready { E.ready desk.new }
         ensures read_later { S.faults source.old ≤ S.faults source.new }
-        ensures read_fault { result ≡ Some Ended.ReadFault → Rose (S.faults source.old) (S.faults source.new) }
+        ensures read_fault { result ≡ Some Ended.ReadFault →
+            Rose (S.faults source.old) (S.faults source.new) }
         ensures write_later { K.faults sink.old ≤ K.faults sink.new }
-        ensures write_fault { result ≡ Some Ended.WriteFault → Rose (K.faults sink.old) (K.faults sink.new) }
+        ensures write_fault { result ≡ Some Ended.WriteFault →
+            Rose (K.faults sink.old) (K.faults sink.new) }
     {
         match read_request(self.alloc, source, &mut self.scratch) {
             Ok(request) => self.answer(&request, sink, desk),
@@ -207,13 +230,23 @@ impl Connection {
         requires ready { E.ready desk.old }
         requires fresh { self.old.bytes ≡ 0 }
         ensures served { Served E.answers
-            (record { ahead = ahead self.old.scratch (S.left source.old); desk = desk.old; written = K.written sink.old })
-            (record { ahead = ahead self.new.scratch (S.left source.new); desk = desk.new; written = K.written sink.new }) result }
+            (record {
+              ahead = ahead self.old.scratch (S.left source.old);
+              desk = desk.old;
+              written = K.written sink.old;
+            })
+            (record {
+              ahead = ahead self.new.scratch (S.left source.new);
+              desk = desk.new;
+              written = K.written sink.new;
+            }) result }
         ensures ready { E.ready desk.new }
         ensures read_later { S.faults source.old ≤ S.faults source.new }
-        ensures read_fault { result ≡ Ended.ReadFault → Rose (S.faults source.old) (S.faults source.new) }
+        ensures read_fault { result ≡ Ended.ReadFault →
+            Rose (S.faults source.old) (S.faults source.new) }
         ensures write_later { K.faults sink.old ≤ K.faults sink.new }
-        ensures write_fault { result ≡ Ended.WriteFault → Rose (K.faults sink.old) (K.faults sink.new) }
+        ensures write_fault { result ≡ Ended.WriteFault →
+            Rose (K.faults sink.old) (K.faults sink.new) }
     {
         'requests: loop {
             match self.turn(source, sink, desk) {
@@ -250,11 +283,16 @@ pub fn serve_conn<S: Source, K: Sink, E: Desk>(
     // Bytes that were read past the last request are unused.
     ensures served { (unused : List ℕ) × Served E.answers
         (record { ahead = S.left source.old; desk = desk.old; written = K.written sink.old })
-        (record { ahead = ahead unused (S.left source.new); desk = desk.new; written = K.written sink.new }) result }
+        (record {
+          ahead = ahead unused (S.left source.new);
+          desk = desk.new;
+          written = K.written sink.new;
+        }) result }
     ensures ready { E.ready desk.new }
 
     ensures read_later { S.faults source.old ≤ S.faults source.new }
-    ensures read_fault { result ≡ Ended.ReadFault → Rose (S.faults source.old) (S.faults source.new) }
+    ensures read_fault { result ≡ Ended.ReadFault →
+        Rose (S.faults source.old) (S.faults source.new) }
     ensures write_later { K.faults sink.old ≤ K.faults sink.new }
     ensures write_fault { result ≡ Ended.WriteFault → Rose (K.faults sink.old) (K.faults sink.new) }
 {

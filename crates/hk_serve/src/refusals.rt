@@ -35,7 +35,8 @@ pub(crate) fn ended_by(fault: SendFault) -> Ended
 /// Writes the response to bytes that are not a request. The connection then ends.
 fn refuse<K: Sink>(alloc: Global, sink: &mut K, status: u16, body: &str) -> Ended
     requires { IsStatus status }
-    ensures sent { SentLast (response_text status body.now) (K.written sink.old) (K.written sink.new) result }
+    ensures sent { SentLast (response_text status body.now) (K.written sink.old)
+        (K.written sink.new) result }
     ensures later { K.faults sink.old ≤ K.faults sink.new }
     ensures write_fault { result ≡ Ended.WriteFault → Rose (K.faults sink.old) (K.faults sink.new) }
 {

@@ -15,7 +15,8 @@ use std::sync::Wait;
 pub trait KeyService: KeysCell {
     /// Makes a call of a user. It may wait for the lock.
     fn call<R: Wait>(&self, rt: &R, pass: &mut Self::Pass, user: Text, call: KmsCall) -> KmsReply
-        ensures { Makes Self.D.state Self.to_come (Self.seen pass.old) (act.Call user call) (acted.Call result) (Self.seen pass.new) };
+        ensures { Makes Self.D.state Self.to_come (Self.seen pass.old) (act.Call user call)
+            (acted.Call result) (Self.seen pass.new) };
 
     /// Fills a low queue of ready keys, if there is one. It may wait for the gate and the lock.
     fn fill<R: Wait, V: Words, G: Gate>(
@@ -25,7 +26,8 @@ pub trait KeyService: KeysCell {
         words: &mut V,
         gate: &G,
     ) -> FillTurn
-        ensures { FillsTurn Self.D.state Self.to_come (V.to_come words.old) (V.to_come words.new) (Self.seen pass.old) result (Self.seen pass.new) };
+        ensures { FillsTurn Self.D.state Self.to_come (V.to_come words.old) (V.to_come words.new)
+            (Self.seen pass.old) result (Self.seen pass.new) };
 }
 
 impl<D: Disk + Drop, W: Words, C: Clock, M: Naming> KeyService for KmsCell<D, W, C, M> {

@@ -66,9 +66,14 @@ impl<D: Disk + Drop, W: Words + Drop, C: Clock + Drop> Opening<D, W, C> {
         alloc: Global,
     ) -> Result<(NamesOpening<KmsCell<D, W, C, M>>, KmsPass<D, W, C, M>), NoMemory>
         requires name { self.keys.table ≡ M.table }
-        ensures keys { IfOk result (λ r. (r.1.start ≡ Some self.keys.core) × (r.1.seen ≡ []) × (r.1.ended ≡ [])) }
-        ensures names { IfOk result (λ r. (r.0.names.core.names ≡ self.names) × (r.0.names.core.disk ≡ self.disk) × (r.0.names.core.fronts ≡ [])) }
-        ensures kept { IfOk result (λ r. (r.0.names.core.keys.start ≡ Some self.keys.core) × (r.0.names.core.keys.seen ≡ []) × (r.0.names.core.keys.ended ≡ [])) }
+        ensures keys { IfOk result
+            (λ r. (r.1.start ≡ Some self.keys.core) × (r.1.seen ≡ []) × (r.1.ended ≡ [])) }
+        ensures names { IfOk result
+            (λ r. (r.0.names.core.names ≡ self.names) × (r.0.names.core.disk ≡ self.disk) ×
+            (r.0.names.core.fronts ≡ [])) }
+        ensures kept { IfOk result
+            (λ r. (r.0.names.core.keys.start ≡ Some self.keys.core) ×
+            (r.0.names.core.keys.seen ≡ []) × (r.0.names.core.keys.ended ≡ [])) }
     {
         let Opening { keys, names, disk } = self;
         let (cell, mut pass) = keys.named::<M>();
@@ -105,7 +110,9 @@ impl<K: KeysCell> NamesOpening<K> {
         K: Drop,
         requires runs { NamesRunOn (K.D.state disk) names }
         requires no_walks { names.walks ≡ [] }
-        ensures { IfOk result (λ o. o.names.core ≡ record { names = names; disk = disk; keys = K.seen kept; fronts = [] }) }
+        ensures { IfOk result
+            (λ o. o.names.core ≡
+            record { names = names; disk = disk; keys = K.seen kept; fronts = [] }) }
     {
         let side = NameSide::new(alloc, names, disk, kept);
         match Opened::new(alloc, side) {
@@ -120,7 +127,8 @@ impl<K: KeysCell> NamesOpening<K> {
     /// Names the cell of the namesystem. Its first pass has seen nothing.
     pub fn named<N: Naming>(self) -> (Shared<K, N>, NamePass<K, N>)
         requires name { self.names.table ≡ N.table }
-        ensures { (result.1.start ≡ Some self.names.core) × (result.1.seen ≡ []) × (result.1.ended ≡ []) }
+        ensures { (result.1.start ≡ Some self.names.core) × (result.1.seen ≡ []) ×
+            (result.1.ended ≡ []) }
     {
         let NamesOpening { keys, names } = self;
         let (names, pass) = names.named::<N>();

@@ -65,10 +65,16 @@ fn obey<
         (λ count. Load W.to_come count rand.old rand.new (K.written out.old) (K.written out.new) result × ((disk.new ≡ disk.old) × (acls.new ≡ acls.old) × (input.new ≡ input.old) × (clock.new ≡ clock.old)))
         ((disk.new ≡ disk.old) × (acls.new ≡ acls.old) × (input.new ≡ input.old) × (rand.new ≡ rand.old) × (clock.new ≡ clock.old))
         (K.written out.old) (K.written out.new) result }
-    ensures read { result ≡ 7 → ByLogs order (Rose (S.faults input.old) (S.faults input.new) ⊎ Rose (A.faults acls.old) (A.faults acls.new)) (Rose (A.faults acls.old) (A.faults acls.new)) }
+    ensures read { result ≡ 7 →
+        ByLogs order
+        (Rose (S.faults input.old) (S.faults input.new) ⊎
+        Rose (A.faults acls.old) (A.faults acls.new))
+        (Rose (A.faults acls.old) (A.faults acls.new)) }
     ensures write { result ≡ 8 → Rose (K.faults out.old) (K.faults out.new) }
     ensures idle { LeavesServing order ((yard.new ≡ yard.old) × (door.new ≡ door.old)) }
-    ensures store { result ≡ 5 → ByLogs order (Rose (D.state disk.old).faults (D.state disk.new).faults) (Rose (Y.state yard.old).faults (Y.state yard.new).faults) }
+    ensures store { result ≡ 5 →
+        ByLogs order (Rose (D.state disk.old).faults (D.state disk.new).faults)
+        (Rose (Y.state yard.old).faults (Y.state yard.new).faults) }
     ensures door { result ≡ 9 → ByLogs order ⊥ (Rose (P.faults door.old) (P.faults door.new)) }
 {
     match order {
@@ -166,9 +172,15 @@ pub fn hkms<
         (Load W.to_come count rand.old rand.new (K.written out.old) (K.written out.new) result × ((disk.new ≡ disk.old) × (acls.new ≡ acls.old) × (input.new ≡ input.old) × (clock.new ≡ clock.old)))
         ⊎ WantsMemory ((disk.new ≡ disk.old) × (acls.new ≡ acls.old) × (input.new ≡ input.old) × (rand.new ≡ rand.old) × (clock.new ≡ clock.old)) (K.written out.old) (K.written out.new) result }
     ensures idle { UsesYard words.now ⊎ ((yard.new ≡ yard.old) × (door.new ≡ door.old)) }
-    ensures read { result ≡ 7 → (UsesDisk words.now × (Rose (S.faults input.old) (S.faults input.new) ⊎ Rose (A.faults acls.old) (A.faults acls.new))) ⊎ (UsesYard words.now × Rose (A.faults acls.old) (A.faults acls.new)) }
+    ensures read { result ≡ 7 →
+        (UsesDisk words.now ×
+        (Rose (S.faults input.old) (S.faults input.new) ⊎
+        Rose (A.faults acls.old) (A.faults acls.new))) ⊎
+        (UsesYard words.now × Rose (A.faults acls.old) (A.faults acls.new)) }
     ensures write { result ≡ 8 → Rose (K.faults out.old) (K.faults out.new) }
-    ensures store { result ≡ 5 → (UsesDisk words.now × Rose (D.state disk.old).faults (D.state disk.new).faults) ⊎ (UsesYard words.now × Rose (Y.state yard.old).faults (Y.state yard.new).faults) }
+    ensures store { result ≡ 5 →
+        (UsesDisk words.now × Rose (D.state disk.old).faults (D.state disk.new).faults) ⊎
+        (UsesYard words.now × Rose (Y.state yard.old).faults (Y.state yard.new).faults) }
     ensures door { result ≡ 9 → UsesYard words.now × Rose (P.faults door.old) (P.faults door.new) }
 {
     let order = read_order(alloc, words);

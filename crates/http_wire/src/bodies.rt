@@ -16,10 +16,15 @@ pub(crate) fn read_body<S: Source>(
     scratch: &mut Scratch,
     size: usize,
 ) -> Result<ByteList, WireFault>
-    ensures ok { IfOk result (TakesBody (ahead scratch.old (S.left source.old)) (ahead scratch.new (S.left source.new)) size) }
-    ensures err { IfErr result (StopsInBody (ahead scratch.old (S.left source.old)) (ahead scratch.new (S.left source.new)) size) }
+    ensures ok { IfOk result
+        (TakesBody (ahead scratch.old (S.left source.old)) (ahead scratch.new (S.left source.new))
+        size) }
+    ensures err { IfErr result
+        (StopsInBody (ahead scratch.old (S.left source.old)) (ahead scratch.new (S.left source.new))
+        size) }
     ensures later { S.faults source.old ≤ S.faults source.new }
-    ensures read_fault { result ≡ Err WireFault.ReadFault → Rose (S.faults source.old) (S.faults source.new) }
+    ensures read_fault { result ≡ Err WireFault.ReadFault →
+        Rose (S.faults source.old) (S.faults source.new) }
 {
     let mut body = ByteList::new(alloc);
     'bytes: while body.len() < size {

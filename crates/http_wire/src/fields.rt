@@ -33,7 +33,8 @@ fn is_named(name: &[u8], buf: &[u8], header: &HeaderSpan) -> bool
 /// Returns whether some field has this name, in any case.
 fn has(name: &[u8], buf: &[u8], headers: &[HeaderSpan]) -> bool
     requires { All (IsHeaderWithin (length buf.now)) headers.now }
-    ensures { result ≡ list_any (λ header. is_named name.now (header_bytes buf.now header)) headers.now }
+    ensures { result ≡
+        list_any (λ header. is_named name.now (header_bytes buf.now header)) headers.now }
 {
     headers.iter().any(|header| is_named(name, buf, header))
 }
@@ -112,7 +113,8 @@ fn joined(known: Option<u64>, value: &[u8]) -> Option<u64>
 /// `None` if one of them is no number or two differ.
 fn agreed_length(buf: &[u8], headers: &[HeaderSpan]) -> Option<u64>
     requires { All (IsHeaderWithin (length buf.now)) headers.now }
-    ensures { result ≡ agreed (values (codes "content-length") (map (header_bytes buf.now) headers.now)) }
+    ensures { result ≡
+        agreed (values (codes "content-length") (map (header_bytes buf.now) headers.now)) }
 {
     let mut known: Option<u64> = None;
     'fields: for header in headers {

@@ -33,10 +33,14 @@ pub(crate) fn read_head<S: Source>(
     source: &mut S,
     scratch: &mut Scratch,
 ) -> Result<ByteList, WireFault>
-    ensures ok { IfOk result (TakesHead (ahead scratch.old (S.left source.old)) (ahead scratch.new (S.left source.new))) }
-    ensures err { IfErr result (Stops (ahead scratch.old (S.left source.old)) (ahead scratch.new (S.left source.new))) }
+    ensures ok { IfOk result
+        (TakesHead (ahead scratch.old (S.left source.old))
+        (ahead scratch.new (S.left source.new))) }
+    ensures err { IfErr result
+        (Stops (ahead scratch.old (S.left source.old)) (ahead scratch.new (S.left source.new))) }
     ensures later { S.faults source.old ≤ S.faults source.new }
-    ensures read_fault { result ≡ Err WireFault.ReadFault → Rose (S.faults source.old) (S.faults source.new) }
+    ensures read_fault { result ≡ Err WireFault.ReadFault →
+        Rose (S.faults source.old) (S.faults source.new) }
 {
     let mut head = ByteList::new(alloc);
     'bytes: while head.len() < LONGEST_HEAD {

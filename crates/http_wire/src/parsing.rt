@@ -28,8 +28,11 @@ pub(crate) struct Parts {
 /// Parses bytes that must be exactly one head. Returns `None` if they are not, or if `headers` is too
 /// small for the fields.
 fn find_head(bytes: &[u8], headers: &mut [HeaderSpan]) -> Option<RequestSpans>
-    ensures some { IfSome result (λ spans. (h : RequestHead) × FoundHead bytes.now headers.new spans h) }
-    ensures none { IfNone result ((h : RequestHead) → ReadsRequest bytes.now h [] → length h.fields ≤ length headers.old → ⊥) }
+    ensures some { IfSome result
+        (λ spans. (h : RequestHead) × FoundHead bytes.now headers.new spans h) }
+    ensures none { IfNone result
+        ((h : RequestHead) → ReadsRequest bytes.now h [] → length h.fields ≤ length headers.old →
+        ⊥) }
 {
     match parse_request(bytes, headers) {
         Ok(Status::Complete(spans)) if spans.len == bytes.len() => Some(spans),
@@ -41,7 +44,8 @@ fn find_head(bytes: &[u8], headers: &mut [HeaderSpan]) -> Option<RequestSpans>
 fn parts_of(bytes: &[u8], spans: RequestSpans, headers: &[HeaderSpan]) -> Result<Parts, WireFault>
     requires { All (IsHeaderWithin (length bytes.now)) headers.now }
     ensures ok { IfOk result (GivesParts (map (header_bytes bytes.now) headers.now) spans) }
-    ensures err { IfErr result (λ fault. body_length (map (header_bytes bytes.now) headers.now) ≡ Err fault) }
+    ensures err { IfErr result
+        (λ fault. body_length (map (header_bytes bytes.now) headers.now) ≡ Err fault) }
 {
     let size = body_length(bytes, headers)?;
     Ok(Parts {

@@ -23,7 +23,14 @@ impl Model for Request {
 
     ghost Value = { Message };
 
-    ghost view = { λ r. record { method = r.method; target = r.target; body = r.body; size = r.size; keep = r.keep } };
+    ghost view = { λ r.
+        record {
+          method = r.method;
+          target = r.target;
+          body = r.body;
+          size = r.size;
+          keep = r.keep;
+        } };
 
     ghost invariant = { λ r. IsUtf8 r.target };
 }

@@ -47,10 +47,13 @@ fn read_message<S: Source>(
     source: &mut S,
     scratch: &mut Scratch,
 ) -> Result<Request, WireFault>
-    ensures request { IfOk result (Takes (ahead scratch.old (S.left source.old)) (ahead scratch.new (S.left source.new))) }
-    ensures fault { IfErr result (Stops (ahead scratch.old (S.left source.old)) (ahead scratch.new (S.left source.new))) }
+    ensures request { IfOk result
+        (Takes (ahead scratch.old (S.left source.old)) (ahead scratch.new (S.left source.new))) }
+    ensures fault { IfErr result
+        (Stops (ahead scratch.old (S.left source.old)) (ahead scratch.new (S.left source.new))) }
     ensures later { S.faults source.old ≤ S.faults source.new }
-    ensures read_fault { result ≡ Err WireFault.ReadFault → Rose (S.faults source.old) (S.faults source.new) }
+    ensures read_fault { result ≡ Err WireFault.ReadFault →
+        Rose (S.faults source.old) (S.faults source.new) }
 {
     let head = read_head(alloc, source, scratch)?;
     let bytes = head.as_slice();
@@ -74,12 +77,16 @@ pub fn read_request<S: Source>(
     source: &mut S,
     scratch: &mut Scratch,
 ) -> Result<Request, WireFault>
-    ensures request { IfOk result (Takes (ahead scratch.old (S.left source.old)) (ahead scratch.new (S.left source.new))) }
-    ensures fault { IfErr result (Stops (ahead scratch.old (S.left source.old)) (ahead scratch.new (S.left source.new))) }
-    ensures exact { IsExact (ahead scratch.old (S.left source.old)) (ahead scratch.new (S.left source.new)) result }
+    ensures request { IfOk result
+        (Takes (ahead scratch.old (S.left source.old)) (ahead scratch.new (S.left source.new))) }
+    ensures fault { IfErr result
+        (Stops (ahead scratch.old (S.left source.old)) (ahead scratch.new (S.left source.new))) }
+    ensures exact { IsExact (ahead scratch.old (S.left source.old))
+        (ahead scratch.new (S.left source.new)) result }
 
     ensures later { S.faults source.old ≤ S.faults source.new }
-    ensures read_fault { result ≡ Err WireFault.ReadFault → Rose (S.faults source.old) (S.faults source.new) }
+    ensures read_fault { result ≡ Err WireFault.ReadFault →
+        Rose (S.faults source.old) (S.faults source.new) }
 {
     read_message(alloc, source, scratch)
 }

@@ -96,12 +96,16 @@ fn send<K: Sink>(
     sent: &[u8],
 ) -> Result<(), SendFault>
     requires { IsStatus status }
-    ensures ok { OnOk result (Appends (K.written sink.old) (K.written sink.new) (text_with status body.now sent.now)) }
-    ensures err { OnErr result (WroteFront (K.written sink.old) (K.written sink.new) (text_with status body.now sent.now)) }
+    ensures ok { OnOk result
+        (Appends (K.written sink.old) (K.written sink.new) (text_with status body.now sent.now)) }
+    ensures err { OnErr result
+        (WroteFront (K.written sink.old) (K.written sink.new)
+        (text_with status body.now sent.now)) }
     ensures no_memory { result ≡ Err SendFault.NoMemory → K.written sink.new ≡ K.written sink.old }
 
     ensures later { K.faults sink.old ≤ K.faults sink.new }
-    ensures write_fault { result ≡ Err SendFault.WriteFault → Rose (K.faults sink.old) (K.faults sink.new) }
+    ensures write_fault { result ≡ Err SendFault.WriteFault →
+        Rose (K.faults sink.old) (K.faults sink.new) }
 {
     let Ok(text) = text_of(alloc, status, body, sent) else {
         return Err(SendFault::NoMemory);
@@ -122,12 +126,15 @@ pub fn write_response<K: Sink>(
     body: &[u8],
 ) -> Result<(), SendFault>
     requires { IsStatus status }
-    ensures ok { OnOk result (Appends (K.written sink.old) (K.written sink.new) (response_text status body.now)) }
-    ensures err { OnErr result (WroteFront (K.written sink.old) (K.written sink.new) (response_text status body.now)) }
+    ensures ok { OnOk result
+        (Appends (K.written sink.old) (K.written sink.new) (response_text status body.now)) }
+    ensures err { OnErr result
+        (WroteFront (K.written sink.old) (K.written sink.new) (response_text status body.now)) }
     ensures no_memory { result ≡ Err SendFault.NoMemory → K.written sink.new ≡ K.written sink.old }
 
     ensures later { K.faults sink.old ≤ K.faults sink.new }
-    ensures write_fault { result ≡ Err SendFault.WriteFault → Rose (K.faults sink.old) (K.faults sink.new) }
+    ensures write_fault { result ≡ Err SendFault.WriteFault →
+        Rose (K.faults sink.old) (K.faults sink.new) }
 {
     send(alloc, sink, status, body, body)
 }
@@ -141,12 +148,15 @@ pub fn write_head<K: Sink>(
     body: &[u8],
 ) -> Result<(), SendFault>
     requires { IsStatus status }
-    ensures ok { OnOk result (Appends (K.written sink.old) (K.written sink.new) (head_text status body.now)) }
-    ensures err { OnErr result (WroteFront (K.written sink.old) (K.written sink.new) (head_text status body.now)) }
+    ensures ok { OnOk result
+        (Appends (K.written sink.old) (K.written sink.new) (head_text status body.now)) }
+    ensures err { OnErr result
+        (WroteFront (K.written sink.old) (K.written sink.new) (head_text status body.now)) }
     ensures no_memory { result ≡ Err SendFault.NoMemory → K.written sink.new ≡ K.written sink.old }
 
     ensures later { K.faults sink.old ≤ K.faults sink.new }
-    ensures write_fault { result ≡ Err SendFault.WriteFault → Rose (K.faults sink.old) (K.faults sink.new) }
+    ensures write_fault { result ≡ Err SendFault.WriteFault →
+        Rose (K.faults sink.old) (K.faults sink.new) }
 {
     send(alloc, sink, status, body, &[])
 }

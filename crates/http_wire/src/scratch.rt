@@ -64,7 +64,8 @@ impl Scratch {
 
     /// Reads a piece from the source if the scratch is empty.
     pub(crate) fn fill<S: Source>(&mut self, source: &mut S) -> Filled
-        ensures kept { Consumes (ahead self.old (S.left source.old)) (ahead self.new (S.left source.new)) [] }
+        ensures kept { Consumes (ahead self.old (S.left source.old))
+            (ahead self.new (S.left source.new)) [] }
         ensures more { result ≡ Filled.More → 0 < length self.new }
         ensures end { result ≡ Filled.End → IsAtEnd (ahead self.new (S.left source.new)) }
         ensures later { S.faults source.old ≤ S.faults source.new }
@@ -89,7 +90,8 @@ impl Scratch {
 
     /// Takes the next byte.
     pub(crate) fn next<S: Source>(&mut self, source: &mut S) -> Next
-        ensures consumed { Consumes (ahead self.old (S.left source.old)) (ahead self.new (S.left source.new)) (byte_used result) }
+        ensures consumed { Consumes (ahead self.old (S.left source.old))
+            (ahead self.new (S.left source.new)) (byte_used result) }
         ensures end { result ≡ Next.End → IsAtEnd (ahead self.new (S.left source.new)) }
         ensures later { S.faults source.old ≤ S.faults source.new }
         ensures fault { result ≡ Next.Fault → Rose (S.faults source.old) (S.faults source.new) }

@@ -142,9 +142,12 @@ fn narrow(
     requires upto { upto ≤ length path.now }
     requires near { IsNear nodes.now.items path.now near }
     requires rising { IsRising (rows_of nodes.now.items order.now.items) }
-    requires around { HoldsRank nodes.now.items order.now.items (take upto path.now) span.low span.high }
-    ensures around { HoldsRank nodes.now.items order.now.items (take upto path.now) result.low result.high }
-    ensures smaller { span.low ≤ at → at < span.high → result.high - result.low < span.high - span.low }
+    requires around { HoldsRank nodes.now.items order.now.items (take upto path.now) span.low
+        span.high }
+    ensures around { HoldsRank nodes.now.items order.now.items (take upto path.now) result.low
+        result.high }
+    ensures smaller { span.low ≤ at → at < span.high →
+        result.high - result.low < span.high - span.low }
 {
     if at < span.low {
         return span;
@@ -233,7 +236,9 @@ pub fn place_from(
 fn before_or_below(nodes: &Nodes, n: u32, path: &NPath) -> bool
     requires linked { IsLinked nodes.now.items }
     requires live { n < length nodes.now.items }
-    ensures { result ≡ (is_before (path_of nodes.now.items n) path.now || is_prefix path.now (path_of nodes.now.items n)) }
+    ensures { result ≡
+        (is_before (path_of nodes.now.items n) path.now ||
+        is_prefix path.now (path_of nodes.now.items n)) }
 {
     let met = meet(nodes, n, path, path.len(), Near::root());
     match met.found {

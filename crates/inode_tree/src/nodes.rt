@@ -22,7 +22,12 @@ impl Model for Nodes {
 
     ghost Value = { NodeList };
 
-    ghost view = { λ s. record { items = joined s.links.items s.rows.items; spare = min (vec_capacity s.links - vec_len s.links) (vec_capacity s.rows - vec_len s.rows) } };
+    ghost view = { λ s.
+        record {
+          items = joined s.links.items s.rows.items;
+          spare = min (vec_capacity s.links - vec_len s.links)
+              (vec_capacity s.rows - vec_len s.rows);
+        } };
 
     ghost invariant = { λ s. length s.rows.items ≡ length s.links.items };
 }

@@ -110,9 +110,16 @@ impl Model for Order {
 
     ghost Value = { Listed };
 
-    ghost view = { λ s. record { items = flat s.pieces.items; spare = if nat_le (vec_len s.pieces + 3) (vec_capacity s.pieces) && nat_le (vec_len s.starts + 3) (vec_capacity s.starts) && nat_le 3 (length s.extra.items) then 1 else 0 } };
+    ghost view = { λ s.
+        record {
+          items = flat s.pieces.items;
+          spare = if nat_le (vec_len s.pieces + 3) (vec_capacity s.pieces) &&
+              nat_le (vec_len s.starts + 3) (vec_capacity s.starts) && nat_le 3 (length s.extra.items)
+              then 1 else 0;
+        } };
 
-    ghost invariant = { λ s. (s.starts.items ≡ starts_of 0 s.pieces.items) × AreEmpty s.extra.items };
+    ghost invariant = { λ s. (s.starts.items ≡ starts_of 0 s.pieces.items) ×
+        AreEmpty s.extra.items };
 }
 
 /// Returns the index of the last piece that begins at or before the `i`-th number.
@@ -121,7 +128,8 @@ fn locate(starts: &Vec<u32>, i: usize) -> usize
     requires first { slice_index_or starts.now.items 0 0 ≡ 0 }
     ensures within { result < length starts.now.items }
     ensures from { slice_index_or starts.now.items result 0 ≤ i }
-    ensures to { result + 1 < length starts.now.items → i < slice_index_or starts.now.items (result + 1) 0 }
+    ensures to { result + 1 < length starts.now.items →
+        i < slice_index_or starts.now.items (result + 1) 0 }
 {
     let mut low = 0usize;
     let mut high = starts.len();
@@ -242,10 +250,14 @@ fn part(pieces: &mut Vec<Piece>, starts: &mut Vec<u32>, c: usize, k: usize, empt
     requires k { k ≤ length (slice_index_or pieces.old.items c []) }
     requires empty { empty ≡ [] }
     requires count { length (flat pieces.old.items) ≤ 1000000 }
-    requires room { (vec_len pieces.old < vec_capacity pieces.old) × (vec_len starts.old < vec_capacity starts.old) }
+    requires room { (vec_len pieces.old < vec_capacity pieces.old) ×
+        (vec_len starts.old < vec_capacity starts.old) }
     ensures starts { starts.new.items ≡ starts_of 0 pieces.new.items }
     ensures parted { pieces.new.items ≡ parted pieces.old.items c k }
-    ensures room { (vec_len pieces.new ≤ vec_len pieces.old + 1) × (vec_capacity pieces.new ≡ vec_capacity pieces.old) × (vec_len starts.new ≤ vec_len starts.old + 1) × (vec_capacity starts.new ≡ vec_capacity starts.old) }
+    ensures room { (vec_len pieces.new ≤ vec_len pieces.old + 1) ×
+        (vec_capacity pieces.new ≡ vec_capacity pieces.old) ×
+        (vec_len starts.new ≤ vec_len starts.old + 1) ×
+        (vec_capacity starts.new ≡ vec_capacity starts.old) }
 {
     let mut other = empty;
     pieces[c].split(k, &mut other);
@@ -365,7 +377,8 @@ fn put(pieces: &mut Vec<Piece>, starts: &mut Vec<u32>, extra: &mut Vec<Piece>, i
     requires starts { starts.old.items ≡ starts_of 0 pieces.old.items }
     requires empty { AreEmpty extra.old.items }
     requires within { i ≤ length (flat pieces.old.items) }
-    requires room { (vec_len pieces.old < vec_capacity pieces.old) × (vec_len starts.old < vec_capacity starts.old) × (0 < length extra.old.items) }
+    requires room { (vec_len pieces.old < vec_capacity pieces.old) ×
+        (vec_len starts.old < vec_capacity starts.old) × (0 < length extra.old.items) }
     requires count { length (flat pieces.old.items) < 1000000 }
     ensures starts { starts.new.items ≡ starts_of 0 pieces.new.items }
     ensures empty { AreEmpty extra.new.items }
@@ -411,7 +424,8 @@ fn append(pieces: &mut Vec<Piece>, starts: &mut Vec<u32>, extra: &mut Vec<Piece>
     requires starts { starts.old.items ≡ starts_of 0 pieces.old.items }
     requires empty { AreEmpty extra.old.items }
     requires count { length (flat pieces.old.items) < 1000000 }
-    requires room { (vec_len pieces.old < vec_capacity pieces.old) × (vec_len starts.old < vec_capacity starts.old) × (0 < length extra.old.items) }
+    requires room { (vec_len pieces.old < vec_capacity pieces.old) ×
+        (vec_len starts.old < vec_capacity starts.old) × (0 < length extra.old.items) }
     ensures starts { starts.new.items ≡ starts_of 0 pieces.new.items }
     ensures flat { flat pieces.new.items ≡ flat pieces.old.items ++ n ∷ [] }
     ensures empty { AreEmpty extra.new.items }

@@ -61,9 +61,15 @@ impl Model for Tree {
 
     ghost Value = { TreeState };
 
-    ghost view = { λ tree. record { rows = rows_of tree.nodes.items tree.order.items; spare = if nat_lt 0 (length tree.free.items) && nat_lt 0 tree.order.spare && nat_lt 0 (spare tree.places) then suc (string_capacity tree.ready) else 0 } };
+    ghost view = { λ tree.
+        record {
+          rows = rows_of tree.nodes.items tree.order.items;
+          spare = if nat_lt 0 (length tree.free.items) && nat_lt 0 tree.order.spare &&
+              nat_lt 0 (spare tree.places) then suc (string_capacity tree.ready) else 0;
+        } };
 
-    ghost invariant = { λ tree. IsKept tree.nodes tree.order tree.places tree.free × (string_bytes tree.ready ≡ []) };
+    ghost invariant = { λ tree. IsKept tree.nodes tree.order tree.places tree.free ×
+        (string_bytes tree.ready ≡ []) };
 }
 
 impl Tree {
@@ -128,7 +134,8 @@ impl Tree {
     /// fails.
     pub fn path_of(&self, id: u64) -> Result<NPath, NoMemory>
         requires { IsSome (entry_of self.now.rows id) }
-        ensures { IfOk result (λ path. option_map (λ e. e.path) (entry_of self.now.rows id) ≡ Some path) }
+        ensures { IfOk result
+            (λ path. option_map (λ e. e.path) (entry_of self.now.rows id) ≡ Some path) }
     {
         match self.places.get(&id) {
             Some(n) => build(self.alloc, &self.nodes, *n),
@@ -216,7 +223,10 @@ impl Tree {
         requires parent { IsTrue (is_dir_at (row_at self.old.rows (parent path.now))) }
         requires fresh { entry_of self.old.rows id ≡ None }
         requires count { length self.old.rows < 1000000 }
-        ensures ok { OnOk result (self.new.rows ≡ put (record { path = path.now; row = record { id = id; kind = Dir None } }) self.old.rows) }
+        ensures ok { OnOk result
+            (self.new.rows ≡
+            put (record { path = path.now; row = record { id = id; kind = Dir None } })
+            self.old.rows) }
         ensures err { OnErr result (self.new.rows ≡ self.old.rows) }
         ensures room { need path.now ≤ self.old.spare → IsOk result }
     {
@@ -243,7 +253,10 @@ impl Tree {
         requires parent { IsTrue (is_dir_at (row_at self.old.rows (parent path.now))) }
         requires fresh { entry_of self.old.rows id ≡ None }
         requires count { length self.old.rows < 1000000 }
-        ensures ok { OnOk result (self.new.rows ≡ put (record { path = path.now; row = record { id = id; kind = File edek } }) self.old.rows) }
+        ensures ok { OnOk result
+            (self.new.rows ≡
+            put (record { path = path.now; row = record { id = id; kind = File edek } })
+            self.old.rows) }
         ensures err { OnErr result (self.new.rows ≡ self.old.rows) }
         ensures room { need path.now ≤ self.old.spare → IsOk result }
     {
@@ -384,10 +397,12 @@ fn provide(nodes: &mut Nodes, order: &Order, free: &mut Vec<u32>) -> Result<(), 
     requires tree { (ids : ℕ → Option ℕ) × IsTree nodes.old.items order.now.items ids }
     requires free { IsFree nodes.old.items order.now.items free.old.items }
     requires capacity { length nodes.old.items ≤ vec_capacity free.old }
-    ensures tree { (ids : ℕ → Option ℕ) → IsTree nodes.old.items order.now.items ids → IsTree nodes.new.items order.now.items ids }
+    ensures tree { (ids : ℕ → Option ℕ) → IsTree nodes.old.items order.now.items ids →
+        IsTree nodes.new.items order.now.items ids }
     ensures free { IsFree nodes.new.items order.now.items free.new.items }
     ensures capacity { length nodes.new.items ≤ vec_capacity free.new }
-    ensures rows { rows_of nodes.new.items order.now.items ≡ rows_of nodes.old.items order.now.items }
+    ensures rows { rows_of nodes.new.items order.now.items ≡
+        rows_of nodes.old.items order.now.items }
     ensures ok { OnOk result (0 < length free.new.items) }
     ensures had { 0 < length free.old.items → IsOk result }
 {
@@ -417,7 +432,8 @@ fn make_room(
     requires ready { string_bytes ready.old ≡ [] }
     ensures kept { IsKept nodes.new order.new places.new free.new }
     ensures ready { string_bytes ready.new ≡ [] }
-    ensures rows { rows_of nodes.new.items order.new.items ≡ rows_of nodes.old.items order.old.items }
+    ensures rows { rows_of nodes.new.items order.new.items ≡
+        rows_of nodes.old.items order.old.items }
     ensures places { (q : ℕ) → get nat_eq places.new q ≡ get nat_eq places.old q }
     ensures ok { OnOk result (HasRoom order.new places.new free.new ready.new name) }
     ensures had { HasRoom order.old places.old free.old ready.old name → IsOk result }
@@ -432,7 +448,8 @@ fn make_room(
 /// Maps an id to its number, in reserved memory.
 fn give(places: &mut HashMap<u64, u32>, id: u64, n: u32)
     requires { 0 < spare places.old }
-    ensures { (q : ℕ) → get nat_eq places.new q ≡ (if nat_eq id q then Some n else get nat_eq places.old q) }
+    ensures { (q : ℕ) →
+        get nat_eq places.new q ≡ (if nat_eq id q then Some n else get nat_eq places.old q) }
 {
     let _ = places.insert(id, n);
 }
@@ -448,7 +465,9 @@ fn reserve_root(
     ensures order { order.new.items ≡ order.old.items }
     ensures places { (q : ℕ) → get nat_eq places.new q ≡ get nat_eq places.old q }
     ensures free { free.new.items ≡ free.old.items }
-    ensures ok { OnOk result ((0 < nodes.new.spare) × (0 < order.new.spare) × (0 < spare places.new) × (1 ≤ vec_capacity free.new)) }
+    ensures ok { OnOk result
+        ((0 < nodes.new.spare) × (0 < order.new.spare) × (0 < spare places.new) ×
+        (1 ≤ vec_capacity free.new)) }
 {
     nodes.reserve()?;
     order.reserve()?;
@@ -482,12 +501,20 @@ fn commit(
     node: Node,
 )
     requires room { (0 < length free.old.items) × (0 < order.old.spare) × (0 < spare places.old) }
-    requires below { slice_index_or free.old.items (length free.old.items - 1) 0 < length nodes.old.items }
+    requires below { slice_index_or free.old.items (length free.old.items - 1) 0 <
+        length nodes.old.items }
     requires at { at ≤ length order.old.items }
     requires rows { length order.old.items < 1000000 }
-    ensures nodes { nodes.new.items ≡ slice_set nodes.old.items (slice_index_or free.old.items (length free.old.items - 1) 0) node }
-    ensures order { order.new.items ≡ insert order.old.items at (slice_index_or free.old.items (length free.old.items - 1) 0) }
-    ensures places { (q : ℕ) → get nat_eq places.new q ≡ (if nat_eq node.row.id q then Some (slice_index_or free.old.items (length free.old.items - 1) 0) else get nat_eq places.old q) }
+    ensures nodes { nodes.new.items ≡
+        slice_set nodes.old.items (slice_index_or free.old.items (length free.old.items - 1) 0)
+        node }
+    ensures order { order.new.items ≡
+        insert order.old.items at (slice_index_or free.old.items (length free.old.items - 1) 0) }
+    ensures places { (q : ℕ) →
+        get nat_eq places.new q ≡
+        (if nat_eq node.row.id q
+        then Some (slice_index_or free.old.items (length free.old.items - 1) 0)
+        else get nat_eq places.old q) }
     ensures free { free.new.items ≡ take (length free.old.items - 1) free.old.items }
     ensures capacity { vec_capacity free.new ≡ vec_capacity free.old }
 {
@@ -516,14 +543,19 @@ fn add(
     requires kept { IsKept nodes.old order.old places.old free.old }
     requires ready { string_bytes ready.old ≡ [] }
     requires absent { row_at (rows_of nodes.old.items order.old.items) path.now ≡ None }
-    requires housed { IsTrue (is_dir_at (row_at (rows_of nodes.old.items order.old.items) (parent path.now))) }
+    requires housed { IsTrue
+        (is_dir_at (row_at (rows_of nodes.old.items order.old.items) (parent path.now))) }
     requires fresh { get nat_eq places.old row.id ≡ None }
     requires count { length order.old.items < 1000000 }
     ensures kept { IsKept nodes.new order.new places.new free.new }
     ensures ready { string_bytes ready.new ≡ [] }
-    ensures ok { OnOk result (rows_of nodes.new.items order.new.items ≡ put (record { path = path.now; row = row }) (rows_of nodes.old.items order.old.items)) }
-    ensures err { OnErr result (rows_of nodes.new.items order.new.items ≡ rows_of nodes.old.items order.old.items) }
-    ensures had { HasRoom order.old places.old free.old ready.old (length (last_name path.now)) → IsOk result }
+    ensures ok { OnOk result
+        (rows_of nodes.new.items order.new.items ≡
+        put (record { path = path.now; row = row }) (rows_of nodes.old.items order.old.items)) }
+    ensures err { OnErr result
+        (rows_of nodes.new.items order.new.items ≡ rows_of nodes.old.items order.old.items) }
+    ensures had { HasRoom order.old places.old free.old ready.old (length (last_name path.now)) →
+        IsOk result }
 {
     make_room(nodes, order, places, free, ready, last_len(path))?;
     hints.refresh(alloc, nodes);
@@ -547,12 +579,14 @@ fn put_in(
     requires ready { string_bytes ready.old ≡ [] }
     requires room { HasRoom order.old places.old free.old ready.old (length (last_name path.now)) }
     requires absent { row_at (rows_of nodes.old.items order.old.items) path.now ≡ None }
-    requires housed { IsTrue (is_dir_at (row_at (rows_of nodes.old.items order.old.items) (parent path.now))) }
+    requires housed { IsTrue
+        (is_dir_at (row_at (rows_of nodes.old.items order.old.items) (parent path.now))) }
     requires fresh { get nat_eq places.old row.id ≡ None }
     requires count { length order.old.items < 1000000 }
     ensures kept { IsKept nodes.new order.new places.new free.new }
     ensures ready { string_bytes ready.new ≡ [] }
-    ensures rows { rows_of nodes.new.items order.new.items ≡ put (record { path = path.now; row = row }) (rows_of nodes.old.items order.old.items) }
+    ensures rows { rows_of nodes.new.items order.new.items ≡
+        put (record { path = path.now; row = row }) (rows_of nodes.old.items order.old.items) }
 {
     let upto = path.len() - 1;
     let near = follow(nodes, order, hints, path, upto);
@@ -570,9 +604,11 @@ fn put_in(
 /// Sets the kind of the row with an id. A directory must stay a directory, and a file a file.
 fn set(nodes: &mut Nodes, order: &Order, places: &HashMap<u64, u32>, id: u64, kind: Kind)
     requires tree { IsTree nodes.old.items order.now.items (get nat_eq places.now) }
-    requires same { option_map (λ e. is_dir e.row.kind) (entry_of (rows_of nodes.old.items order.now.items) id) ≡ Some (is_dir kind) }
+    requires same { option_map (λ e. is_dir e.row.kind)
+        (entry_of (rows_of nodes.old.items order.now.items) id) ≡ Some (is_dir kind) }
     ensures tree { IsTree nodes.new.items order.now.items (get nat_eq places.now) }
-    ensures rows { rows_of nodes.new.items order.now.items ≡ set_kind (rows_of nodes.old.items order.now.items) id kind }
+    ensures rows { rows_of nodes.new.items order.now.items ≡
+        set_kind (rows_of nodes.old.items order.now.items) id kind }
     ensures length { length nodes.new.items ≡ length nodes.old.items }
 {
     let _ = order;

@@ -24,7 +24,8 @@ fn marked(row: &Row) -> bool
 fn zone_above(nodes: &Nodes, order: &Order, n: u32) -> Option<u64>
     requires tree { (ids : ℕ → Option ℕ) × IsTree nodes.now.items order.now.items ids }
     requires live { IsLive order.now.items n }
-    ensures { result ≡ zone_id (rows_of nodes.now.items order.now.items) (path_of nodes.now.items n) }
+    ensures { result ≡
+        zone_id (rows_of nodes.now.items order.now.items) (path_of nodes.now.items n) }
 {
     let _ = order;
     let mut m = n;
@@ -48,7 +49,9 @@ fn standing(nodes: &Nodes, order: &Order, hints: &Hints, path: &NPath, names: us
     requires tree { (ids : ℕ → Option ℕ) × IsTree nodes.now.items order.now.items ids }
     requires names { names ≤ length path.now }
     ensures live { IsLive order.now.items result }
-    ensures zone { zone_id (rows_of nodes.now.items order.now.items) (path_of nodes.now.items result) ≡ zone_id (rows_of nodes.now.items order.now.items) (take names path.now) }
+    ensures zone { zone_id (rows_of nodes.now.items order.now.items)
+        (path_of nodes.now.items result) ≡
+        zone_id (rows_of nodes.now.items order.now.items) (take names path.now) }
 {
     let near = follow(nodes, order, hints, path, names);
     let mut upto = names;

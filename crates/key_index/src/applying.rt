@@ -48,7 +48,8 @@ fn may_create(
     bits: u16,
     material: &Dek,
 ) -> bool
-    ensures { result ≡ (nat_lt 0 opening && not named && opening_of birth == opening && nat_lt greatest birth
+    ensures { result ≡
+        (nat_lt 0 opening && not named && opening_of birth == opening && nat_lt greatest birth
         && nat_lt count 10000 && is_length bits && length material.now == bits / 8) }
 {
     let opened = opening > 0;
@@ -85,7 +86,9 @@ pub(crate) fn applies_to(
 ) -> bool
     requires rising { AreRising rows.now.items }
     requires names { AreNamed rows.now.items names.now.items }
-    ensures { result ≡ applies_at (record { opening = opening; greatest = greatest; rows = rows.now.items }) command.now }
+    ensures { result ≡
+        applies_at (record { opening = opening; greatest = greatest; rows = rows.now.items })
+        command.now }
 {
     match command {
         KeyCommand::Opened { opening: next } => *next as u64 == opening as u64 + 1,

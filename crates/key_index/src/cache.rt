@@ -52,16 +52,20 @@ impl MaterialCache {
     /// used one.
     pub fn get(&mut self, version: MaterialKey) -> Option<Dek>
         ensures value { result ≡ lookup (is_key version) self.old.entries }
-        ensures entries { self.new ≡ lru_cache (promoted (is_key version) self.old.entries) self.old.cap }
+        ensures entries { self.new ≡
+            lru_cache (promoted (is_key version) self.old.entries) self.old.cap }
         // If each entry has the material of its version, the result is the version's, and they still do.
-        ensures cached { (m : Materials) (x : Index) → AreCached m x self.old.entries → IfSome result (λ material. material ≡ m version.birth version.number) × AreCached m x self.new.entries }
+        ensures cached { (m : Materials) (x : Index) → AreCached m x self.old.entries →
+            IfSome result (λ material. material ≡ m version.birth version.number) ×
+            AreCached m x self.new.entries }
     {
         self.look(version)
     }
 
     fn look(&mut self, version: MaterialKey) -> Option<Dek>
         ensures value { result ≡ lookup (is_key version) self.old.entries }
-        ensures entries { self.new ≡ lru_cache (promoted (is_key version) self.old.entries) self.old.cap }
+        ensures entries { self.new ≡
+            lru_cache (promoted (is_key version) self.old.entries) self.old.cap }
     {
         let found = self.cache.peek(&version).copied();
         self.cache.promote(&version);
@@ -71,16 +75,23 @@ impl MaterialCache {
     /// Adds the material of a version. If the cache is full, the version that was used least recently
     /// leaves it. If allocation fails, the cache is unchanged.
     pub fn put(&mut self, version: MaterialKey, material: Dek)
-        ensures entries { (self.new ≡ lru_cache (put_entries is_key self.old version material) self.old.cap) ⊎ (self.new ≡ self.old) }
+        ensures entries { (self.new ≡
+            lru_cache (put_entries is_key self.old version material) self.old.cap) ⊎
+            (self.new ≡ self.old) }
         // Each entry was there, or is the one that was put.
-        ensures only { (entry : MaterialKey × Dek) → Contains self.new.entries entry → Contains self.old.entries entry ⊎ (entry ≡ (version, material)) }
-        ensures cached { (m : Materials) (x : Index) → AreCached m x self.old.entries → material ≡ m version.birth version.number → IsOlder x version → AreCached m x self.new.entries }
+        ensures only { (entry : MaterialKey × Dek) → Contains self.new.entries entry →
+            Contains self.old.entries entry ⊎ (entry ≡ (version, material)) }
+        ensures cached { (m : Materials) (x : Index) → AreCached m x self.old.entries →
+            material ≡ m version.birth version.number → IsOlder x version →
+            AreCached m x self.new.entries }
     {
         self.keep(version, material)
     }
 
     fn keep(&mut self, version: MaterialKey, material: Dek)
-        ensures { (self.new ≡ lru_cache (put_entries is_key self.old version material) self.old.cap) ⊎ (self.new ≡ self.old) }
+        ensures { (self.new ≡
+            lru_cache (put_entries is_key self.old version material) self.old.cap) ⊎
+            (self.new ≡ self.old) }
     {
         match self.cache.put(version, material) {
             Ok(_) => {}

@@ -14,7 +14,9 @@ use hk_base::{Dek, KeyName, NoMemory};
 /// Returns the position of the key with this birth.
 fn position_of(rows: &Vec<PlacedRow>, birth: u64) -> Option<usize>
     requires { AreRising rows.now.items }
-    ensures place { IfSome result (λ place. (place < length rows.now.items) × HoldsAt (λ placed. placed.row.birth ≡ birth) rows.now.items place) }
+    ensures place { IfSome result
+        (λ place. (place < length rows.now.items) ×
+        HoldsAt (λ placed. placed.row.birth ≡ birth) rows.now.items place) }
     ensures none { IfNone result (All (λ placed. is_born birth placed ≡ false) rows.now.items) }
 {
     match rows.binary_search_by_key(&birth, |placed| placed.row.birth) {
@@ -76,9 +78,14 @@ fn insert_name(
     ensures rows { rows.new.items ≡ rows.old.items }
     ensures free { OnOk result (vec_len rows.new < vec_capacity rows.new) }
     ensures order { InOrder (names_of names.new.items) }
-    ensures ok { OnOk result ((other : KeyName) → birth_in names.new.items other ≡ (if bytes_eq row.now.name other then Some row.now.birth else birth_in names.old.items other)) }
+    ensures ok { OnOk result
+        ((other : KeyName) →
+        birth_in names.new.items other ≡
+        (if bytes_eq row.now.name other then Some row.now.birth
+        else birth_in names.old.items other)) }
     ensures err { OnErr result (names.new.items ≡ names.old.items) }
-    ensures room { vec_len rows.old < vec_capacity rows.old → vec_len names.old < vec_capacity names.old → IsOk result }
+    ensures room { vec_len rows.old < vec_capacity rows.old →
+        vec_len names.old < vec_capacity names.old → IsOk result }
 {
     rows.reserve(1)?;
     put(names, row.name, row.birth)
@@ -94,9 +101,15 @@ pub(crate) fn insert(
     requires absent { birth_in names.old.items placed.row.name ≡ None }
     ensures rows { OnOk result (rows.new.items ≡ rows.old.items ++ placed ∷ []) }
     ensures order { InOrder (names_of names.new.items) }
-    ensures ok { OnOk result ((other : KeyName) → birth_in names.new.items other ≡ (if bytes_eq placed.row.name other then Some placed.row.birth else birth_in names.old.items other)) }
-    ensures err { OnErr result ((rows.new.items ≡ rows.old.items) × (names.new.items ≡ names.old.items)) }
-    ensures room { vec_len rows.old < vec_capacity rows.old → vec_len names.old < vec_capacity names.old → IsOk result }
+    ensures ok { OnOk result
+        ((other : KeyName) →
+        birth_in names.new.items other ≡
+        (if bytes_eq placed.row.name other then Some placed.row.birth
+        else birth_in names.old.items other)) }
+    ensures err { OnErr result
+        ((rows.new.items ≡ rows.old.items) × (names.new.items ≡ names.old.items)) }
+    ensures room { vec_len rows.old < vec_capacity rows.old →
+        vec_len names.old < vec_capacity names.old → IsOk result }
 {
     match insert_name(rows, names, &placed.row) {
         Ok(()) => {
@@ -129,8 +142,10 @@ pub(crate) fn roll(
     requires rising { AreRising rows.old.items }
     requires rows { AllByRecursion IsPlacedRow rows.old.items }
     requires empty { buffer.items ≡ [] }
-    ensures room { IfSome (find (is_born birth) rows.old.items) (λ placed. length placed.places < vec_capacity buffer) → IsOk result }
-    ensures ok { OnOk result (rows.new.items ≡ map (rolled_at birth material place) rows.old.items) }
+    ensures room { IfSome (find (is_born birth) rows.old.items)
+        (λ placed. length placed.places < vec_capacity buffer) → IsOk result }
+    ensures ok { OnOk result
+        (rows.new.items ≡ map (rolled_at birth material place) rows.old.items) }
     ensures err { OnErr result (rows.new.items ≡ rows.old.items) }
 {
     match position_of(rows, birth) {

@@ -44,9 +44,16 @@ impl Model for KeyIndex {
 
     ghost Value = { KeptIndex };
 
-    ghost view = { λ t. record { index = record { opening = t.opening; greatest = t.greatest; rows = t.rows.items }; spare = if nat_lt (vec_len t.rows) (vec_capacity t.rows) && nat_lt (vec_len t.names) (vec_capacity t.names) then vec_capacity t.ready else 0 } };
+    ghost view = { λ t.
+        record {
+          index = record { opening = t.opening; greatest = t.greatest; rows = t.rows.items };
+          spare = if nat_lt (vec_len t.rows) (vec_capacity t.rows) &&
+              nat_lt (vec_len t.names) (vec_capacity t.names) then vec_capacity t.ready else 0;
+        } };
 
-    ghost invariant = { λ t. IsSound (record { opening = t.opening; greatest = t.greatest; rows = t.rows.items }) × AreNamed t.rows.items t.names.items × (t.ready.items ≡ []) };
+    ghost invariant = { λ t.
+        IsSound (record { opening = t.opening; greatest = t.greatest; rows = t.rows.items }) ×
+        AreNamed t.rows.items t.names.items × (t.ready.items ≡ []) };
 }
 
 /// Returns the number of places to reserve before a command is applied. A roll reserves twice as many as
@@ -81,7 +88,8 @@ impl KeyIndex {
     pub fn opening(&self) -> u32
         ensures opening { result ≡ self.now.index.opening }
         ensures sound { IsSound self.now.index }
-        ensures table { (m : Materials) → AllSized m self.now.index → IsTable (table_of m self.now.index) }
+        ensures table { (m : Materials) → AllSized m self.now.index →
+            IsTable (table_of m self.now.index) }
     {
         self.opening
     }
@@ -109,11 +117,17 @@ impl KeyIndex {
 
     /// Returns the key with this name. Does not allocate.
     pub fn find(&self, name: &KeyName) -> Option<&IndexRow>
-        ensures found { (m : Materials) → option_map (row_of m) (option_copied result) ≡ find_name (table_of m self.now.index).rows name.now }
+        ensures found { (m : Materials) →
+            option_map (row_of m) (option_copied result) ≡
+            find_name (table_of m self.now.index).rows name.now }
         ensures row { IfSome result (λ row. IsIndexRow row.now) }
         // No other key has this birth.
-        ensures birth { (m : Materials) → IfSome result (λ row. find_birth (table_of m self.now.index).rows row.now.birth ≡ Some (row_of m row.now)) }
-        ensures table { (m : Materials) → AllSized m self.now.index → IsTable (table_of m self.now.index) }
+        ensures birth { (m : Materials) →
+            IfSome result
+            (λ row. find_birth (table_of m self.now.index).rows row.now.birth ≡
+            Some (row_of m row.now)) }
+        ensures table { (m : Materials) → AllSized m self.now.index →
+            IsTable (table_of m self.now.index) }
     {
         match self.named(name) {
             None => None,
@@ -123,7 +137,9 @@ impl KeyIndex {
 
     /// Returns the key with this birth. Does not allocate.
     pub fn with_birth(&self, birth: u64) -> Option<&IndexRow>
-        ensures found { (m : Materials) → option_map (row_of m) (option_copied result) ≡ find_birth (table_of m self.now.index).rows birth }
+        ensures found { (m : Materials) →
+            option_map (row_of m) (option_copied result) ≡
+            find_birth (table_of m self.now.index).rows birth }
         ensures row { IfSome result (λ row. IsIndexRow row.now) }
     {
         match self.born(birth) {
@@ -134,7 +150,9 @@ impl KeyIndex {
 
     /// Returns the name of the key with this birth. Does not allocate.
     pub fn name_of(&self, birth: u64) -> Option<KeyName>
-        ensures { (m : Materials) → result ≡ option_map (λ row. row.name) (find_birth (table_of m self.now.index).rows birth) }
+        ensures { (m : Materials) →
+            result ≡
+            option_map (λ row. row.name) (find_birth (table_of m self.now.index).rows birth) }
     {
         match self.with_birth(birth) {
             None => None,
@@ -152,7 +170,8 @@ impl KeyIndex {
     /// Returns the current version of a key, which is its newest, or `None` if there is no such key. Does
     /// not allocate.
     pub fn current(&self, name: &KeyName) -> Option<VersionName>
-        ensures { (m : Materials) → result ≡ option_map current_of (find_name (table_of m self.now.index).rows name.now) }
+        ensures { (m : Materials) →
+            result ≡ option_map current_of (find_name (table_of m self.now.index).rows name.now) }
     {
         match self.find(name) {
             None => None,
@@ -168,10 +187,14 @@ impl KeyIndex {
     /// current one. Does not allocate.
     pub fn place(&self, version: &VersionName) -> Option<u64>
         ensures place { result ≡ place_of self.now.index.rows version.now }
-        ensures older { (m : Materials) → is_some result ≡ has_older (find_name (table_of m self.now.index).rows version.now.key) version.now.number }
+        ensures older { (m : Materials) →
+            is_some result ≡
+            has_older (find_name (table_of m self.now.index).rows version.now.key)
+            version.now.number }
         // In a file that holds the materials, the version's material is there.
         ensures held { (m : Materials) (file : List ℕ) → AreHeld m file self.now.index
-            → IfSome result (λ place. IsMaterialAt (table_of m self.now.index).rows version.now file place) }
+            → IfSome result
+            (λ place. IsMaterialAt (table_of m self.now.index).rows version.now file place) }
     {
         self.older_place(version)
     }
@@ -225,9 +248,14 @@ impl KeyIndex {
     pub fn apply(&mut self, command: KeyCommand, place: u64) -> Result<(), NoMemory>
         requires { (m : Materials) × IsTrue (applies (table_of m self.old.index) command) }
         ensures ok { OnOk result (self.new.index ≡ after_at self.old.index command place) }
-        ensures table { OnOk result ((m : Materials) → table_of (materials_after m self.old.index command) self.new.index ≡ after (table_of m self.old.index) command) }
+        ensures table { OnOk result
+            ((m : Materials) →
+            table_of (materials_after m self.old.index command) self.new.index ≡
+            after (table_of m self.old.index) command) }
         // A file that holds the materials, and the new one at its place, holds those of the new index.
-        ensures held { OnOk result ((m : Materials) (file : List ℕ) → AreHeld m file self.old.index → HoldsMaterial file command place
+        ensures held { OnOk result
+            ((m : Materials) (file : List ℕ) → AreHeld m file self.old.index →
+            HoldsMaterial file command place
             → AreHeld (materials_after m self.old.index command) file self.new.index) }
         ensures err { OnErr result (self.new.index ≡ self.old.index) }
         ensures room { need command ≤ self.old.spare → IsOk result }
@@ -280,7 +308,8 @@ impl KeyIndex {
 
     /// Adds a key with its first version, whose material is at this place.
     fn create(&mut self, row: IndexRow, place: u64) -> Result<(), NoMemory>
-        requires may { IsTrue (may_create_at self.old.index row.name row.birth row.bits row.current) }
+        requires may { IsTrue
+            (may_create_at self.old.index row.name row.birth row.bits row.current) }
         requires first { row.versions ≡ 1 }
         ensures ok { OnOk result (self.new.index ≡ with_row self.old.index row place) }
         ensures err { OnErr result (self.new.index ≡ self.old.index) }
@@ -297,7 +326,8 @@ impl KeyIndex {
     /// Adds the next version of a key, whose material is at this place.
     fn roll(&mut self, birth: u64, number: u16, material: Dek, place: u64) -> Result<(), NoMemory>
         requires { IsTrue (applies_at self.old.index (Roll birth number material)) }
-        ensures ok { OnOk result (self.new.index ≡ after_at self.old.index (Roll birth number material) place) }
+        ensures ok { OnOk result
+            (self.new.index ≡ after_at self.old.index (Roll birth number material) place) }
         ensures err { OnErr result (self.new.index ≡ self.old.index) }
         ensures room { number + 1 ≤ self.old.spare → IsOk result }
     {

@@ -42,7 +42,8 @@ fn may_create(
     bits: u16,
     material: &Dek,
 ) -> bool
-    ensures { result ≡ (nat_lt 0 opening && not named && opening_of birth == opening && nat_lt greatest birth
+    ensures { result ≡
+        (nat_lt 0 opening && not named && opening_of birth == opening && nat_lt greatest birth
         && nat_lt count 10000 && is_length bits && length material.now == bits / 8) }
 {
     let opened = opening > 0;
@@ -79,7 +80,9 @@ pub(crate) fn applies_to(
 ) -> bool
     requires rising { (top : ℕ) × Rising 0 rows.now.items top }
     requires index { IsIndex rows.now.items names.now.items }
-    ensures { result ≡ applies (record { opening = opening; greatest = greatest; rows = rows.now.items }) command.now }
+    ensures { result ≡
+        applies (record { opening = opening; greatest = greatest; rows = rows.now.items })
+        command.now }
 {
     match command {
         KeyCommand::Opened { opening: next } => *next as u64 == opening as u64 + 1,

@@ -28,8 +28,11 @@ fn compare(entry: &NamedBirth, name: &KeyName) -> Ordering
 /// Returns the position of a name, or as an error the position to insert it at.
 fn search(entries: &Vec<NamedBirth>, name: &KeyName) -> Result<usize, usize>
     requires { InOrder (names_of entries.now.items) }
-    ensures bound { MatchResult result (λ place. place < length entries.now.items) (λ place. place ≤ length entries.now.items) }
-    ensures place { MatchResult result (HoldsAt (λ entry. entry.name ≡ name.now) entries.now.items) (IsPartitionPoint (λ entry. name_cmp entry.name name.now ≡ Less) (λ entry. name_cmp entry.name name.now ≡ Greater) entries.now.items) }
+    ensures bound { MatchResult result (λ place. place < length entries.now.items)
+        (λ place. place ≤ length entries.now.items) }
+    ensures place { MatchResult result (HoldsAt (λ entry. entry.name ≡ name.now) entries.now.items)
+        (IsPartitionPoint (λ entry. name_cmp entry.name name.now ≡ Less)
+        (λ entry. name_cmp entry.name name.now ≡ Greater) entries.now.items) }
 {
     entries.binary_search_by(|entry| compare(entry, name))
 }
@@ -50,7 +53,10 @@ pub(crate) fn put(entries: &mut Vec<NamedBirth>, name: KeyName, birth: u64) -> R
     requires order { InOrder (names_of entries.old.items) }
     requires absent { birth_in entries.old.items name ≡ None }
     ensures order { InOrder (names_of entries.new.items) }
-    ensures ok { OnOk result ((other : KeyName) → birth_in entries.new.items other ≡ (if bytes_eq name other then Some birth else birth_in entries.old.items other)) }
+    ensures ok { OnOk result
+        ((other : KeyName) →
+        birth_in entries.new.items other ≡
+        (if bytes_eq name other then Some birth else birth_in entries.old.items other)) }
     ensures err { OnErr result (entries.new.items ≡ entries.old.items) }
     ensures room { vec_len entries.old < vec_capacity entries.old → IsOk result }
 {

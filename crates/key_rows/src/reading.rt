@@ -123,8 +123,10 @@ fn command_of(alloc: Global, bytes: &[u8]) -> Result<KeyCommand, RecordFault>
 impl KeyCommand {
     /// Decodes a record of the key log. Returns `NoRecord` if the bytes do not encode any command.
     pub fn read(alloc: Global, bytes: &[u8]) -> Result<KeyCommand, RecordFault>
-        ensures read { IfOk result (λ command. HasSpelling command × (bytes.now ≡ spelling command)) }
-        ensures none { IsErrOf result fault.NoRecord → (command : KeyCommand) → HasSpelling command → ¬ (bytes.now ≡ spelling command) }
+        ensures read { IfOk result
+            (λ command. HasSpelling command × (bytes.now ≡ spelling command)) }
+        ensures none { IsErrOf result fault.NoRecord → (command : KeyCommand) →
+            HasSpelling command → ¬ (bytes.now ≡ spelling command) }
     {
         command_of(alloc, bytes)
     }

@@ -37,15 +37,24 @@ impl Model for KeyTable {
 
     ghost Value = { Kept };
 
-    ghost view = { λ t. record { keys = record { opening = t.opening; greatest = t.greatest; rows = t.rows.items }; spare = if nat_lt (vec_len t.rows) (vec_capacity t.rows) && nat_lt (vec_len t.names) (vec_capacity t.names) then vec_capacity t.ready else 0 } };
+    ghost view = { λ t.
+        record {
+          keys = record { opening = t.opening; greatest = t.greatest; rows = t.rows.items };
+          spare = if nat_lt (vec_len t.rows) (vec_capacity t.rows) &&
+              nat_lt (vec_len t.names) (vec_capacity t.names) then vec_capacity t.ready else 0;
+        } };
 
-    ghost invariant = { λ t. IsTable (record { opening = t.opening; greatest = t.greatest; rows = t.rows.items }) × IsIndex t.rows.items t.names.items × (t.ready.items ≡ []) };
+    ghost invariant = { λ t.
+        IsTable (record { opening = t.opening; greatest = t.greatest; rows = t.rows.items }) ×
+        IsIndex t.rows.items t.names.items × (t.ready.items ≡ []) };
 }
 
 /// Returns the position of the key with this birth.
 fn place_of(rows: &Vec<KeyRow>, birth: u64) -> Option<usize>
     requires { (top : ℕ) × Rising 0 rows.now.items top }
-    ensures place { IfSome result (λ place. (place < length rows.now.items) × HoldsAt (λ row. row.birth ≡ birth) rows.now.items place) }
+    ensures place { IfSome result
+        (λ place. (place < length rows.now.items) ×
+        HoldsAt (λ row. row.birth ≡ birth) rows.now.items place) }
     ensures none { IfNone result (All (λ row. is_born birth row ≡ false) rows.now.items) }
 {
     match rows.binary_search_by_key(&birth, |row| row.birth) {
@@ -92,7 +101,8 @@ fn remove(rows: &mut Vec<KeyRow>, birth: u64)
 fn roll(rows: &mut Vec<KeyRow>, buffer: Vec<Dek>, birth: u64, material: Dek) -> Result<(), NoMemory>
     requires rising { (top : ℕ) × Rising 0 rows.old.items top }
     requires empty { buffer.items ≡ [] }
-    ensures room { IfSome (find_birth rows.old.items birth) (λ row. length row.materials < vec_capacity buffer) → IsOk result }
+    ensures room { IfSome (find_birth rows.old.items birth)
+        (λ row. length row.materials < vec_capacity buffer) → IsOk result }
     ensures ok { OnOk result (rows.new.items ≡ map (rolled birth material) rows.old.items) }
     ensures err { OnErr result (rows.new.items ≡ rows.old.items) }
 {
@@ -154,7 +164,8 @@ impl KeyTable {
         ensures found { option_copied result ≡ find_name self.now.keys.rows name.now }
         ensures row { IfSome result (λ row. IsRow row.now) }
         // No other key has this birth.
-        ensures birth { IfSome result (λ row. find_birth self.now.keys.rows row.now.birth ≡ Some row.now) }
+        ensures birth { IfSome result
+            (λ row. find_birth self.now.keys.rows row.now.birth ≡ Some row.now) }
         ensures table { IsTable self.now.keys }
     {
         row_of(&self.rows, &self.names, name)

@@ -26,7 +26,9 @@ fn append_text(out: &mut ByteList, description: &Description) -> Result<(), NoMe
 /// Appends the first fields of the record of a creation. If allocation fails, a prefix of that may
 /// have been appended.
 fn append_front(out: &mut ByteList, birth: u64, name: &KeyName, bits: u16) -> Result<(), NoMemory>
-    ensures ok { OnOk result (out.new ≡ out.old ++ 2 ∷ (to_be_bytes w64 birth ++ name_field name.now ++ to_be_bytes w16 bits)) }
+    ensures ok { OnOk result
+        (out.new ≡
+        out.old ++ 2 ∷ (to_be_bytes w64 birth ++ name_field name.now ++ to_be_bytes w16 bits)) }
     ensures is_name { OnOk result (IsKeyName name.now) }
     ensures err { OnErr result (take (length out.old) out.new ≡ out.old) }
 {
@@ -43,7 +45,9 @@ fn append_back(
     created: u64,
     material: &Dek,
 ) -> Result<(), NoMemory>
-    ensures ok { OnOk result (out.new ≡ out.old ++ text_field description.now ++ to_be_bytes w64 created ++ material.now) }
+    ensures ok { OnOk result
+        (out.new ≡
+        out.old ++ text_field description.now ++ to_be_bytes w64 created ++ material.now) }
     ensures short { OnOk result (length description.now ≤ 65535) }
     ensures is_text { OnOk result (IsUtf8 description.now) }
     ensures err { OnErr result (take (length out.old) out.new ≡ out.old) }
@@ -55,7 +59,9 @@ fn append_back(
 
 /// Appends the record of a roll. If allocation fails, a prefix of it may have been appended.
 fn append_roll(out: &mut ByteList, birth: u64, number: u16, material: &Dek) -> Result<(), NoMemory>
-    ensures ok { OnOk result (out.new ≡ out.old ++ 3 ∷ (to_be_bytes w64 birth ++ to_be_bytes w16 number ++ material.now)) }
+    ensures ok { OnOk result
+        (out.new ≡
+        out.old ++ 3 ∷ (to_be_bytes w64 birth ++ to_be_bytes w16 number ++ material.now)) }
     ensures long { OnOk result (IsTrue (is_key_length (length material.now))) }
     ensures err { OnErr result (take (length out.old) out.new ≡ out.old) }
 {

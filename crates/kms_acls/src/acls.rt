@@ -38,7 +38,15 @@ impl Model for Acls {
 
     ghost Value = { Lists };
 
-    ghost view = { λ a. record { services = a.services; blacklists = a.blacklists; defaults = a.defaults; whitelists = a.whitelists; keys = a.keys; groups = a.groups } };
+    ghost view = { λ a.
+        record {
+          services = a.services;
+          blacklists = a.blacklists;
+          defaults = a.defaults;
+          whitelists = a.whitelists;
+          keys = a.keys;
+          groups = a.groups;
+        } };
 }
 
 fn denied(table: AclTable, op: AclOp) -> Option<Denied>
@@ -64,7 +72,9 @@ impl Acls {
 
     /// Adds a list for an operation of the service.
     fn add_service(&mut self, alloc: Global, op: AclOp, acl: &Acl) -> Result<(), NoMemory>
-        ensures { OnOk result ((lines : List PropLine) → AreListsOf self.old lines → AreListsOf self.new (lines ++ prop.Service op acl.now ∷ [])) }
+        ensures { OnOk result
+            ((lines : List PropLine) → AreListsOf self.old lines →
+            AreListsOf self.new (lines ++ prop.Service op acl.now ∷ [])) }
     {
         let members = Members::of(alloc, acl)?;
         self.services.add(op, members)
@@ -72,7 +82,9 @@ impl Acls {
 
     /// Adds a blacklist for an operation of the service.
     fn add_blacklist(&mut self, alloc: Global, op: AclOp, acl: &Acl) -> Result<(), NoMemory>
-        ensures { OnOk result ((lines : List PropLine) → AreListsOf self.old lines → AreListsOf self.new (lines ++ prop.Blacklist op acl.now ∷ [])) }
+        ensures { OnOk result
+            ((lines : List PropLine) → AreListsOf self.old lines →
+            AreListsOf self.new (lines ++ prop.Blacklist op acl.now ∷ [])) }
     {
         let members = Members::of(alloc, acl)?;
         self.blacklists.add(op, members)
@@ -80,7 +92,9 @@ impl Acls {
 
     /// Adds the default list for an operation on keys.
     fn add_default(&mut self, alloc: Global, op: AclOp, acl: &Acl) -> Result<(), NoMemory>
-        ensures { OnOk result ((lines : List PropLine) → AreListsOf self.old lines → AreListsOf self.new (lines ++ prop.Default op acl.now ∷ [])) }
+        ensures { OnOk result
+            ((lines : List PropLine) → AreListsOf self.old lines →
+            AreListsOf self.new (lines ++ prop.Default op acl.now ∷ [])) }
     {
         let members = Members::of(alloc, acl)?;
         self.defaults.add(op, members)
@@ -88,7 +102,9 @@ impl Acls {
 
     /// Adds the whitelist for an operation on keys.
     fn add_whitelist(&mut self, alloc: Global, op: AclOp, acl: &Acl) -> Result<(), NoMemory>
-        ensures { OnOk result ((lines : List PropLine) → AreListsOf self.old lines → AreListsOf self.new (lines ++ prop.Whitelist op acl.now ∷ [])) }
+        ensures { OnOk result
+            ((lines : List PropLine) → AreListsOf self.old lines →
+            AreListsOf self.new (lines ++ prop.Whitelist op acl.now ∷ [])) }
     {
         let members = Members::of(alloc, acl)?;
         self.whitelists.add(op, members)
@@ -102,7 +118,9 @@ impl Acls {
         op: AclOp,
         acl: &Acl,
     ) -> Result<(), NoMemory>
-        ensures { OnOk result ((lines : List PropLine) → AreListsOf self.old lines → AreListsOf self.new (lines ++ prop.Key key.now op acl.now ∷ [])) }
+        ensures { OnOk result
+            ((lines : List PropLine) → AreListsOf self.old lines →
+            AreListsOf self.new (lines ++ prop.Key key.now op acl.now ∷ [])) }
     {
         let members = Members::of(alloc, acl)?;
         self.keys.add(key.as_bytes(), op, members)
@@ -110,7 +128,9 @@ impl Acls {
 
     /// Adds a list for all operations on a key.
     fn add_key_all(&mut self, alloc: Global, key: &KeyName, acl: &Acl) -> Result<(), NoMemory>
-        ensures { OnOk result ((lines : List PropLine) → AreListsOf self.old lines → AreListsOf self.new (lines ++ prop.KeyAll key.now acl.now ∷ [])) }
+        ensures { OnOk result
+            ((lines : List PropLine) → AreListsOf self.old lines →
+            AreListsOf self.new (lines ++ prop.KeyAll key.now acl.now ∷ [])) }
     {
         let members = Members::of(alloc, acl)?;
         self.keys.add_all(key.as_bytes(), members)
@@ -118,7 +138,9 @@ impl Acls {
 
     /// Adds a group.
     fn add_group(&mut self, alloc: Global, group: &Text, users: &TextList) -> Result<(), NoMemory>
-        ensures { OnOk result ((lines : List PropLine) → AreListsOf self.old lines → AreListsOf self.new (lines ++ prop.Group group.now users.now ∷ [])) }
+        ensures { OnOk result
+            ((lines : List PropLine) → AreListsOf self.old lines →
+            AreListsOf self.new (lines ++ prop.Group group.now users.now ∷ [])) }
     {
         let users = set_of(alloc, users)?;
         self.groups.add(group.as_str().as_bytes(), users)
@@ -126,7 +148,9 @@ impl Acls {
 
     /// Adds the content of a line.
     fn add(&mut self, alloc: Global, line: &PropLine) -> Result<(), NoMemory>
-        ensures { OnOk result ((lines : List PropLine) → AreListsOf self.old lines → AreListsOf self.new (lines ++ line.now ∷ [])) }
+        ensures { OnOk result
+            ((lines : List PropLine) → AreListsOf self.old lines →
+            AreListsOf self.new (lines ++ line.now ∷ [])) }
     {
         match line {
             PropLine::Service { op, acl } => self.add_service(alloc, *op, acl),
@@ -156,7 +180,8 @@ impl Acls {
 
     /// Returns whether one of the groups has the user.
     fn in_a_group(&self, user: &[u8], groups: &TextList) -> bool
-        ensures { result ≡ list_any (λ g. names_user user.now (users_of g self.now.groups)) groups.now }
+        ensures { result ≡
+            list_any (λ g. names_user user.now (users_of g self.now.groups)) groups.now }
     {
         groups
             .as_slice()
@@ -207,7 +232,13 @@ impl Acls {
     /// Returns the denial of an operation on a key that has lists of its own, if the user is denied
     /// it.
     fn own_denial(&self, user: &[u8], op: AclOp, lists: &KeyLists) -> Option<Denied>
-        ensures { result ≡ (if (unwrap_or (option_map (holds self.now.groups user.now) (list_of op lists.now.by_op)) false || unwrap_or (option_map (holds self.now.groups user.now) lists.now.all) false) then None else denied_by KeyAcl op) }
+        ensures { result ≡
+            (if
+            (unwrap_or
+            (option_map (holds self.now.groups user.now) (list_of op lists.now.by_op))
+            false ||
+            unwrap_or (option_map (holds self.now.groups user.now) lists.now.all) false)
+            then None else denied_by KeyAcl op) }
     {
         let in_list = self.stands_in(user, lists.by_op.get(op)).unwrap_or(false);
         let in_all = self.stands_in(user, lists.all.as_ref()).unwrap_or(false);
@@ -248,7 +279,10 @@ impl Acls {
     /// Returns the denial of the operations that a call requests of the service, if the user is
     /// denied one.
     fn denial_by_service(&self, user: &[u8], asked: Asked<'_>) -> Option<Denied>
-        ensures { result ≡ option_or (service_denial (stands self.now user.now) asked.entry.service) (if asked.entry.material then service_denial (stands self.now user.now) op.SetKeyMaterial else None) }
+        ensures { result ≡
+            option_or (service_denial (stands self.now user.now) asked.entry.service)
+            (if asked.entry.material
+            then service_denial (stands self.now user.now) op.SetKeyMaterial else None) }
     {
         if let Some(denied) = self.service_denial(user, asked.service) {
             return Some(denied);
@@ -283,7 +317,8 @@ impl Acls {
     /// Does not allocate. Takes time logarithmic in the number of lines for each list that is
     /// searched, and linear in the number of the list's groups.
     pub fn verdict(&self, user: &Text, call: &KmsCall) -> Result<Shown, Denied>
-        ensures { (lines : List PropLine) → AreListsOf self.now lines → result ≡ verdict lines user.now call.now }
+        ensures { (lines : List PropLine) → AreListsOf self.now lines →
+            result ≡ verdict lines user.now call.now }
     {
         let user = user.as_str().as_bytes();
         let asked = asked_by(call);

@@ -40,7 +40,10 @@ impl Groups {
     /// Adds a group, unless there is one with this name. Takes time logarithmic in the number of
     /// groups.
     pub fn add(&mut self, group: &[u8], users: Names) -> Result<(), NoMemory>
-        ensures { OnOk result ((other : List ℕ) → users_of other self.new ≡ option_or (users_of other self.old) (given_if (bytes_eq other group.now) users)) }
+        ensures { OnOk result
+            ((other : List ℕ) →
+            users_of other self.new ≡
+            option_or (users_of other self.old) (given_if (bytes_eq other group.now) users)) }
     {
         if self.users.contains_key(group) {
             return Ok(());

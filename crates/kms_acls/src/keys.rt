@@ -52,7 +52,8 @@ impl Keys {
     /// Removes and returns the lists of a key. They are empty if it has none.
     fn take(&mut self, key: &[u8]) -> KeyLists
         ensures taken { result ≡ unwrap_or (lists_of_key key.now self.old) no_lists }
-        ensures others { (other : List ℕ) → bytes_eq other key.now ≡ false → lists_of_key other self.new ≡ lists_of_key other self.old }
+        ensures others { (other : List ℕ) → bytes_eq other key.now ≡ false →
+            lists_of_key other self.new ≡ lists_of_key other self.old }
     {
         let none = KeyLists {
             by_op: AclsByOp::new(self.alloc),
@@ -63,7 +64,10 @@ impl Keys {
 
     /// Inserts the lists of a key.
     fn put(&mut self, key: &[u8], lists: KeyLists) -> Result<(), NoMemory>
-        ensures { OnOk result ((other : List ℕ) → lists_of_key other self.new ≡ (if bytes_eq other key.now then Some lists else lists_of_key other self.old)) }
+        ensures { OnOk result
+            ((other : List ℕ) →
+            lists_of_key other self.new ≡
+            (if bytes_eq other key.now then Some lists else lists_of_key other self.old)) }
     {
         let key = Vec::from_slice(self.alloc, key)?;
         self.lists.insert(key, lists)?;
@@ -72,9 +76,16 @@ impl Keys {
 
     /// Adds the list of an operation on a key. The first such list counts.
     pub fn add(&mut self, key: &[u8], op: AclOp, members: Members) -> Result<(), NoMemory>
-        ensures added { OnOk result ((k : List ℕ) (o : AclOp) → list_of_key k o self.new ≡ option_or (list_of_key k o self.old) (given_if (bytes_eq k key.now && same_op op o) members)) }
+        ensures added { OnOk result
+            ((k : List ℕ) (o : AclOp) →
+            list_of_key k o self.new ≡
+            option_or (list_of_key k o self.old)
+            (given_if (bytes_eq k key.now && same_op op o) members)) }
         ensures all { OnOk result ((k : List ℕ) → all_of_key k self.new ≡ all_of_key k self.old) }
-        ensures has_lines { OnOk result ((k : List ℕ) → is_some (lists_of_key k self.new) ≡ (is_some (lists_of_key k self.old) || bytes_eq k key.now)) }
+        ensures has_lines { OnOk result
+            ((k : List ℕ) →
+            is_some (lists_of_key k self.new) ≡
+            (is_some (lists_of_key k self.old) || bytes_eq k key.now)) }
     {
         let mut lists = self.take(key);
         lists.by_op.add(op, members)?;
@@ -84,9 +95,16 @@ impl Keys {
 
     /// Adds the list for all operations on a key. The first such list counts.
     pub fn add_all(&mut self, key: &[u8], members: Members) -> Result<(), NoMemory>
-        ensures added { OnOk result ((k : List ℕ) → all_of_key k self.new ≡ option_or (all_of_key k self.old) (given_if (bytes_eq k key.now) members)) }
-        ensures by_op { OnOk result ((k : List ℕ) (o : AclOp) → list_of_key k o self.new ≡ list_of_key k o self.old) }
-        ensures has_lines { OnOk result ((k : List ℕ) → is_some (lists_of_key k self.new) ≡ (is_some (lists_of_key k self.old) || bytes_eq k key.now)) }
+        ensures added { OnOk result
+            ((k : List ℕ) →
+            all_of_key k self.new ≡
+            option_or (all_of_key k self.old) (given_if (bytes_eq k key.now) members)) }
+        ensures by_op { OnOk result
+            ((k : List ℕ) (o : AclOp) → list_of_key k o self.new ≡ list_of_key k o self.old) }
+        ensures has_lines { OnOk result
+            ((k : List ℕ) →
+            is_some (lists_of_key k self.new) ≡
+            (is_some (lists_of_key k self.old) || bytes_eq k key.now)) }
     {
         let lists = self.take(key);
         let by_op = lists.by_op;

@@ -17,7 +17,8 @@ pub struct Members {
 
 /// Returns the names of a list as a set.
 pub fn set_of(alloc: Global, texts: &TextList) -> Result<Names, NoMemory>
-    ensures { IfOk result (λ names. (name : List ℕ) → is_among name names ≡ is_among name texts.now) }
+    ensures { IfOk result
+        (λ names. (name : List ℕ) → is_among name names ≡ is_among name texts.now) }
 {
     let mut names = Names::new(alloc);
     for text in texts.as_slice() {

@@ -63,7 +63,8 @@ pub fn call_keys<D: Disk, W: Words, C: Clock, N: Naming, R: Wait>(
     user: Text,
     call: KmsCall,
 ) -> KmsReply
-    ensures { Makes D.state W.to_come pass.old (KmsAct.Call user call) (KmsActed.Call result) pass.new }
+    ensures { Makes D.state W.to_come pass.old (KmsAct.Call user call) (KmsActed.Call result)
+        pass.new }
 {
     let acted = cell.act(rt, pass, KmsAct::Call { user, call });
     reply_in(acted)
@@ -90,8 +91,10 @@ pub fn deposit_key<D: Disk, W: Words, C: Clock, N: Naming, R: Wait>(
     pass: &mut KmsPass<D, W, C, N>,
     sealed: Sealed,
 ) -> Deposit
-    requires seen { (ticket : ATicket) × HasTicket ticket pass.old.seen × IsSealedWith ticket sealed }
-    ensures { Makes D.state W.to_come pass.old (KmsAct.Deposit sealed) (KmsActed.Deposit result) pass.new }
+    requires seen { (ticket : ATicket) × HasTicket ticket pass.old.seen ×
+        IsSealedWith ticket sealed }
+    ensures { Makes D.state W.to_come pass.old (KmsAct.Deposit sealed) (KmsActed.Deposit result)
+        pass.new }
 {
     let acted = cell.act(rt, pass, KmsAct::Deposit { sealed });
     answer_in(acted)
@@ -103,7 +106,9 @@ pub fn close_keys<D: Disk, W: Words + Drop, C: Clock + Drop, N: Naming>(
     cell: KmsCell<D, W, C, N>,
     pass: KmsPass<D, W, C, N>,
 ) -> (Kms, D)
-    ensures closes { (last : KmsView D W) × Closes (KmsSteps D.state W.to_come) KmsAllows pass last × (result.0 ≡ last.kms) × (result.1 ≡ last.disk) }
+    ensures closes { (last : KmsView D W) ×
+        Closes (KmsSteps D.state W.to_come) KmsAllows pass last × (result.0 ≡ last.kms) ×
+        (result.1 ≡ last.disk) }
     ensures runs { RunsOn (D.state result.1) result.0 }
 {
     let side = cell.close(pass);

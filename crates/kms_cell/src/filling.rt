@@ -36,7 +36,8 @@ pub fn fill_turn<D: Disk, W: Words, C: Clock, N: Naming, R: Wait, V: Words, G: G
     words: &mut V,
     gate: &G,
 ) -> FillTurn
-    ensures { FillsTurn D.state W.to_come (V.to_come words.old) (V.to_come words.new) pass.old result pass.new }
+    ensures { FillsTurn D.state W.to_come (V.to_come words.old) (V.to_come words.new) pass.old
+        result pass.new }
 {
     let Some(ticket) = take_ticket(rt, cell, pass) else {
         return FillTurn::NothingLow;
@@ -55,7 +56,8 @@ pub fn fill_keys<D: Disk, W: Words, C: Clock, N: Naming, R: Wait, V: Words>(
     ticket: &Ticket,
 ) -> FillTurn
     requires seen { HasTicket ticket.now pass.old.seen }
-    ensures { FillsKeys D.state W.to_come ticket.now (V.to_come words.old) (V.to_come words.new) pass.old result pass.new }
+    ensures { FillsKeys D.state W.to_come ticket.now (V.to_come words.old) (V.to_come words.new)
+        pass.old result pass.new }
 {
     // The history that the pass has seen is legal.
     let _ = pass.count();

@@ -73,8 +73,10 @@ pub fn material_for<W: Words>(words: &mut W, bits: u64, given: Option<ByteList>)
 /// Draws an initialization vector and then a data encryption key, and encrypts the key under the
 /// current version.
 fn draw_edek<W: Words>(words: &mut W, current: &CurrentVersion) -> Edek
-    ensures key { result ≡ drawn_edek current.now.version current.now.material (W.to_come words.old) 0 }
-    ensures rest { Drew (W.to_come words.old) (W.to_come words.new) (words_of_draw (length current.now.material)) }
+    ensures key { result ≡
+        drawn_edek current.now.version current.now.material (W.to_come words.old) 0 }
+    ensures rest { Drew (W.to_come words.old) (W.to_come words.new)
+        (words_of_draw (length current.now.material)) }
 {
     let iv = draw_iv(words);
     let len = current.material.as_bytes().len() as u64;
@@ -89,7 +91,8 @@ fn draw_edek<W: Words>(words: &mut W, current: &CurrentVersion) -> Edek
 /// Draws an initialization vector and then a data encryption key, and seals the key with a ticket.
 pub fn draw_sealed<W: Words>(words: &mut W, ticket: &Ticket) -> Sealed
     ensures key { result ≡ sealed_with ticket.now (W.to_come words.old) }
-    ensures rest { Drew (W.to_come words.old) (W.to_come words.new) (words_of_draw (length ticket.now.material)) }
+    ensures rest { Drew (W.to_come words.old) (W.to_come words.new)
+        (words_of_draw (length ticket.now.material)) }
 {
     let iv = draw_iv(words);
     let len = ticket.material.as_bytes().len() as u64;
@@ -104,7 +107,9 @@ pub fn draw_edeks<W: Words>(
     count: u32,
     others: EdekList,
 ) -> Result<EdekList, NoMemory>
-    ensures { MatchResult result (λ keys. DrewKeys current.now (W.to_come words.old) (W.to_come words.new) count others keys) (λ _. DrewSome current.now (W.to_come words.old) (W.to_come words.new) count) }
+    ensures { MatchResult result
+        (λ keys. DrewKeys current.now (W.to_come words.old) (W.to_come words.new) count others keys)
+        (λ _. DrewSome current.now (W.to_come words.old) (W.to_come words.new) count) }
 {
     let mut keys = others;
     for _ in 0..count {

@@ -36,7 +36,13 @@ impl Model for Kms {
 
     ghost Value = { RunningKms };
 
-    ghost view = { λ a. record { acls = a.acls; store = a.service.store; next = a.service.next; ready = a.service.ready } };
+    ghost view = { λ a.
+        record {
+          acls = a.acls;
+          store = a.service.store;
+          next = a.service.next;
+          ready = a.service.ready;
+        } };
 }
 
 /// Returns whether the reply to a call hides the material of the new version.
@@ -76,14 +82,16 @@ impl Kms {
         acls: Acls,
         sizes: Sizes,
     ) -> Result<Kms, StartFault>
-        ensures started { IfOk result (λ kms. Starts (D.state disk.old) (D.state disk.new) (running kms)) }
+        ensures started { IfOk result
+            (λ kms. Starts (D.state disk.old) (D.state disk.new) (running kms)) }
         ensures lists { IfOk result (λ kms. kms.acls ≡ acls) }
         ensures queues { IfOk result (λ kms. kms.ready ≡ no_queues sizes) }
 
         // A crash at any moment leaves what it might have left before, or the log found, as it is
         // or with its end gate read as 1, or its commands with or without the new opening. After the
         // first sync of the call a crash leaves only the latter. If that sync failed, nothing was written.
-        ensures opens { OpensKeys (D.state disk.old) (D.state disk.new) (λ fault. IsErrOf result fault) }
+        ensures opens { OpensKeys (D.state disk.old) (D.state disk.new)
+            (λ fault. IsErrOf result fault) }
     {
         match Service::start(alloc, disk, sizes.queue, sizes.watermark) {
             Err(fault) => {
@@ -97,10 +105,13 @@ impl Kms {
     /// Opens the key log again, as a start does, and continues with what it finds and with the same
     /// lists and sizes, and without ready keys. If that fails the service is unchanged, but must not be used with this disk again.
     pub fn restart<D: Disk>(&mut self, alloc: Global, disk: &mut D) -> Result<(), StartFault>
-        ensures started { MatchResult result (λ _. Starts (D.state disk.old) (D.state disk.new) (running self.new)) (λ _. self.new ≡ self.old) }
+        ensures started { MatchResult result
+            (λ _. Starts (D.state disk.old) (D.state disk.new) (running self.new))
+            (λ _. self.new ≡ self.old) }
         ensures lists { self.new.acls ≡ self.old.acls }
         ensures queues { OnOk result (self.new.ready ≡ record self.old.ready { queues = [] }) }
-        ensures opens { OpensKeys (D.state disk.old) (D.state disk.new) (λ fault. IsErrOf result fault) }
+        ensures opens { OpensKeys (D.state disk.old) (D.state disk.new)
+            (λ fault. IsErrOf result fault) }
     {
         let size = self.service.size();
         let watermark = self.service.watermark();
@@ -152,7 +163,8 @@ impl Kms {
     /// ready keys, either. Does not allocate.
     pub fn deposit(&mut self, sealed: Sealed) -> Deposit
         ensures answer { result ≡ deposit_answer (keys_of (running self.old)) sealed }
-        ensures queues { self.new ≡ record self.old { ready = queues_with self.old.ready sealed result } }
+        ensures queues { self.new ≡
+            record self.old { ready = queues_with self.old.ready sealed result } }
     {
         self.service.deposit(sealed)
     }
@@ -177,9 +189,12 @@ impl Kms {
         user: &Text,
         call: KmsCall,
     ) -> KmsReply
-        requires stands { Tells (D.state disk.old) → ((commands : List KeyCommand) × IsKeyStoreOf (D.state disk.old) self.old.store commands) }
+        requires stands { Tells (D.state disk.old) →
+            ((commands : List KeyCommand) ×
+            IsKeyStoreOf (D.state disk.old) self.old.store commands) }
         ensures { (lines : List PropLine) → AreListsOf self.old.acls lines
-            → ActsFor lines user.now (D.state disk.old) (D.state disk.new) self.old (W.to_come words.old) now call result self.new (W.to_come words.new) }
+            → ActsFor lines user.now (D.state disk.old) (D.state disk.new) self.old
+            (W.to_come words.old) now call result self.new (W.to_come words.new) }
     {
         let shown = match self.acls.verdict(user, &call) {
             Err(denied) => {

@@ -23,7 +23,8 @@ pub enum QueueChange {
 
 /// Returns what a pending command does to the queues if it takes effect.
 pub fn change_by(pending: Option<&KeyCommand>) -> QueueChange
-    ensures { (all : AllQueues) → changed result all ≡ settled_queues true (option_copied pending.entry) all }
+    ensures { (all : AllQueues) →
+        changed result all ≡ settled_queues true (option_copied pending.entry) all }
 {
     match pending {
         Some(KeyCommand::Roll { birth, .. }) => QueueChange::Empty { birth: *birth },
@@ -77,8 +78,13 @@ pub fn hand_out<W: Words>(
     current: &CurrentVersion,
     count: u32,
 ) -> Result<EdekList, NoMemory>
-    ensures given { IfOk result (HandsOut queues.old queues.new current.now (W.to_come words.old) (W.to_come words.new) count) }
-    ensures wanting { OnErr result ((queues.new ≡ queues.old) × DrewSome current.now (W.to_come words.old) (W.to_come words.new) (count - length (ready_in queues.old.queues current.now.birth))) }
+    ensures given { IfOk result
+        (HandsOut queues.old queues.new current.now (W.to_come words.old) (W.to_come words.new)
+        count) }
+    ensures wanting { OnErr result
+        ((queues.new ≡ queues.old) ×
+        DrewSome current.now (W.to_come words.old) (W.to_come words.new)
+        (count - length (ready_in queues.old.queues current.now.birth))) }
 {
     let birth = current.birth;
     let ready = copy_ready(alloc, queues, birth, count)?;

@@ -45,7 +45,8 @@ pub fn newest(row: &KeyRow) -> Option<CurrentVersion>
 /// are wrong for a key of `bits` bits.
 fn parts(bits: u16, sent: &RawEdek) -> Option<(Iv, Dek)>
     requires { IsTrue (is_length bits) }
-    ensures { MatchOption result (is_malformed bits sent.now ≡ true) (λ parts. HasParts bits sent.now parts.0 parts.1) }
+    ensures { MatchOption result (is_malformed bits sent.now ≡ true)
+        (λ parts. HasParts bits sent.now parts.0 parts.1) }
 {
     let iv = Iv::read(sent.iv.as_slice())?;
     let sealed = Dek::read(sent.sealed.as_slice())?;
@@ -58,7 +59,8 @@ fn parts(bits: u16, sent: &RawEdek) -> Option<(Iv, Dek)>
 /// Checks a key that was sent. Returns it with the material of its version, or the refusal.
 fn check(row: &KeyRow, sent: &RawEdek) -> Result<Checked, KmsRefusal>
     requires { IsRow row.now }
-    ensures { MatchResult result (Checks row.now sent.now) (λ why. first_cause (sent_causes (Some row.now) row.now.name sent.now) ≡ Some why) }
+    ensures { MatchResult result (Checks row.now sent.now)
+        (λ why. first_cause (sent_causes (Some row.now) row.now.name sent.now) ≡ Some why) }
 {
     let Some(material) = row.materials.get(sent.version.number) else {
         return Err(KmsRefusal::NoSuchVersion);
@@ -79,7 +81,8 @@ fn check(row: &KeyRow, sent: &RawEdek) -> Result<Checked, KmsRefusal>
 /// Opens a key that was sent under its version, or returns the refusal.
 pub fn open(row: &KeyRow, sent: &RawEdek) -> Result<Dek, KmsRefusal>
     requires { IsRow row.now }
-    ensures { MatchResult result (OpensIn row.now sent.now) (λ why. first_cause (sent_causes (Some row.now) row.now.name sent.now) ≡ Some why) }
+    ensures { MatchResult result (OpensIn row.now sent.now)
+        (λ why. first_cause (sent_causes (Some row.now) row.now.name sent.now) ≡ Some why) }
 {
     let checked = check(row, sent)?;
     Ok(unseal(&checked.material, checked.iv, &checked.sealed))
@@ -89,7 +92,8 @@ pub fn open(row: &KeyRow, sent: &RawEdek) -> Result<Dek, KmsRefusal>
 /// current version is returned unchanged. The initialization vector never changes.
 pub fn reseal(row: &KeyRow, sent: &RawEdek) -> Result<Edek, KmsRefusal>
     requires { IsRow row.now }
-    ensures { MatchResult result (Reseals row.now sent.now) (λ why. first_cause (sent_causes (Some row.now) row.now.name sent.now) ≡ Some why) }
+    ensures { MatchResult result (Reseals row.now sent.now)
+        (λ why. first_cause (sent_causes (Some row.now) row.now.name sent.now) ≡ Some why) }
 {
     let checked = check(row, sent)?;
     let Some(current) = newest(row) else {

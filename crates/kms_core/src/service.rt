@@ -92,8 +92,11 @@ impl Service {
         watermark: u16,
     ) -> Result<Service, StartFault>
         ensures started { IfOk result (Starts (D.state disk.old) (D.state disk.new)) }
-        ensures queues { IfOk result (λ service. service.ready ≡ record { size = size; watermark = watermark; queues = [] }) }
-        ensures opens { OpensKeys (D.state disk.old) (D.state disk.new) (λ fault. IsErrOf result fault) }
+        ensures queues { IfOk result
+            (λ service. service.ready ≡
+            record { size = size; watermark = watermark; queues = [] }) }
+        ensures opens { OpensKeys (D.state disk.old) (D.state disk.new)
+            (λ fault. IsErrOf result fault) }
     {
         let store = Store::start(alloc, disk)?;
         let _ = store.opening();
@@ -147,8 +150,11 @@ impl Service {
         now: u64,
         call: KmsCall,
     ) -> KmsReply
-        requires stands { Tells (D.state disk.old) → ((commands : List KeyCommand) × IsKeyStoreOf (D.state disk.old) self.old.store commands) }
-        ensures { KmsActsOnDisk (D.state disk.old) (D.state disk.new) self.old (W.to_come words.old) now call result self.new (W.to_come words.new) }
+        requires stands { Tells (D.state disk.old) →
+            ((commands : List KeyCommand) ×
+            IsKeyStoreOf (D.state disk.old) self.old.store commands) }
+        ensures { KmsActsOnDisk (D.state disk.old) (D.state disk.new) self.old (W.to_come words.old)
+            now call result self.new (W.to_come words.new) }
     {
         match call {
             KmsCall::Create {
@@ -175,8 +181,12 @@ impl Service {
 
     /// Settles the pending command, if there is one. If the disk fails, it is still pending.
     fn settle<D: Disk>(&mut self, disk: &mut D) -> Result<(), StoreRefusal>
-        requires stands { Tells (D.state disk.old) → ((commands : List KeyCommand) × IsKeyStoreOf (D.state disk.old) self.old.store commands) }
-        ensures { MatchResult result (λ _. Settling (D.state disk.old) (D.state disk.new) self.old self.new) (λ _. IsUnsettled (D.state disk.old) (D.state disk.new) self.old self.new) }
+        requires stands { Tells (D.state disk.old) →
+            ((commands : List KeyCommand) ×
+            IsKeyStoreOf (D.state disk.old) self.old.store commands) }
+        ensures { MatchResult result
+            (λ _. Settling (D.state disk.old) (D.state disk.new) self.old self.new)
+            (λ _. IsUnsettled (D.state disk.old) (D.state disk.new) self.old self.new) }
     {
         let _ = self.store.opening();
         let effect = change_by(self.store.pending());
@@ -197,8 +207,12 @@ impl Service {
         material: Option<ByteList>,
         description: Description,
     ) -> KmsReply
-        requires stands { Tells (D.state disk.old) → ((commands : List KeyCommand) × IsKeyStoreOf (D.state disk.old) self.old.store commands) }
-        ensures { KmsActsOnDisk (D.state disk.old) (D.state disk.new) self.old (W.to_come words.old) now (KmsCall.Create name bits material description) result self.new (W.to_come words.new) }
+        requires stands { Tells (D.state disk.old) →
+            ((commands : List KeyCommand) ×
+            IsKeyStoreOf (D.state disk.old) self.old.store commands) }
+        ensures { KmsActsOnDisk (D.state disk.old) (D.state disk.new) self.old (W.to_come words.old)
+            now (KmsCall.Create name bits material description) result self.new
+            (W.to_come words.new) }
     {
         match self.settle(disk) {
             Err(_) => {
@@ -222,8 +236,12 @@ impl Service {
         description: Description,
     ) -> KmsReply
         requires settled { self.old.store.pending ≡ None }
-        requires stands { Tells (D.state disk.old) → ((commands : List KeyCommand) × IsKeyStoreOf (D.state disk.old) self.old.store commands) }
-        ensures { ActsSettled (D.state disk.old) (D.state disk.new) self.old (W.to_come words.old) now (KmsCall.Create name bits material description) result self.new (W.to_come words.new) }
+        requires stands { Tells (D.state disk.old) →
+            ((commands : List KeyCommand) ×
+            IsKeyStoreOf (D.state disk.old) self.old.store commands) }
+        ensures { ActsSettled (D.state disk.old) (D.state disk.new) self.old (W.to_come words.old)
+            now (KmsCall.Create name bits material description) result self.new
+            (W.to_come words.new) }
     {
         if let Some(why) = self.create_refusal(&name, bits, &material) {
             drop(material);
@@ -240,7 +258,8 @@ impl Service {
         bits: u64,
         material: &Option<ByteList>,
     ) -> Option<KmsRefusal>
-        ensures { result ≡ first_cause (create_causes (keys_of self.now) name.now bits material.now) }
+        ensures { result ≡
+            first_cause (create_causes (keys_of self.now) name.now bits material.now) }
     {
         if self.key(name).is_some() {
             return Some(KmsRefusal::KeyExists);
@@ -278,8 +297,11 @@ impl Service {
         requires bits { IsTrue (is_length bits) }
         requires length { length material ≡ bits / 8 }
         requires settled { self.old.store.pending ≡ None }
-        requires stands { Tells (D.state disk.old) → ((commands : List KeyCommand) × IsKeyStoreOf (D.state disk.old) self.old.store commands) }
-        ensures { Commits (D.state disk.old) (D.state disk.new) self.old (created (keys_of self.old) now name bits description material 0) result self.new }
+        requires stands { Tells (D.state disk.old) →
+            ((commands : List KeyCommand) ×
+            IsKeyStoreOf (D.state disk.old) self.old.store commands) }
+        ensures { Commits (D.state disk.old) (D.state disk.new) self.old
+            (created (keys_of self.old) now name bits description material 0) result self.new }
     {
         let birth = self.store.opening() as u64 * BIRTHS + self.next;
         let command = KeyCommand::Create {
@@ -311,8 +333,11 @@ impl Service {
         name: KeyName,
         material: Option<ByteList>,
     ) -> KmsReply
-        requires stands { Tells (D.state disk.old) → ((commands : List KeyCommand) × IsKeyStoreOf (D.state disk.old) self.old.store commands) }
-        ensures { KmsActsOnDisk (D.state disk.old) (D.state disk.new) self.old (W.to_come words.old) now (KmsCall.Roll name material) result self.new (W.to_come words.new) }
+        requires stands { Tells (D.state disk.old) →
+            ((commands : List KeyCommand) ×
+            IsKeyStoreOf (D.state disk.old) self.old.store commands) }
+        ensures { KmsActsOnDisk (D.state disk.old) (D.state disk.new) self.old (W.to_come words.old)
+            now (KmsCall.Roll name material) result self.new (W.to_come words.new) }
     {
         match self.settle(disk) {
             Err(_) => KmsReply::Refused(KmsRefusal::StoreFault),
@@ -330,8 +355,11 @@ impl Service {
         material: Option<ByteList>,
     ) -> KmsReply
         requires settled { self.old.store.pending ≡ None }
-        requires stands { Tells (D.state disk.old) → ((commands : List KeyCommand) × IsKeyStoreOf (D.state disk.old) self.old.store commands) }
-        ensures { ActsSettled (D.state disk.old) (D.state disk.new) self.old (W.to_come words.old) now (KmsCall.Roll name material) result self.new (W.to_come words.new) }
+        requires stands { Tells (D.state disk.old) →
+            ((commands : List KeyCommand) ×
+            IsKeyStoreOf (D.state disk.old) self.old.store commands) }
+        ensures { ActsSettled (D.state disk.old) (D.state disk.new) self.old (W.to_come words.old)
+            now (KmsCall.Roll name material) result self.new (W.to_come words.new) }
     {
         let Some(key) = self.standing(&name) else {
             drop(material);
@@ -351,7 +379,8 @@ impl Service {
 
     /// Returns the facts about a key that a change needs, or `None` if there is no such key.
     fn standing(&self, name: &KeyName) -> Option<Standing>
-        ensures known { MatchOption result (is_none (row_of (keys_of self.now) name.now) ≡ true) (StandsSo (keys_of self.now) name.now) }
+        ensures known { MatchOption result (is_none (row_of (keys_of self.now) name.now) ≡ true)
+            (StandsSo (keys_of self.now) name.now) }
         ensures length { IfSome result (λ key. IsTrue (is_length key.bits)) }
     {
         let row = self.store.table().find(name)?;
@@ -374,8 +403,12 @@ impl Service {
         requires room { key.versions < 65535 }
         requires length { length material ≡ key.bits / 8 }
         requires settled { self.old.store.pending ≡ None }
-        requires stands { Tells (D.state disk.old) → ((commands : List KeyCommand) × IsKeyStoreOf (D.state disk.old) self.old.store commands) }
-        ensures { Commits (D.state disk.old) (D.state disk.new) self.old (rolled (keys_of self.old) name (row_of (keys_of self.old) name) material 0) result self.new }
+        requires stands { Tells (D.state disk.old) →
+            ((commands : List KeyCommand) ×
+            IsKeyStoreOf (D.state disk.old) self.old.store commands) }
+        ensures { Commits (D.state disk.old) (D.state disk.new) self.old
+            (rolled (keys_of self.old) name (row_of (keys_of self.old) name) material 0) result
+            self.new }
     {
         let command = KeyCommand::Roll {
             birth: key.birth,
@@ -393,8 +426,12 @@ impl Service {
     }
 
     fn delete<D: Disk>(&mut self, disk: &mut D, name: KeyName) -> KmsReply
-        requires stands { Tells (D.state disk.old) → ((commands : List KeyCommand) × IsKeyStoreOf (D.state disk.old) self.old.store commands) }
-        ensures { (words : ℕ → ℕ) (now : ℕ) → KmsActsOnDisk (D.state disk.old) (D.state disk.new) self.old words now (KmsCall.Delete name) result self.new words }
+        requires stands { Tells (D.state disk.old) →
+            ((commands : List KeyCommand) ×
+            IsKeyStoreOf (D.state disk.old) self.old.store commands) }
+        ensures { (words : ℕ → ℕ) (now : ℕ) →
+            KmsActsOnDisk (D.state disk.old) (D.state disk.new) self.old words now
+            (KmsCall.Delete name) result self.new words }
     {
         match self.settle(disk) {
             Err(_) => KmsReply::Refused(KmsRefusal::StoreFault),
@@ -405,8 +442,12 @@ impl Service {
     /// Deletes a key. No command may be pending.
     fn delete_settled<D: Disk>(&mut self, disk: &mut D, name: KeyName) -> KmsReply
         requires settled { self.old.store.pending ≡ None }
-        requires stands { Tells (D.state disk.old) → ((commands : List KeyCommand) × IsKeyStoreOf (D.state disk.old) self.old.store commands) }
-        ensures { (words : ℕ → ℕ) (now : ℕ) → ActsSettled (D.state disk.old) (D.state disk.new) self.old words now (KmsCall.Delete name) result self.new words }
+        requires stands { Tells (D.state disk.old) →
+            ((commands : List KeyCommand) ×
+            IsKeyStoreOf (D.state disk.old) self.old.store commands) }
+        ensures { (words : ℕ → ℕ) (now : ℕ) →
+            ActsSettled (D.state disk.old) (D.state disk.new) self.old words now
+            (KmsCall.Delete name) result self.new words }
     {
         let Some(key) = self.standing(&name) else {
             return KmsReply::Refused(KmsRefusal::NoSuchKey);
@@ -418,8 +459,11 @@ impl Service {
     fn remove<D: Disk>(&mut self, disk: &mut D, birth: u64) -> KmsReply
         requires born { is_some (find_birth self.old.store.table.keys.rows birth) ≡ true }
         requires settled { self.old.store.pending ≡ None }
-        requires stands { Tells (D.state disk.old) → ((commands : List KeyCommand) × IsKeyStoreOf (D.state disk.old) self.old.store commands) }
-        ensures { Commits (D.state disk.old) (D.state disk.new) self.old (deleted (keys_of self.old) birth) result self.new }
+        requires stands { Tells (D.state disk.old) →
+            ((commands : List KeyCommand) ×
+            IsKeyStoreOf (D.state disk.old) self.old.store commands) }
+        ensures { Commits (D.state disk.old) (D.state disk.new) self.old
+            (deleted (keys_of self.old) birth) result self.new }
     {
         let command = KeyCommand::Delete { birth };
         match self.store.commit(self.alloc, disk, command) {
@@ -436,14 +480,16 @@ impl Service {
     fn key(&self, name: &KeyName) -> Option<&KeyRow>
         ensures found { option_copied result ≡ row_of (keys_of self.now) name.now }
         ensures row { IfSome result (λ row. IsRow row.now) }
-        ensures birth { IfSome result (λ row. find_birth self.now.store.table.keys.rows row.now.birth ≡ Some row.now) }
+        ensures birth { IfSome result
+            (λ row. find_birth self.now.store.table.keys.rows row.now.birth ≡ Some row.now) }
     {
         self.store.table().find(name)
     }
 
     /// Drops the ready keys of a key.
     fn invalidate(&mut self, name: KeyName) -> KmsReply
-        ensures { (words : ℕ → ℕ) (now : ℕ) → WorksOn self.old words now (KmsCall.Invalidate name) result self.new words }
+        ensures { (words : ℕ → ℕ) (now : ℕ) →
+            WorksOn self.old words now (KmsCall.Invalidate name) result self.new words }
     {
         let Some(row) = self.key(&name) else {
             return KmsReply::Refused(KmsRefusal::NoSuchKey);
@@ -454,7 +500,8 @@ impl Service {
     }
 
     fn metadata(&self, name: KeyName) -> KmsReply
-        ensures { Answers (keys_of self.now) (KmsCall.Metadata name) (KmsReply.Metadata (meta_of name (row_of (keys_of self.now) name))) result }
+        ensures { Answers (keys_of self.now) (KmsCall.Metadata name)
+            (KmsReply.Metadata (meta_of name (row_of (keys_of self.now) name))) result }
     {
         match self.meta(&name) {
             Err(why) => KmsReply::Refused(why),
@@ -464,7 +511,12 @@ impl Service {
 
     /// Answers with the metadata of a key.
     fn meta(&self, name: &KeyName) -> Result<KeyMeta, KmsRefusal>
-        ensures { MatchResult result (λ known. (is_absent (keys_of self.now) name.now ≡ false) × (known ≡ meta_of name.now (row_of (keys_of self.now) name.now))) (λ why. MatchBool (is_absent (keys_of self.now) name.now) (why ≡ KmsRefusal.NoSuchKey) (why ≡ KmsRefusal.NoMemory)) }
+        ensures { MatchResult result
+            (λ known. (is_absent (keys_of self.now) name.now ≡ false) ×
+            (known ≡ meta_of name.now (row_of (keys_of self.now) name.now)))
+            (λ why.
+            MatchBool (is_absent (keys_of self.now) name.now) (why ≡ KmsRefusal.NoSuchKey)
+            (why ≡ KmsRefusal.NoMemory)) }
     {
         let Some(row) = self.key(name) else {
             return Err(KmsRefusal::NoSuchKey);
@@ -474,7 +526,8 @@ impl Service {
     }
 
     fn metadatas(&self, names: NameList) -> KmsReply
-        ensures { Answers (keys_of self.now) (KmsCall.Metadatas names) (KmsReply.Metadatas (metas_of (keys_of self.now) names)) result }
+        ensures { Answers (keys_of self.now) (KmsCall.Metadatas names)
+            (KmsReply.Metadatas (metas_of (keys_of self.now) names)) result }
     {
         if self.lacks_any(names.as_slice()) {
             return KmsReply::Refused(KmsRefusal::NoSuchKey);
@@ -494,7 +547,8 @@ impl Service {
     /// Returns the metadata of existing keys, in the order requested.
     fn metas(&self, names: &[KeyName]) -> Result<MetaList, KmsRefusal>
         requires { list_any (is_absent (keys_of self.now)) names.now ≡ false }
-        ensures { MatchResult result (λ known. known ≡ metas_of (keys_of self.now) names.now) (λ why. why ≡ KmsRefusal.NoMemory) }
+        ensures { MatchResult result (λ known. known ≡ metas_of (keys_of self.now) names.now)
+            (λ why. why ≡ KmsRefusal.NoMemory) }
     {
         let mut known = MetaList::with_room(self.alloc, names.len())?;
         for name in names {
@@ -505,7 +559,8 @@ impl Service {
     }
 
     fn names(&self) -> KmsReply
-        ensures { Answers (keys_of self.now) KmsCall.Names (KmsReply.Names (names_in_order (keys_of self.now).table.rows)) result }
+        ensures { Answers (keys_of self.now) KmsCall.Names
+            (KmsReply.Names (names_in_order (keys_of self.now).table.rows)) result }
     {
         match self.store.table().names() {
             Err(NoMemory) => KmsReply::Refused(KmsRefusal::NoMemory),
@@ -514,7 +569,9 @@ impl Service {
     }
 
     fn current_version(&self, name: KeyName) -> KmsReply
-        ensures { Answers (keys_of self.now) (KmsCall.Current name) (KmsReply.Version (current_version (row_of (keys_of self.now) name)) (Some (current_material (keys_of self.now) name))) result }
+        ensures { Answers (keys_of self.now) (KmsCall.Current name)
+            (KmsReply.Version (current_version (row_of (keys_of self.now) name))
+            (Some (current_material (keys_of self.now) name))) result }
     {
         match self.current(&name) {
             None => KmsReply::Refused(KmsRefusal::NoSuchKey),
@@ -526,7 +583,8 @@ impl Service {
     }
 
     fn versions(&self, name: KeyName) -> KmsReply
-        ensures { Answers (keys_of self.now) (KmsCall.Versions name) (KmsReply.Versions (all_versions (row_of (keys_of self.now) name))) result }
+        ensures { Answers (keys_of self.now) (KmsCall.Versions name)
+            (KmsReply.Versions (all_versions (row_of (keys_of self.now) name))) result }
     {
         let Some(row) = self.key(&name) else {
             return KmsReply::Refused(KmsRefusal::NoSuchKey);
@@ -538,7 +596,8 @@ impl Service {
     }
 
     fn version(&self, version: VersionName) -> KmsReply
-        ensures { Answers (keys_of self.now) (KmsCall.Version version) (KmsReply.Version version (material_of (keys_of self.now).table.rows version)) result }
+        ensures { Answers (keys_of self.now) (KmsCall.Version version)
+            (KmsReply.Version version (material_of (keys_of self.now).table.rows version)) result }
     {
         let Some(row) = self.key(&version.key) else {
             return KmsReply::Refused(KmsRefusal::NoSuchKey);
@@ -553,7 +612,9 @@ impl Service {
     }
 
     fn generate<W: Words>(&mut self, words: &mut W, name: KeyName, count: u32) -> KmsReply
-        ensures { (now : ℕ) → WorksOn self.old (W.to_come words.old) now (KmsCall.Generate name count) result self.new (W.to_come words.new) }
+        ensures { (now : ℕ) →
+            WorksOn self.old (W.to_come words.old) now (KmsCall.Generate name count) result self.new
+            (W.to_come words.new) }
     {
         let Some(current) = self.current(&name) else {
             return KmsReply::Refused(KmsRefusal::NoSuchKey);
@@ -586,7 +647,8 @@ impl Service {
     /// Puts a ready key into the queue of its key, unless there is no room for it.
     pub fn deposit(&mut self, sealed: Sealed) -> Deposit
         ensures answer { result ≡ deposit_answer (keys_of self.old) sealed }
-        ensures queues { self.new ≡ record self.old { ready = queues_with self.old.ready sealed result } }
+        ensures queues { self.new ≡
+            record self.old { ready = queues_with self.old.ready sealed result } }
     {
         let _ = self.count();
         if !self.is_present(&sealed) {
@@ -611,7 +673,8 @@ impl Service {
         requires queue { has_queue self.old.ready.queues sealed.now.birth ≡ true }
         requires key { IsOfNewest (keys_of self.old) sealed.now }
         ensures answer { result ≡ deposit_answer (keys_of self.old) sealed.now }
-        ensures queues { self.new ≡ record self.old { ready = queues_with self.old.ready sealed.now result } }
+        ensures queues { self.new ≡
+            record self.old { ready = queues_with self.old.ready sealed.now result } }
     {
         match self.queues.put(sealed.birth, sealed.edek()) {
             Ok(()) => Deposit::Kept,
@@ -635,7 +698,8 @@ impl Service {
 
     /// Answers with the current opening, and the current birth and version of the key.
     fn stale(&self, sealed: &Sealed) -> Deposit
-        ensures { result ≡ stale_for (keys_of self.now) (row_of (keys_of self.now) sealed.now.version.key) }
+        ensures { result ≡
+            stale_for (keys_of self.now) (row_of (keys_of self.now) sealed.now.version.key) }
     {
         let opening = self.store.opening();
         match self.key(&sealed.version.key) {
@@ -654,14 +718,16 @@ impl Service {
 
     /// Returns the current version of a key with its material, or `None` if there is no such key.
     fn current(&self, name: &KeyName) -> Option<CurrentVersion>
-        ensures { MatchOption result (is_none (row_of (keys_of self.now) name.now) ≡ true) (IsCurrent (keys_of self.now) name.now) }
+        ensures { MatchOption result (is_none (row_of (keys_of self.now) name.now) ≡ true)
+            (IsCurrent (keys_of self.now) name.now) }
     {
         let row = self.key(name)?;
         newest(row)
     }
 
     fn decrypt(&self, name: KeyName, sent: RawEdek) -> KmsReply
-        ensures { Answers (keys_of self.now) (KmsCall.Decrypt name sent) (KmsReply.Key (unsealed_dek (keys_of self.now) sent)) result }
+        ensures { Answers (keys_of self.now) (KmsCall.Decrypt name sent)
+            (KmsReply.Key (unsealed_dek (keys_of self.now) sent)) result }
     {
         let Some(row) = self.key(&name) else {
             return KmsReply::Refused(KmsRefusal::NoSuchKey);
@@ -673,7 +739,8 @@ impl Service {
     }
 
     fn reencrypt(&self, name: KeyName, sent: RawEdek) -> KmsReply
-        ensures { Answers (keys_of self.now) (KmsCall.Reencrypt name sent) (KmsReply.Resealed (resealed (keys_of self.now) name sent)) result }
+        ensures { Answers (keys_of self.now) (KmsCall.Reencrypt name sent)
+            (KmsReply.Resealed (resealed (keys_of self.now) name sent)) result }
     {
         let Some(row) = self.key(&name) else {
             return KmsReply::Refused(KmsRefusal::NoSuchKey);
@@ -685,7 +752,8 @@ impl Service {
     }
 
     fn batch(&self, name: KeyName, sent: RawEdekList) -> KmsReply
-        ensures { Answers (keys_of self.now) (KmsCall.Batch name sent) (KmsReply.Ready (map (resealed (keys_of self.now) name) sent)) result }
+        ensures { Answers (keys_of self.now) (KmsCall.Batch name sent)
+            (KmsReply.Ready (map (resealed (keys_of self.now) name) sent)) result }
     {
         let Some(row) = self.key(&name) else {
             return KmsReply::Refused(KmsRefusal::NoSuchKey);

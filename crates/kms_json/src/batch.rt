@@ -24,7 +24,8 @@ pub fn read_batch(alloc: Global, name: KeyName, body: &[u8]) -> Result<KmsCall, 
 
 fn batch_of(alloc: Global, name: KeyName, value: &Value) -> Result<KmsCall, JsonFault>
     ensures ok { IfOk result (λ call. spec.batch_of name (view value.now) ≡ Ok call) }
-    ensures err { IfErr result (λ e. ¬ (e ≡ JsonFault.NoMemory) → spec.batch_of name (view value.now) ≡ Err e) }
+    ensures err { IfErr result
+        (λ e. ¬ (e ≡ JsonFault.NoMemory) → spec.batch_of name (view value.now) ≡ Err e) }
 {
     let Some(items) = value.as_array() else {
         return Err(JsonFault::NotJson);
@@ -35,7 +36,8 @@ fn batch_of(alloc: Global, name: KeyName, value: &Value) -> Result<KmsCall, Json
 
 fn elements_of(alloc: Global, items: &Vec<Value>) -> Result<RawEdekList, JsonFault>
     ensures ok { IfOk result (λ sent. spec.elements_of (items_view items.now.items) ≡ Ok sent) }
-    ensures err { IfErr result (λ e. ¬ (e ≡ JsonFault.NoMemory) → spec.elements_of (items_view items.now.items) ≡ Err e) }
+    ensures err { IfErr result
+        (λ e. ¬ (e ≡ JsonFault.NoMemory) → spec.elements_of (items_view items.now.items) ≡ Err e) }
 {
     let mut sent = RawEdekList::with_room(alloc, items.len())?;
     for item in items {
@@ -47,7 +49,8 @@ fn elements_of(alloc: Global, items: &Vec<Value>) -> Result<RawEdekList, JsonFau
 
 fn element_of(alloc: Global, value: &Value) -> Result<RawEdek, JsonFault>
     ensures ok { IfOk result (λ edek. spec.element_of (view value.now) ≡ Ok edek) }
-    ensures err { IfErr result (λ e. ¬ (e ≡ JsonFault.NoMemory) → spec.element_of (view value.now) ≡ Err e) }
+    ensures err { IfErr result
+        (λ e. ¬ (e ≡ JsonFault.NoMemory) → spec.element_of (view value.now) ≡ Err e) }
 {
     if !value.is_object() {
         return Err(JsonFault::BadValue(Member::Element));
@@ -85,7 +88,8 @@ fn version_named(text: &str) -> Option<VersionName>
 /// Returns the sealed bytes of an element.
 fn sealed_in(alloc: Global, element: &Value) -> Result<ByteList, JsonFault>
     ensures ok { IfOk result (λ sealed. spec.sealed_in (view element.now) ≡ Ok sealed) }
-    ensures err { IfErr result (λ e. ¬ (e ≡ JsonFault.NoMemory) → spec.sealed_in (view element.now) ≡ Err e) }
+    ensures err { IfErr result
+        (λ e. ¬ (e ≡ JsonFault.NoMemory) → spec.sealed_in (view element.now) ≡ Err e) }
 {
     let member = Member::EncryptedKeyVersion;
     let inner = needed(element, "encryptedKeyVersion", member)?;

@@ -22,7 +22,8 @@ pub fn read_create(alloc: Global, body: &[u8]) -> Result<KmsCall, JsonFault>
 
 fn create_of(alloc: Global, value: &Value) -> Result<KmsCall, JsonFault>
     ensures ok { IfOk result (λ call. spec.create_of (view value.now) ≡ Ok call) }
-    ensures err { IfErr result (λ e. ¬ (e ≡ JsonFault.NoMemory) → spec.create_of (view value.now) ≡ Err e) }
+    ensures err { IfErr result
+        (λ e. ¬ (e ≡ JsonFault.NoMemory) → spec.create_of (view value.now) ≡ Err e) }
 {
     if !value.is_object() {
         return Err(JsonFault::NotJson);
@@ -32,7 +33,8 @@ fn create_of(alloc: Global, value: &Value) -> Result<KmsCall, JsonFault>
 
 fn create_members(alloc: Global, object: &Value) -> Result<KmsCall, JsonFault>
     ensures ok { IfOk result (λ call. spec.create_members (view object.now) ≡ Ok call) }
-    ensures err { IfErr result (λ e. ¬ (e ≡ JsonFault.NoMemory) → spec.create_members (view object.now) ≡ Err e) }
+    ensures err { IfErr result
+        (λ e. ¬ (e ≡ JsonFault.NoMemory) → spec.create_members (view object.now) ≡ Err e) }
 {
     let name = name_in(object)?;
     cipher_in(object)?;
@@ -89,7 +91,8 @@ fn length_in(object: &Value) -> Result<u64, JsonFault>
 /// Returns the material if there is one.
 pub(crate) fn material_in(alloc: Global, object: &Value) -> Result<Option<ByteList>, JsonFault>
     ensures ok { IfOk result (λ material. spec.material_in (view object.now) ≡ Ok material) }
-    ensures err { IfErr result (λ e. ¬ (e ≡ JsonFault.NoMemory) → spec.material_in (view object.now) ≡ Err e) }
+    ensures err { IfErr result
+        (λ e. ¬ (e ≡ JsonFault.NoMemory) → spec.material_in (view object.now) ≡ Err e) }
 {
     let Some(value) = given(object, "material") else {
         return Ok(None);
@@ -99,8 +102,10 @@ pub(crate) fn material_in(alloc: Global, object: &Value) -> Result<Option<ByteLi
 }
 
 fn description_in(alloc: Global, object: &Value) -> Result<Description, JsonFault>
-    ensures ok { IfOk result (λ description. spec.description_in (view object.now) ≡ Ok description) }
-    ensures err { IfErr result (λ e. ¬ (e ≡ JsonFault.NoMemory) → spec.description_in (view object.now) ≡ Err e) }
+    ensures ok { IfOk result
+        (λ description. spec.description_in (view object.now) ≡ Ok description) }
+    ensures err { IfErr result
+        (λ e. ¬ (e ≡ JsonFault.NoMemory) → spec.description_in (view object.now) ≡ Err e) }
 {
     let Some(value) = given(object, "description") else {
         return Ok(Description::empty(alloc));

@@ -23,7 +23,8 @@ pub fn read_eek(alloc: Global, _version: VersionName, body: &[u8]) -> Result<Eek
 
 fn eek_of(alloc: Global, value: &Value) -> Result<EekBody, JsonFault>
     ensures ok { IfOk result (λ eek. spec.eek_of (view value.now) ≡ Ok eek) }
-    ensures err { IfErr result (λ e. ¬ (e ≡ JsonFault.NoMemory) → spec.eek_of (view value.now) ≡ Err e) }
+    ensures err { IfErr result
+        (λ e. ¬ (e ≡ JsonFault.NoMemory) → spec.eek_of (view value.now) ≡ Err e) }
 {
     if !value.is_object() {
         return Err(JsonFault::NotJson);

@@ -14,7 +14,8 @@ use std::alloc::Global;
 /// Parses a body.
 pub(crate) fn parse(alloc: Global, body: &[u8]) -> Result<Value, JsonFault>
     ensures ok { IfOk result (λ value. IsBody body.now (view value)) }
-    ensures memory_or_json { IfErr result (λ e. ¬ (e ≡ JsonFault.NoMemory) → e ≡ JsonFault.NotJson) }
+    ensures memory_or_json { IfErr result
+        (λ e. ¬ (e ≡ JsonFault.NoMemory) → e ≡ JsonFault.NotJson) }
     ensures not_json { result ≡ Err JsonFault.NotJson → (d : Data) → ¬ IsBody body.now d }
 {
     match Value::from_slice(alloc, body) {
@@ -38,7 +39,8 @@ pub(crate) fn needed<'v>(
     name: &str,
     member: Member,
 ) -> Result<&'v Value, JsonFault>
-    ensures ok { IfOk result (λ v. spec.needed name.now member (view object.now) ≡ Ok (view v.now)) }
+    ensures ok { IfOk result
+        (λ v. spec.needed name.now member (view object.now) ≡ Ok (view v.now)) }
     ensures err { IfErr result (λ e. spec.needed name.now member (view object.now) ≡ Err e) }
 {
     match given(object, name) {
@@ -64,7 +66,8 @@ pub(crate) fn needed_text<'v>(
     name: &str,
     member: Member,
 ) -> Result<&'v str, JsonFault>
-    ensures ok { IfOk result (λ text. spec.needed_text name.now member (view object.now) ≡ Ok text.now) }
+    ensures ok { IfOk result
+        (λ text. spec.needed_text name.now member (view object.now) ≡ Ok text.now) }
     ensures err { IfErr result (λ e. spec.needed_text name.now member (view object.now) ≡ Err e) }
 {
     let value = needed(object, name, member)?;
@@ -74,7 +77,8 @@ pub(crate) fn needed_text<'v>(
 /// Decodes a member's value, which must be a text in base64.
 pub(crate) fn bytes_in(alloc: Global, value: &Value, member: Member) -> Result<ByteList, JsonFault>
     ensures ok { IfOk result (λ bytes. spec.bytes_in member (view value.now) ≡ Ok bytes) }
-    ensures err { IfErr result (λ e. ¬ (e ≡ JsonFault.NoMemory) → spec.bytes_in member (view value.now) ≡ Err e) }
+    ensures err { IfErr result
+        (λ e. ¬ (e ≡ JsonFault.NoMemory) → spec.bytes_in member (view value.now) ≡ Err e) }
 {
     let text = text_of(value, member)?;
     match bytes_of(alloc, text) {
@@ -91,8 +95,11 @@ pub(crate) fn needed_bytes(
     name: &str,
     member: Member,
 ) -> Result<ByteList, JsonFault>
-    ensures ok { IfOk result (λ bytes. spec.needed_bytes name.now member (view object.now) ≡ Ok bytes) }
-    ensures err { IfErr result (λ e. ¬ (e ≡ JsonFault.NoMemory) → spec.needed_bytes name.now member (view object.now) ≡ Err e) }
+    ensures ok { IfOk result
+        (λ bytes. spec.needed_bytes name.now member (view object.now) ≡ Ok bytes) }
+    ensures err { IfErr result
+        (λ e. ¬ (e ≡ JsonFault.NoMemory) →
+        spec.needed_bytes name.now member (view object.now) ≡ Err e) }
 {
     let value = needed(object, name, member)?;
     bytes_in(alloc, value, member)

@@ -29,7 +29,8 @@ fn or_no_members(body: &[u8]) -> &[u8]
 
 fn roll_of(alloc: Global, name: KeyName, value: &Value) -> Result<KmsCall, JsonFault>
     ensures ok { IfOk result (λ call. spec.roll_of name (view value.now) ≡ Ok call) }
-    ensures err { IfErr result (λ e. ¬ (e ≡ JsonFault.NoMemory) → spec.roll_of name (view value.now) ≡ Err e) }
+    ensures err { IfErr result
+        (λ e. ¬ (e ≡ JsonFault.NoMemory) → spec.roll_of name (view value.now) ≡ Err e) }
 {
     if !value.is_object() {
         return Err(JsonFault::NotJson);

@@ -27,7 +27,8 @@ fn write_with_material(
     material: &Dek,
     out: &mut Writer,
 ) -> Result<(), NoMemory>
-    ensures { OnOk result (AddsValue (spec.shown_data version.now (Some material.now)) out.old out.new) }
+    ensures { OnOk result
+        (AddsValue (spec.shown_data version.now (Some material.now)) out.old out.new) }
 {
     open_object(out)?;
     bytes_member(alloc, "material", material.as_bytes(), out)?;
@@ -50,7 +51,8 @@ pub(crate) fn write_shown(
 }
 
 fn write_sealed(alloc: Global, sealed: &Dek, out: &mut Writer) -> Result<(), NoMemory>
-    ensures { OnOk result (AddsMember (codes "encryptedKeyVersion") (spec.sealed_data sealed.now) out.old out.new) }
+    ensures { OnOk result
+        (AddsMember (codes "encryptedKeyVersion") (spec.sealed_data sealed.now) out.old out.new) }
 {
     write_key("encryptedKeyVersion", out)?;
     open_object(out)?;

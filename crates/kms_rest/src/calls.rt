@@ -52,7 +52,8 @@ fn fault_of(why: JsonFault) -> RestFault
 }
 
 fn create(alloc: Global, body: &[u8]) -> Result<KmsCall, RestFault>
-    ensures { (name : List ℕ) (ps : List Parameter) → spec.SaysCall op.Create name ps body.now result }
+    ensures { (name : List ℕ) (ps : List Parameter) →
+        spec.SaysCall op.Create name ps body.now result }
 {
     match read_create(alloc, body) {
         Ok(call) => Ok(call),
@@ -85,7 +86,8 @@ fn batch(alloc: Global, name: &[u8], body: &[u8]) -> Result<KmsCall, RestFault>
 }
 
 fn delete(name: &[u8]) -> Result<KmsCall, RestFault>
-    ensures { (ps : List Parameter) (body : List ℕ) → spec.SaysCall op.Delete name.now ps body result }
+    ensures { (ps : List Parameter) (body : List ℕ) →
+        spec.SaysCall op.Delete name.now ps body result }
 {
     match KeyName::read(name) {
         Some(name) => Ok(KmsCall::Delete { name }),
@@ -94,7 +96,8 @@ fn delete(name: &[u8]) -> Result<KmsCall, RestFault>
 }
 
 fn invalidate(name: &[u8]) -> Result<KmsCall, RestFault>
-    ensures { (ps : List Parameter) (body : List ℕ) → spec.SaysCall op.Invalidate name.now ps body result }
+    ensures { (ps : List Parameter) (body : List ℕ) →
+        spec.SaysCall op.Invalidate name.now ps body result }
 {
     match KeyName::read(name) {
         Some(name) => Ok(KmsCall::Invalidate { name }),
@@ -103,7 +106,8 @@ fn invalidate(name: &[u8]) -> Result<KmsCall, RestFault>
 }
 
 fn metadata(name: &[u8]) -> Result<KmsCall, RestFault>
-    ensures { (ps : List Parameter) (body : List ℕ) → spec.SaysCall op.Metadata name.now ps body result }
+    ensures { (ps : List Parameter) (body : List ℕ) →
+        spec.SaysCall op.Metadata name.now ps body result }
 {
     match KeyName::read(name) {
         Some(name) => Ok(KmsCall::Metadata { name }),
@@ -112,7 +116,8 @@ fn metadata(name: &[u8]) -> Result<KmsCall, RestFault>
 }
 
 fn current(name: &[u8]) -> Result<KmsCall, RestFault>
-    ensures { (ps : List Parameter) (body : List ℕ) → spec.SaysCall op.Current name.now ps body result }
+    ensures { (ps : List Parameter) (body : List ℕ) →
+        spec.SaysCall op.Current name.now ps body result }
 {
     match KeyName::read(name) {
         Some(name) => Ok(KmsCall::Current { name }),
@@ -121,7 +126,8 @@ fn current(name: &[u8]) -> Result<KmsCall, RestFault>
 }
 
 fn versions(name: &[u8]) -> Result<KmsCall, RestFault>
-    ensures { (ps : List Parameter) (body : List ℕ) → spec.SaysCall op.Versions name.now ps body result }
+    ensures { (ps : List Parameter) (body : List ℕ) →
+        spec.SaysCall op.Versions name.now ps body result }
 {
     match KeyName::read(name) {
         Some(name) => Ok(KmsCall::Versions { name }),
@@ -130,7 +136,8 @@ fn versions(name: &[u8]) -> Result<KmsCall, RestFault>
 }
 
 fn version(name: &[u8]) -> Result<KmsCall, RestFault>
-    ensures { (ps : List Parameter) (body : List ℕ) → spec.SaysCall op.Version name.now ps body result }
+    ensures { (ps : List Parameter) (body : List ℕ) →
+        spec.SaysCall op.Version name.now ps body result }
 {
     match version_named(name) {
         Some(version) => Ok(KmsCall::Version { version }),

@@ -26,7 +26,8 @@ pub(crate) fn is_single(query: &Query) -> bool
 
 /// Returns whether `eek_op` has this value and no other.
 pub(crate) fn has_operation(query: &Query, wanted: &[u8]) -> bool
-    ensures { MatchBool result (spec.operation_values query.now ≡ wanted.now ∷ []) (¬ (spec.operation_values query.now ≡ wanted.now ∷ [])) }
+    ensures { MatchBool result (spec.operation_values query.now ≡ wanted.now ∷ [])
+        (¬ (spec.operation_values query.now ≡ wanted.now ∷ [])) }
 {
     match query.given(b"eek_op") {
         Given::Once(value) => value == wanted,
@@ -51,7 +52,8 @@ fn utf8(text: &[u8]) -> Option<&str>
 /// Reads a decimal number, which may begin with zeros. Returns `None` if the bytes are not one, or if
 /// it is not below 2^32.
 fn read_count(text: &[u8]) -> Option<u32>
-    ensures { MatchOption result ((count : ℕ) → ¬ spec.IsCount text.now count) (spec.IsCount text.now) }
+    ensures { MatchOption result ((count : ℕ) → ¬ spec.IsCount text.now count)
+        (spec.IsCount text.now) }
 {
     if text.is_empty() || !all_digits(text) {
         return None;
@@ -65,7 +67,8 @@ fn read_count(text: &[u8]) -> Option<u32>
 /// Returns the number of keys that `num_keys` asks for: one if it is absent, `None` if it is not a
 /// number.
 pub(crate) fn count(query: &Query) -> Option<u32>
-    ensures { MatchOption result ((count : ℕ) → ¬ spec.Counts (spec.count_values query.now) count) (spec.Counts (spec.count_values query.now)) }
+    ensures { MatchOption result ((count : ℕ) → ¬ spec.Counts (spec.count_values query.now) count)
+        (spec.Counts (spec.count_values query.now)) }
 {
     match query.given(b"num_keys") {
         Given::Absent => Some(1),
@@ -76,7 +79,10 @@ pub(crate) fn count(query: &Query) -> Option<u32>
 
 /// Returns the names in the parameters `key`, in their order, or `None` if one of them is not a name.
 pub(crate) fn key_names(alloc: Global, query: &Query) -> Result<Option<NameList>, NoMemory>
-    ensures { IfOk result (λ found. MatchOption found (¬ All IsKeyName (spec.key_values query.now)) (λ names. (spec.key_values query.now ≡ names) × All IsKeyName names)) }
+    ensures { IfOk result
+        (λ found.
+        MatchOption found (¬ All IsKeyName (spec.key_values query.now))
+        (λ names. (spec.key_values query.now ≡ names) × All IsKeyName names)) }
 {
     let parameters = query.as_slice();
     names_in(alloc, parameters)
@@ -89,7 +95,10 @@ fn names_a_key(parameter: &Parameter) -> bool
 }
 
 fn names_in(alloc: Global, parameters: &[Parameter]) -> Result<Option<NameList>, NoMemory>
-    ensures { IfOk result (λ found. MatchOption found (¬ All IsKeyName (spec.key_values parameters.now)) (λ names. (spec.key_values parameters.now ≡ names) × All IsKeyName names)) }
+    ensures { IfOk result
+        (λ found.
+        MatchOption found (¬ All IsKeyName (spec.key_values parameters.now))
+        (λ names. (spec.key_values parameters.now ≡ names) × All IsKeyName names)) }
 {
     let mut names = NameList::with_room(alloc, 1)?;
     'parameters: for parameter in parameters {

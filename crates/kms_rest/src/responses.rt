@@ -59,7 +59,8 @@ fn reply_status(reply: &KmsReply, created: bool) -> u16
 /// Makes the response of a reply. `created` says that the call was Create, whose status is 201 instead
 /// of 200 unless it is refused.
 pub fn respond(alloc: Global, reply: &KmsReply, created: bool) -> Result<Response, NoMemory>
-    ensures status { IfOk result (λ response. response.status ≡ spec.reply_status reply.now created) }
+    ensures status { IfOk result
+        (λ response. response.status ≡ spec.reply_status reply.now created) }
     ensures body { IfOk result (λ response. response.body ≡ reply_text reply.now) }
     ensures known { IfOk result (λ response. IsStatus response.status) }
 {

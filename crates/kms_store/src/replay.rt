@@ -15,7 +15,9 @@ use std::alloc::Global;
 /// applies.
 fn take(alloc: Global, table: &mut KeyTable, payload: &[u8]) -> Result<bool, NoMemory>
     ensures taken { IfOk result (IsTaken table.old.keys payload.now table.new.keys) }
-    ensures births { IfOk result (λ taken. IsTrue taken → HasRoomForBirths table.old.keys → HasRoomForBirths table.new.keys) }
+    ensures births { IfOk result
+        (λ taken. IsTrue taken → HasRoomForBirths table.old.keys →
+        HasRoomForBirths table.new.keys) }
 {
     let command = match KeyCommand::read(alloc, payload) {
         Ok(command) => command,
@@ -34,7 +36,8 @@ fn take(alloc: Global, table: &mut KeyTable, payload: &[u8]) -> Result<bool, NoM
 pub(crate) fn replay(alloc: Global, frames: &[Frame]) -> Result<KeyTable, StartFault>
     ensures table { IfOk result (λ table. IsReplayed (map frame_view frames.now) table.keys) }
     ensures births { IfOk result (λ table. HasRoomForBirths table.keys) }
-    ensures damaged { (at : ℕ) → IsErrOf result (Damaged at) → IsStuck (map frame_view frames.now) at }
+    ensures damaged { (at : ℕ) → IsErrOf result (Damaged at) →
+        IsStuck (map frame_view frames.now) at }
     ensures fault { IsErrOf result StoreFault → ⊥ }
     ensures spent { IsErrOf result Spent → ⊥ }
 {

@@ -29,7 +29,9 @@ impl Model for Store {
 
     ghost view = { λ a. record { log = a.log; table = a.table; pending = a.pending } };
 
-    ghost invariant = { λ a. (a.log.file ≡ 0) × WaitTogether a.pending a.log.unsettled × IfSome a.pending (λ command. (applies a.table.keys command ≡ true) × (need command ≤ a.table.spare)) };
+    ghost invariant = { λ a. (a.log.file ≡ 0) × WaitTogether a.pending a.log.unsettled ×
+        IfSome a.pending
+        (λ command. (applies a.table.keys command ≡ true) × (need command ≤ a.table.spare)) };
 }
 
 impl Store {
@@ -53,15 +55,19 @@ impl Store {
     /// that doesn't apply, with the offset of its gate. Returns `Spent` exactly if opening
     /// 4,294,967,295 is recorded.
     pub fn start<D: Disk>(alloc: Global, disk: &mut D) -> Result<Store, StartFault>
-        ensures log { IfOk result (λ store. Tells (D.state disk.old) → ((commands : List KeyCommand) × (table : Table)
+        ensures log { IfOk result
+            (λ store. Tells (D.state disk.old) → ((commands : List KeyCommand) × (table : Table)
             × IsKeyLog ((D.state disk.old).reads 0) commands table
             × IsKeyStoreOf (D.state disk.new) store (commands ++ next_opening table ∷ []))) }
-        ensures opened { IfOk result (λ store. (store.pending ≡ None) × (store.table.keys.greatest < store.table.keys.opening * 2 ^ 32)) }
+        ensures opened { IfOk result
+            (λ store. (store.pending ≡ None) ×
+            (store.table.keys.greatest < store.table.keys.opening * 2 ^ 32)) }
 
         // A crash at any moment leaves what it might have left before, or the log found, as it is
         // or with its end gate read as 1, or its commands with or without the new opening. After the
         // first sync of the call a crash leaves only the latter. If that sync failed, nothing was written.
-        ensures opens { OpensKeys (D.state disk.old) (D.state disk.new) (λ fault. IsErrOf result fault) }
+        ensures opens { OpensKeys (D.state disk.old) (D.state disk.new)
+            (λ fault. IsErrOf result fault) }
     {
         let (log, frames) = Log::recover(alloc, disk, KEYS)?;
         Store::open(alloc, disk, log, frames.list.as_slice())
@@ -76,16 +82,28 @@ impl Store {
     ) -> Result<Store, StartFault>
         requires file { log.file ≡ 0 }
         requires settled { log.unsettled ≡ None }
-        requires stands { Tells (D.state disk.old) → Stands (D.state disk.old) log (payloads frames.now) None }
+        requires stands { Tells (D.state disk.old) →
+            Stands (D.state disk.old) log (payloads frames.now) None }
 
-        ensures log { IfOk result (λ store. (table : Table) × (r : IsReplayed (map frame_view frames.now) table)
-            × (Tells (D.state disk.old) → IsKeyStoreOf (D.state disk.new) store (r.commands ++ next_opening table ∷ []))) }
-        ensures opened { IfOk result (λ store. (store.pending ≡ None) × (store.table.keys.greatest < store.table.keys.opening * 2 ^ 32)) }
-        ensures damaged { (at : ℕ) → IsErrOf result (start.Damaged at) → IsStuck (map frame_view frames.now) at }
-        ensures spent { IsErrOf result start.Spent → ((table : Table) × IsReplayed (map frame_view frames.now) table × (table.opening ≡ 4294967295)) }
-        ensures moments { Tells (D.state disk.old) → LeavesOnly 0 (D.state disk.old) (D.state disk.new) (IsOpening (map frame_view frames.now)) }
+        ensures log { IfOk result
+            (λ store. (table : Table) × (r : IsReplayed (map frame_view frames.now) table)
+            × (Tells (D.state disk.old) →
+            IsKeyStoreOf (D.state disk.new) store
+            (r.commands ++ next_opening table ∷ []))) }
+        ensures opened { IfOk result
+            (λ store. (store.pending ≡ None) ×
+            (store.table.keys.greatest < store.table.keys.opening * 2 ^ 32)) }
+        ensures damaged { (at : ℕ) → IsErrOf result (start.Damaged at) →
+            IsStuck (map frame_view frames.now) at }
+        ensures spent { IsErrOf result start.Spent →
+            ((table : Table) × IsReplayed (map frame_view frames.now) table ×
+            (table.opening ≡ 4294967295)) }
+        ensures moments { Tells (D.state disk.old) →
+            LeavesOnly 0 (D.state disk.old) (D.state disk.new)
+            (IsOpening (map frame_view frames.now)) }
         ensures run { RunOn 0 (D.state disk.old) (D.state disk.new) }
-        ensures cause { IsErrOf result start.StoreFault → Rose (D.state disk.old).faults (D.state disk.new).faults }
+        ensures cause { IsErrOf result start.StoreFault →
+            Rose (D.state disk.old).faults (D.state disk.new).faults }
     {
         let table = replay(alloc, frames)?;
         let opening = table.opening();
@@ -118,24 +136,36 @@ impl Store {
     ) -> Result<(), StoreRefusal>
         requires settled { self.old.pending ≡ None }
         requires applies { IsTrue (applies self.old.table.keys command) }
-        requires stands { Tells (D.state disk.old) → ((commands : List KeyCommand) × IsKeyStoreOf (D.state disk.old) self.old commands) }
+        requires stands { Tells (D.state disk.old) →
+            ((commands : List KeyCommand) × IsKeyStoreOf (D.state disk.old) self.old commands) }
 
-        ensures table { OnOk result ((self.new.table.keys ≡ after self.old.table.keys command) × (self.new.pending ≡ None)) }
-        ensures committed { OnOk result (Tells (D.state disk.old) → (commands : List KeyCommand) → IsKeyStoreOf (D.state disk.old) self.old commands
+        ensures table { OnOk result
+            ((self.new.table.keys ≡ after self.old.table.keys command) ×
+            (self.new.pending ≡ None)) }
+        ensures committed { OnOk result
+            (Tells (D.state disk.old) → (commands : List KeyCommand) →
+            IsKeyStoreOf (D.state disk.old) self.old commands
             → IsKeyStoreOf (D.state disk.new) self.new (commands ++ command ∷ [])) }
 
-        ensures pending { IsErrOf result store.StoreFault → (self.new.table.keys ≡ self.old.table.keys) × (self.new.pending ≡ Some command) }
-        ensures memory { IsErrOf result store.NoMemory → (self.new.table.keys ≡ self.old.table.keys) × (self.new.log ≡ self.old.log) × (self.new.pending ≡ None) × (disk.new ≡ disk.old) }
-        ensures refused { OnErr result (Tells (D.state disk.old) → (commands : List KeyCommand) → IsKeyStoreOf (D.state disk.old) self.old commands
+        ensures pending { IsErrOf result store.StoreFault →
+            (self.new.table.keys ≡ self.old.table.keys) × (self.new.pending ≡ Some command) }
+        ensures memory { IsErrOf result store.NoMemory →
+            (self.new.table.keys ≡ self.old.table.keys) × (self.new.log ≡ self.old.log) ×
+            (self.new.pending ≡ None) × (disk.new ≡ disk.old) }
+        ensures refused { OnErr result
+            (Tells (D.state disk.old) → (commands : List KeyCommand) →
+            IsKeyStoreOf (D.state disk.old) self.old commands
             → IsKeyStoreOf (D.state disk.new) self.new commands) }
 
         // A crash at any moment of the call leaves the commands from before it, with or without the
         // new one.
-        ensures any_moment { Tells (D.state disk.old) → (commands : List KeyCommand) → IsKeyStoreOf (D.state disk.old) self.old commands
+        ensures any_moment { Tells (D.state disk.old) → (commands : List KeyCommand) →
+            IsKeyStoreOf (D.state disk.old) self.old commands
             → LeavesOnly 0 (D.state disk.old) (D.state disk.new) (IsWritten commands command) }
 
         ensures run { RunOn 0 (D.state disk.old) (D.state disk.new) }
-        ensures cause { IsErrOf result store.StoreFault → Rose (D.state disk.old).faults (D.state disk.new).faults }
+        ensures cause { IsErrOf result store.StoreFault →
+            Rose (D.state disk.old).faults (D.state disk.new).faults }
     {
         self.table.reserve_apply(&command)?;
         let mut record = ByteList::new(alloc);
@@ -160,28 +190,39 @@ impl Store {
     /// After `StoreFault`, the only error, the command is still pending. The commit has allocated
     /// the memory.
     pub fn settle<D: Disk>(&mut self, disk: &mut D) -> Result<bool, StoreRefusal>
-        requires stands { Tells (D.state disk.old) → ((commands : List KeyCommand) × IsKeyStoreOf (D.state disk.old) self.old commands) }
+        requires stands { Tells (D.state disk.old) →
+            ((commands : List KeyCommand) × IsKeyStoreOf (D.state disk.old) self.old commands) }
 
-        ensures nothing { self.old.pending ≡ None → (result ≡ Ok false) × (self.new ≡ self.old) × (disk.new ≡ disk.old) }
+        ensures nothing { self.old.pending ≡ None →
+            (result ≡ Ok false) × (self.new ≡ self.old) × (disk.new ≡ disk.old) }
         ensures settled { OnOk result (self.new.pending ≡ None) }
-        ensures settles { IfOk result (SettlesKeys (D.state disk.old) (D.state disk.new) self.old self.new) }
+        ensures settles { IfOk result
+            (SettlesKeys (D.state disk.old) (D.state disk.new) self.old self.new) }
         ensures table { OnOk result ((self.new.table.keys ≡ self.old.table.keys)
-            ⊎ ((command : KeyCommand) × (self.old.pending ≡ Some command) × (self.new.table.keys ≡ after self.old.table.keys command))) }
+            ⊎ ((command : KeyCommand) × (self.old.pending ≡ Some command) ×
+            (self.new.table.keys ≡ after self.old.table.keys command))) }
         ensures kept { OnOk result (Tells (D.state disk.old) → (commands : List KeyCommand) (command : KeyCommand) → IsKeyStoreOf (D.state disk.old) self.old commands → self.old.pending ≡ Some command
             → slice_get ((D.state disk.old).reads 0) self.old.log.end ≡ Some 1
             → IsKeyStoreOf (D.state disk.new) self.new (commands ++ command ∷ [])) }
-        ensures dropped { OnOk result (Tells (D.state disk.old) → (commands : List KeyCommand) → IsKeyStoreOf (D.state disk.old) self.old commands
+        ensures dropped { OnOk result
+            (Tells (D.state disk.old) → (commands : List KeyCommand) →
+            IsKeyStoreOf (D.state disk.old) self.old commands
             → slice_get ((D.state disk.old).reads 0) self.old.log.end ≢ Some 1
             → IsKeyStoreOf (D.state disk.new) self.new commands) }
         ensures still_pending { OnErr result (self.new ≡ self.old) }
-        ensures refused { OnErr result (Tells (D.state disk.old) → (commands : List KeyCommand) → IsKeyStoreOf (D.state disk.old) self.old commands
+        ensures refused { OnErr result
+            (Tells (D.state disk.old) → (commands : List KeyCommand) →
+            IsKeyStoreOf (D.state disk.old) self.old commands
             → IsKeyStoreOf (D.state disk.new) self.new commands) }
         ensures fault { IsErr result → IsErrOf result store.StoreFault }
 
         // A crash at any moment of the call leaves the commands from before it, with or without the
         // pending one.
-        ensures any_moment { Tells (D.state disk.old) → (commands : List KeyCommand) (command : KeyCommand) → IsKeyStoreOf (D.state disk.old) self.old commands → self.old.pending ≡ Some command
-            → LeavesOnly 0 (D.state disk.old) (D.state disk.new) (IsWithOrWithout commands command) }
+        ensures any_moment { Tells (D.state disk.old) →
+            (commands : List KeyCommand) (command : KeyCommand) →
+            IsKeyStoreOf (D.state disk.old) self.old commands → self.old.pending ≡ Some command
+            → LeavesOnly 0 (D.state disk.old) (D.state disk.new)
+            (IsWithOrWithout commands command) }
 
         ensures run { RunOn 0 (D.state disk.old) (D.state disk.new) }
         ensures cause { OnErr result (Rose (D.state disk.old).faults (D.state disk.new).faults) }
@@ -209,7 +250,8 @@ impl Store {
         birth: u64,
     ) -> Result<Dek, Failed>
         requires { IsSome (material_of self.old.table.keys.rows version.now) }
-        ensures given { IfOk result (λ material. material_of self.old.table.keys.rows version.now ≡ Some material) }
+        ensures given { IfOk result
+            (λ material. material_of self.old.table.keys.rows version.now ≡ Some material) }
         ensures never_fails { IsOk result }
         ensures same { (self.new ≡ self.old) × (disk.new ≡ disk.old) }
     {

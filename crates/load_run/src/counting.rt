@@ -17,35 +17,40 @@ fn plus(count: u64, more: u64) -> Result<u64, NoMemory>
 }
 
 fn with_created(answer: &Line, counts: Counts) -> Result<Counts, NoMemory>
-    ensures { IfOk result (λ after. after ≡ record counts { created = counts.created + done_in answer.now }) }
+    ensures { IfOk result
+        (λ after. after ≡ record counts { created = counts.created + done_in answer.now }) }
 {
     let created = plus(counts.created, done_in(answer))?;
     Ok(Counts { created, ..counts })
 }
 
 fn with_deleted(answer: &Line, counts: Counts) -> Result<Counts, NoMemory>
-    ensures { IfOk result (λ after. after ≡ record counts { deleted = counts.deleted + done_in answer.now }) }
+    ensures { IfOk result
+        (λ after. after ≡ record counts { deleted = counts.deleted + done_in answer.now }) }
 {
     let deleted = plus(counts.deleted, done_in(answer))?;
     Ok(Counts { deleted, ..counts })
 }
 
 fn with_rolled(answer: &Line, counts: Counts) -> Result<Counts, NoMemory>
-    ensures { IfOk result (λ after. after ≡ record counts { rolled = counts.rolled + versions_in answer.now }) }
+    ensures { IfOk result
+        (λ after. after ≡ record counts { rolled = counts.rolled + versions_in answer.now }) }
 {
     let rolled = plus(counts.rolled, versions_in(answer))?;
     Ok(Counts { rolled, ..counts })
 }
 
 fn with_ready(answer: &Line, counts: Counts) -> Result<Counts, NoMemory>
-    ensures { IfOk result (λ after. after ≡ record counts { ready = counts.ready + keys_in answer.now }) }
+    ensures { IfOk result
+        (λ after. after ≡ record counts { ready = counts.ready + keys_in answer.now }) }
 {
     let ready = plus(counts.ready, keys_in(answer))?;
     Ok(Counts { ready, ..counts })
 }
 
 fn with_snapshots(answer: &Line, counts: Counts) -> Result<Counts, NoMemory>
-    ensures { IfOk result (λ after. after ≡ record counts { snapshots = counts.snapshots + done_in answer.now }) }
+    ensures { IfOk result
+        (λ after. after ≡ record counts { snapshots = counts.snapshots + done_in answer.now }) }
 {
     let snapshots = plus(counts.snapshots, done_in(answer))?;
     Ok(Counts {
@@ -55,7 +60,12 @@ fn with_snapshots(answer: &Line, counts: Counts) -> Result<Counts, NoMemory>
 }
 
 fn with_reencrypted(answer: &Line, counts: Counts) -> Result<Counts, NoMemory>
-    ensures { IfOk result (λ after. after ≡ record counts { reencrypted = counts.reencrypted + reencrypted_by (status_in answer.now) }) }
+    ensures { IfOk result
+        (λ after. after ≡
+        record counts {
+          reencrypted = counts.reencrypted +
+              reencrypted_by (status_in answer.now);
+        }) }
 {
     let reencrypted = plus(counts.reencrypted, reencrypted_in(answer))?;
     Ok(Counts {
@@ -130,7 +140,8 @@ pub(crate) fn count_task(
     answer: &Line,
     counts: Counts,
 ) -> Result<Counts, NoMemory>
-    ensures counted { IfOk result (λ after. after ≡ with_refused task was_refused (with_answer task answer.now counts)) }
+    ensures counted { IfOk result
+        (λ after. after ≡ with_refused task was_refused (with_answer task answer.now counts)) }
     ensures good { IfOk result (λ after. is_good task answer.now ≡ true) }
 {
     if !is_good(task, answer) {

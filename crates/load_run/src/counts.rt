@@ -52,7 +52,10 @@ fn append_count(line: &mut ByteList, text: &[u8], count: u64) -> Result<(), NoMe
 
 /// Appends the counts of files and rolls.
 fn append_changes(line: &mut ByteList, counts: Counts) -> Result<(), NoMemory>
-    ensures { OnOk result (line.new ≡ line.old ++ codes " created=" ++ decimal counts.created ++ codes " deleted=" ++ decimal counts.deleted ++ codes " rolled=" ++ decimal counts.rolled) }
+    ensures { OnOk result
+        (line.new ≡
+        line.old ++ codes " created=" ++ decimal counts.created ++ codes " deleted=" ++
+        decimal counts.deleted ++ codes " rolled=" ++ decimal counts.rolled) }
 {
     append_count(line, b" created=", counts.created)?;
     append_count(line, b" deleted=", counts.deleted)?;
@@ -61,7 +64,11 @@ fn append_changes(line: &mut ByteList, counts: Counts) -> Result<(), NoMemory>
 
 /// Appends the other counts.
 fn append_others(line: &mut ByteList, counts: Counts) -> Result<(), NoMemory>
-    ensures { OnOk result (line.new ≡ line.old ++ codes " ready=" ++ decimal counts.ready ++ codes " snapshots=" ++ decimal counts.snapshots ++ codes " refused=" ++ decimal counts.refused ++ codes " reencrypted=" ++ decimal counts.reencrypted) }
+    ensures { OnOk result
+        (line.new ≡
+        line.old ++ codes " ready=" ++ decimal counts.ready ++ codes " snapshots=" ++
+        decimal counts.snapshots ++ codes " refused=" ++ decimal counts.refused ++
+        codes " reencrypted=" ++ decimal counts.reencrypted) }
 {
     append_count(line, b" ready=", counts.ready)?;
     append_count(line, b" snapshots=", counts.snapshots)?;

@@ -148,7 +148,8 @@ fn roll(alloc: Global, zone: u32) -> Result<Event, NoMemory>
 }
 
 fn snap(alloc: Global, zone: u32, snapshot: u32) -> Result<Event, NoMemory>
-    ensures { IfOk result (λ e. e ≡ event.Snap superuser (zone_path zone) (snapshot_name snapshot)) }
+    ensures { IfOk result
+        (λ e. e ≡ event.Snap superuser (zone_path zone) (snapshot_name snapshot)) }
 {
     let path = zone_path(alloc, zone)?;
     let name = numbered(alloc, b"s", snapshot)?;

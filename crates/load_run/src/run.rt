@@ -41,7 +41,11 @@ fn happen<D: Disk, W: Words>(
     event: Event,
 ) -> Result<Line, NoMemory>
     requires ready { IsReady open_lines (D.state disk.old) world.old }
-    ensures leads { IfOk result (λ answer. Leads D.state W.to_come open_lines 0 (record { disk = disk.old; world = world.old; words = words.old }) event answer (record { disk = disk.new; world = world.new; words = words.new })) }
+    ensures leads { IfOk result
+        (λ answer.
+        Leads D.state W.to_come open_lines 0
+        (record { disk = disk.old; world = world.old; words = words.old }) event answer
+        (record { disk = disk.new; world = world.new; words = words.new })) }
     ensures ready { IfOk result (λ answer. IsReady open_lines (D.state disk.new) world.new) }
     ensures lacks { IfOk result (λ answer. lacks answer ≡ false) }
 {
@@ -68,7 +72,8 @@ fn close_task(
     answer: Line,
     counts: Counts,
 ) -> Result<Counts, NoMemory>
-    ensures counted { IfOk result (λ after. after ≡ with_refused task was_refused (with_answer task answer counts)) }
+    ensures counted { IfOk result
+        (λ after. after ≡ with_refused task was_refused (with_answer task answer counts)) }
     ensures good { IfOk result (λ after. is_good task answer ≡ true) }
 {
     let counted = count_task(task, was_refused, &answer, counts);
@@ -87,7 +92,11 @@ fn do_task<D: Disk, W: Words>(
     counts: Counts,
 ) -> Result<Counts, NoMemory>
     requires ready { IsReady open_lines (D.state disk.old) world.old }
-    ensures does { IfOk result (λ after. DoesTask (Leads D.state W.to_come open_lines 0) task (record { disk = disk.old; world = world.old; words = words.old }) counts after (record { disk = disk.new; world = world.new; words = words.new })) }
+    ensures does { IfOk result
+        (λ after.
+        DoesTask (Leads D.state W.to_come open_lines 0) task
+        (record { disk = disk.old; world = world.old; words = words.old }) counts after
+        (record { disk = disk.new; world = world.new; words = words.new })) }
     ensures ready { IfOk result (λ after. IsReady open_lines (D.state disk.new) world.new) }
 {
     let mut event = first_event(alloc, task)?;
@@ -122,7 +131,11 @@ fn do_all<D: Disk, W: Words>(
     tasks: &Vec<Task>,
 ) -> Result<Counts, NoMemory>
     requires ready { IsReady open_lines (D.state disk.old) world.old }
-    ensures does { IfOk result (λ counts. DoesAll (Leads D.state W.to_come open_lines 0) tasks.now.items (record { disk = disk.old; world = world.old; words = words.old }) counts (record { disk = disk.new; world = world.new; words = words.new })) }
+    ensures does { IfOk result
+        (λ counts.
+        DoesAll (Leads D.state W.to_come open_lines 0) tasks.now.items
+        (record { disk = disk.old; world = world.old; words = words.old }) counts
+        (record { disk = disk.new; world = world.new; words = words.new })) }
 {
     let mut counts = no_counts();
     for task in tasks {
@@ -141,7 +154,10 @@ fn do_all_in<D: Disk, W: Words>(
     tasks: &Vec<Task>,
 ) -> Result<Counts, NoMemory>
     requires ready { IsReady open_lines (D.state disk.old) world }
-    ensures does { IfOk result (λ counts. DoesInto (Leads D.state W.to_come open_lines 0) tasks.now.items (record { disk = disk.old; world = world; words = words.old }) counts words.new) }
+    ensures does { IfOk result
+        (λ counts.
+        DoesInto (Leads D.state W.to_come open_lines 0) tasks.now.items
+        (record { disk = disk.old; world = world; words = words.old }) counts words.new) }
 {
     let counts = do_all(alloc, &mut world, disk, words, tasks);
     world.close();
@@ -160,7 +176,8 @@ fn load_on<W: Words>(
     requires no_edit_log { contents disk.old 1 ≡ [] }
     requires lines { props.now.lines ≡ open_lines }
     requires sizes { props.now.sizes ≡ default_sizes }
-    ensures loads { IfOk result (λ counts. Loads W.to_come tasks.now.items rand.old rand.new counts) }
+    ensures loads { IfOk result
+        (λ counts. Loads W.to_come tasks.now.items rand.old rand.new counts) }
 {
     match World::start(alloc, disk, props) {
         Err(_) => Err(NoMemory),
@@ -177,7 +194,8 @@ fn load_with<W: Words>(
 ) -> Result<Counts, NoMemory>
     requires lines { props.now.lines ≡ open_lines }
     requires sizes { props.now.sizes ≡ default_sizes }
-    ensures loads { IfOk result (λ counts. Loads W.to_come tasks.now.items rand.old rand.new counts) }
+    ensures loads { IfOk result
+        (λ counts. Loads W.to_come tasks.now.items rand.old rand.new counts) }
 {
     let mut disk = PlainDisk::new(alloc);
     let counts = load_on(alloc, &mut disk, props, tasks, rand);
@@ -197,7 +215,8 @@ fn load<W: Words>(alloc: Global, count: u32, rand: &mut W) -> Result<Counts, NoM
 /// Writes the line of a load. Returns 0; or 6 if allocation fails, after a line that says so; or 8 if
 /// the output fails.
 fn show_counts<K: Sink>(alloc: Global, count: u32, counts: Counts, out: &mut K) -> u8
-    ensures shows { Shows (load_line count counts) 0 (K.written out.old) (K.written out.new) result ⊎ Shows (codes "no memory\n") 6 (K.written out.old) (K.written out.new) result }
+    ensures shows { Shows (load_line count counts) 0 (K.written out.old) (K.written out.new)
+        result ⊎ Shows (codes "no memory\n") 6 (K.written out.old) (K.written out.new) result }
     ensures write { result ≡ 8 → Rose (K.faults out.old) (K.faults out.new) }
 {
     match load_line(alloc, count, counts) {
@@ -220,7 +239,8 @@ fn show_counts<K: Sink>(alloc: Global, count: u32, counts: Counts, out: &mut K) 
 /// - 6: allocation failed.
 /// - 8: the output failed.
 pub fn run_load<K: Sink, W: Words>(alloc: Global, count: u32, out: &mut K, rand: &mut W) -> u8
-    ensures load { Load W.to_come count rand.old rand.new (K.written out.old) (K.written out.new) result }
+    ensures load { Load W.to_come count rand.old rand.new (K.written out.old) (K.written out.new)
+        result }
     ensures statuses { (result ≡ 0) ⊎ ((result ≡ 6) ⊎ (result ≡ 8)) }
     ensures write { result ≡ 8 → Rose (K.faults out.old) (K.faults out.new) }
 {

@@ -63,7 +63,9 @@ fn is_text(bytes: &[u8]) -> bool
 }
 
 fn is_special(name: &[u8]) -> bool
-    ensures { result ≡ (bytes_eq name.now (codes ".") || bytes_eq name.now (codes "..") || bytes_eq name.now (codes ".snapshot")) }
+    ensures { result ≡
+        (bytes_eq name.now (codes ".") || bytes_eq name.now (codes "..") ||
+        bytes_eq name.now (codes ".snapshot")) }
 {
     name == b".".as_slice() || name == b"..".as_slice() || name == b".snapshot".as_slice()
 }
@@ -91,7 +93,8 @@ fn each_can_be_a_name(bytes: &[u8]) -> bool
 
 /// Splits bytes at their slashes.
 fn parts(alloc: Global, bytes: &[u8]) -> Result<Vec<&[u8]>, AllocError>
-    ensures { IfOk result (λ parts. map (λ x. x.now) parts.items ≡ slice_split (λ b. b == 47) bytes.now) }
+    ensures { IfOk result
+        (λ parts. map (λ x. x.now) parts.items ≡ slice_split (λ b. b == 47) bytes.now) }
 {
     bytes.split(|byte| *byte == b'/').collect(alloc)
 }
@@ -120,7 +123,9 @@ pub(crate) fn first_part(bytes: &[u8]) -> &[u8]
 
 /// Whether each part between slashes can be a name, and the bytes and the parts are not too many.
 fn are_few_names(bytes: &[u8]) -> bool
-    ensures { result ≡ (list_all is_component (slice_split (λ b. b == 47) bytes.now) && nat_lt (length bytes.now) 8000 && nat_lt (count_by (λ b. b == 47) bytes.now) 100) }
+    ensures { result ≡
+        (list_all is_component (slice_split (λ b. b == 47) bytes.now) &&
+        nat_lt (length bytes.now) 8000 && nat_lt (count_by (λ b. b == 47) bytes.now) 100) }
 {
     let each = each_can_be_a_name(bytes);
     let short = bytes.len() < MOST_BYTES;

@@ -116,7 +116,9 @@ fn from(bytes: &[u8], at: usize) -> &[u8]
 /// Returns whether each of the three can be read: the path of a directory, the name of a snapshot
 /// and the names below the directory.
 fn are_parts(front: &[u8], name: &[u8], below: &[u8]) -> bool
-    ensures { result ≡ (is_some (read_directory front.now) && is_component name.now && is_some (read_below below.now)) }
+    ensures { result ≡
+        (is_some (read_directory front.now) && is_component name.now &&
+        is_some (read_below below.now)) }
 {
     let directory = is_directory_path(front);
     let named = is_component(name);

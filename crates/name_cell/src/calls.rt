@@ -86,7 +86,8 @@ pub fn call_names<K: KeysCell, N: Naming, R: Wait>(
     user: Text,
     call: NameCall,
 ) -> NameReply
-    ensures { Makes K.D.state K.to_come pass.old (NameAct.Call user call) (NameActed.Call result) pass.new }
+    ensures { Makes K.D.state K.to_come pass.old (NameAct.Call user call) (NameActed.Call result)
+        pass.new }
 {
     let acted = cell.act(rt, pass, NameAct::Call { user, call });
     reply_in(acted)
@@ -100,7 +101,8 @@ pub fn ask_names<K: KeysCell, N: Naming, R: Wait>(
     user: Text,
     ask: Ask,
 ) -> Result<AskNote, NameRefusal>
-    ensures { Makes K.D.state K.to_come pass.old (NameAct.Ask user ask) (NameActed.Ask result) pass.new }
+    ensures { Makes K.D.state K.to_come pass.old (NameAct.Ask user ask) (NameActed.Ask result)
+        pass.new }
 {
     let acted = cell.act(rt, pass, NameAct::Ask { user, ask });
     note_in(acted)
@@ -115,7 +117,8 @@ pub fn finish_names<K: KeysCell, N: Naming, R: Wait>(
 ) -> Result<(), NameRefusal>
     requires seen { (note : ANote) × HasNote note pass.old.seen × IsAnswered note answered }
     requires alone { answered.reply ≡ None }
-    ensures { Makes K.D.state K.to_come pass.old (NameAct.Finish answered) (NameActed.Finish result) pass.new }
+    ensures { Makes K.D.state K.to_come pass.old (NameAct.Finish answered) (NameActed.Finish result)
+        pass.new }
 {
     let acted = cell.act(rt, pass, NameAct::Finish { answered });
     finish_in(acted)
@@ -133,8 +136,10 @@ pub fn finish_meeting<K: KeysCell, N: Naming, R: Wait>(
     answered: Answered,
 ) -> Result<(), NameRefusal>
     requires seen { (note : ANote) × HasNote note pass.old.seen × IsAnswered note answered }
-    requires got { (note : ANote) × HasNote note pass.old.seen × GotForNote note answered (K.seen with) }
-    ensures { MakesMeeting K.D.state K.to_come pass.old (K.seen with) (NameAct.Finish answered) (NameActed.Finish result) pass.new }
+    requires got { (note : ANote) × HasNote note pass.old.seen ×
+        GotForNote note answered (K.seen with) }
+    ensures { MakesMeeting K.D.state K.to_come pass.old (K.seen with) (NameAct.Finish answered)
+        (NameActed.Finish result) pass.new }
 {
     let acted = cell.act_meeting(rt, pass, other, with, NameAct::Finish { answered });
     finish_in(acted)
@@ -150,7 +155,10 @@ pub fn walk_names<K: KeysCell, N: Naming, R: Wait>(
     other: &K,
     zone: NPath,
 ) -> Result<(Result<Walked, NameRefusal>, K::Pass), NoMemory>
-    ensures lent { IfOk result (λ r. MakesLending K.D.state K.to_come pass.old (NameAct.Walk zone) (NameActed.Walk r.0) pass.new (K.seen r.1)) }
+    ensures lent { IfOk result
+        (λ r.
+        MakesLending K.D.state K.to_come pass.old (NameAct.Walk zone) (NameActed.Walk r.0)
+        pass.new (K.seen r.1)) }
     ensures none { IfErr result (λ _. pass.new ≡ pass.old) }
 {
     match cell.act_lending(rt, pass, other, NameAct::Walk { zone }) {
@@ -175,7 +183,8 @@ pub fn deliver_names<K: KeysCell, N: Naming, R: Wait>(
     reply: BatchReply,
 ) -> Result<Delivered, NameRefusal>
     requires got { GotForBatch front reply (K.seen with) }
-    ensures { MakesMeeting K.D.state K.to_come pass.old (K.seen with) (NameAct.Deliver front reply) (NameActed.Deliver result) pass.new }
+    ensures { MakesMeeting K.D.state K.to_come pass.old (K.seen with) (NameAct.Deliver front reply)
+        (NameActed.Deliver result) pass.new }
 {
     let acted = cell.act_meeting(rt, pass, other, with, NameAct::Deliver { front, reply });
     delivery_in(acted)
@@ -187,7 +196,9 @@ pub fn close_names<K: KeysCell, N: Naming>(
     cell: NameCell<K, N>,
     pass: NamePass<K, N>,
 ) -> (Name, K::D, K::Pass)
-    ensures closes { (last : NameView K.D K.W) × Closes (NameSteps K.D.state K.to_come) NameAllows pass last × (result.0 ≡ last.names) × (result.1 ≡ last.disk) × (K.seen result.2 ≡ last.keys) }
+    ensures closes { (last : NameView K.D K.W) ×
+        Closes (NameSteps K.D.state K.to_come) NameAllows pass last × (result.0 ≡ last.names) ×
+        (result.1 ≡ last.disk) × (K.seen result.2 ≡ last.keys) }
     ensures runs { NamesRunOn (K.D.state result.1) result.0 }
 {
     let side = cell.close(pass);

@@ -30,12 +30,14 @@ pub trait KeysCell {
     /// Returns the number of entries that a pass has seen. They are a legal history.
     fn count(pass: &Self::Pass) -> u64
         ensures count { result ≡ length (seen pass.now).seen }
-        ensures legal { LegalOf (KmsSteps Self.D.state to_come) KmsAllows (seen pass.now).start (seen pass.now).seen };
+        ensures legal { LegalOf (KmsSteps Self.D.state to_come) KmsAllows (seen pass.now).start
+            (seen pass.now).seen };
 
     /// Joins a pass to another, which has then seen what both had. It may wait.
     fn meet<R: Wait>(&self, rt: &R, into: &mut Self::Pass, from: Self::Pass)
         ensures both { Meets (seen into.old) (seen from) (seen into.new) }
-        ensures legal { LegalOf (KmsSteps Self.D.state to_come) KmsAllows (seen into.new).start (seen into.new).seen };
+        ensures legal { LegalOf (KmsSteps Self.D.state to_come) KmsAllows (seen into.new).start
+            (seen into.new).seen };
 
     /// Creates a pass with a new number, which has seen what the old one has. It may wait.
     fn split<R: Wait>(&self, rt: &R, pass: &mut Self::Pass) -> Self::Pass

@@ -33,7 +33,8 @@ impl<K: KeysCell> Model for NameSide<K> {
 
     ghost Value = { NameView K.D K.W };
 
-    ghost view = { λ s. record { names = s.names; disk = s.disk; keys = K.seen s.keys; fronts = s.fronts.items } };
+    ghost view = { λ s.
+        record { names = s.names; disk = s.disk; keys = K.seen s.keys; fronts = s.fronts.items } };
 
     ghost invariant = { λ s. NamesRunOn (K.D.state s.disk) s.names };
 }
@@ -198,7 +199,8 @@ impl<K: KeysCell> Core for NameSide<K> {
 
     ghost fits = { λ s es q sound legal a. allowed_can K.D.state K.to_come s es q legal a };
 
-    ghost plain = { λ s t q r can alone acted. plain_step K.D.state K.to_come s t q r can alone acted };
+    ghost plain = { λ s t q r can alone acted.
+        plain_step K.D.state K.to_come s t q r can alone acted };
 }
 
 impl<K: KeysCell> Holds for NameSide<K> {
@@ -231,9 +233,12 @@ impl<K: KeysCell> Holds for NameSide<K> {
 
     ghost needs_grow = { λ es fs q w p n. NameNeeds-grows es fs q (K.seen w) p n };
 
-    ghost needs_fit = { λ s es q w sound legal n. needed_suits K.D.state K.to_come s es q (K.seen w) legal n };
+    ghost needs_fit = { λ s es q w sound legal n.
+        needed_suits K.D.state K.to_come s es q (K.seen w) legal n };
 
-    ghost still_can = { λ s m w q took can. still_can K.D.state K.to_come s m (K.seen w) q took can };
+    ghost still_can = { λ s m w q took can.
+        still_can K.D.state K.to_come s m (K.seen w) q took can };
 
-    ghost meeting = { λ s m t w q r suits took acted. meeting_step K.D.state K.to_come s m t (K.seen w) q r suits took acted };
+    ghost meeting = { λ s m t w q r suits took acted.
+        meeting_step K.D.state K.to_come s m t (K.seen w) q r suits took acted };
 }

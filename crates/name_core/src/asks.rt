@@ -76,7 +76,8 @@ impl OpenAsks {
     /// Returns the ask with the id, or `None` if there is none. Takes time logarithmic in the
     /// number of open asks.
     pub fn get(&self, id: u64) -> Option<&OpenAsk>
-        ensures { MatchOption result (open_ask self.now id ≡ None) (λ ask. open_ask self.now id ≡ Some ask.now) }
+        ensures { MatchOption result (open_ask self.now id ≡ None)
+            (λ ask. open_ask self.now id ≡ Some ask.now) }
     {
         self.asks.get(&id)
     }

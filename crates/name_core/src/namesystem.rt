@@ -63,9 +63,27 @@ impl Model for Name {
 
     ghost Value = { RunningNames };
 
-    ghost view = { λ a. record { store = a.store; next = a.next; asks = a.asks; walks = a.walks.items; updating = a.updating; batch = a.batch } };
+    ghost view = { λ a.
+        record {
+          store = a.store;
+          next = a.next;
+          asks = a.asks;
+          walks = a.walks.items;
+          updating = a.updating;
+          batch = a.batch;
+        } };
 
-    ghost invariant = { λ a. Keeps (service_of (record { store = a.store; next = a.next; asks = a.asks; walks = a.walks.items; updating = a.updating; batch = a.batch })) × WalksOnce a.walks.items };
+    ghost invariant = { λ a.
+        Keeps
+        (service_of
+        (record {
+          store = a.store;
+          next = a.next;
+          asks = a.asks;
+          walks = a.walks.items;
+          updating = a.updating;
+          batch = a.batch;
+        })) × WalksOnce a.walks.items };
 }
 
 impl Name {
@@ -85,7 +103,8 @@ impl Name {
         // found, as it is or with its end gate read as 1, or its operations with or without the new
         // opening. A crash after the first sync of the call leaves only the latter. If that sync
         // failed, nothing was written.
-        ensures opens { OpensNames (D.state disk.old) (D.state disk.new) (λ fault. IsErrOf result fault) }
+        ensures opens { OpensNames (D.state disk.old) (D.state disk.new)
+            (λ fault. IsErrOf result fault) }
     {
         let store = NameStore::start(alloc, disk)?;
         Ok(Name {
@@ -104,8 +123,11 @@ impl Name {
     /// an error only the disk has changed, and the namesystem must not be used with this disk any
     /// longer.
     pub fn restart<D: Disk>(&mut self, alloc: Global, disk: &mut D) -> Result<(), StartFault>
-        ensures started { MatchResult result (λ _. Starts self.old.batch (D.state disk.old) (D.state disk.new) self.new) (λ _. self.new ≡ self.old) }
-        ensures opens { OpensNames (D.state disk.old) (D.state disk.new) (λ fault. IsErrOf result fault) }
+        ensures started { MatchResult result
+            (λ _. Starts self.old.batch (D.state disk.old) (D.state disk.new) self.new)
+            (λ _. self.new ≡ self.old) }
+        ensures opens { OpensNames (D.state disk.old) (D.state disk.new)
+            (λ fault. IsErrOf result fault) }
     {
         match Name::start(alloc, disk, self.batch.files()) {
             Err(fault) => Err(fault),
@@ -145,8 +167,10 @@ impl Name {
     /// operation may have taken effect, and that after `StoreFault` at its own record the change is
     /// pending.
     pub fn act<D: Disk>(&mut self, disk: &mut D, user: &Text, call: NameCall) -> NameReply
-        requires stands { Tells (D.state disk.old) → ((ops : List EditOp) × IsNamesystemOf (D.state disk.old) self.old ops) }
-        ensures { NameActsOnDisk (D.state disk.old) (D.state disk.new) self.old user.now call result self.new }
+        requires stands { Tells (D.state disk.old) →
+            ((ops : List EditOp) × IsNamesystemOf (D.state disk.old) self.old ops) }
+        ensures { NameActsOnDisk (D.state disk.old) (D.state disk.new) self.old user.now call result
+            self.new }
     {
         if let Some(why) = early_refusal(user, &call) {
             drop(call);
@@ -186,8 +210,11 @@ impl Name {
     /// Settles the pending operation, if there is one. An update that the log kept retires its batch. If
     /// the disk fails, the operation is still pending.
     fn settle<D: Disk>(&mut self, disk: &mut D) -> Result<(), StoreRefusal>
-        requires stands { Tells (D.state disk.old) → ((ops : List EditOp) × IsNamesystemOf (D.state disk.old) self.old ops) }
-        ensures { MatchResult result (λ _. Settling (D.state disk.old) (D.state disk.new) self.old self.new) (λ _. IsUnsettled (D.state disk.old) (D.state disk.new) self.old self.new) }
+        requires stands { Tells (D.state disk.old) →
+            ((ops : List EditOp) × IsNamesystemOf (D.state disk.old) self.old ops) }
+        ensures { MatchResult result
+            (λ _. Settling (D.state disk.old) (D.state disk.new) self.old self.new)
+            (λ _. IsUnsettled (D.state disk.old) (D.state disk.new) self.old self.new) }
     {
         // The invariant of the store.
         let _ = self.store.tree();
@@ -204,7 +231,8 @@ impl Name {
     fn change<D: Disk>(&mut self, disk: &mut D, call: NameCall) -> NameReply
         requires change { is_change call ≡ true }
         requires begins { MayBegin call }
-        requires stands { Tells (D.state disk.old) → ((ops : List EditOp) × IsNamesystemOf (D.state disk.old) self.old ops) }
+        requires stands { Tells (D.state disk.old) →
+            ((ops : List EditOp) × IsNamesystemOf (D.state disk.old) self.old ops) }
         ensures { ActsOn (D.state disk.old) (D.state disk.new) self.old call result self.new }
     {
         match self.settle(disk) {
@@ -218,7 +246,8 @@ impl Name {
         requires change { is_change call ≡ true }
         requires begins { MayBegin call }
         requires settled { self.old.store.log.pending ≡ None }
-        requires stands { Tells (D.state disk.old) → ((ops : List EditOp) × IsNamesystemOf (D.state disk.old) self.old ops) }
+        requires stands { Tells (D.state disk.old) →
+            ((ops : List EditOp) × IsNamesystemOf (D.state disk.old) self.old ops) }
         ensures { ActsSettled (D.state disk.old) (D.state disk.new) self.old call result self.new }
     {
         self.invariants();
@@ -319,10 +348,13 @@ impl Name {
     /// Writes the operation of a call after all checks, while nothing is pending. Uses up `ids` ids
     /// unless the result is `NoMemory`.
     fn write<D: Disk>(&mut self, disk: &mut D, op: &EditOp, ids: u64) -> Result<(), StoreRefusal>
-        requires may { MayWrite (names_of self.old) op.now (record (names_of self.old) { next = self.old.next + ids }) }
+        requires may { MayWrite (names_of self.old) op.now
+            (record (names_of self.old) { next = self.old.next + ids }) }
         requires settled { self.old.store.log.pending ≡ None }
-        requires stands { Tells (D.state disk.old) → ((ops : List EditOp) × IsNamesystemOf (D.state disk.old) self.old ops) }
-        ensures { Writes (D.state disk.old) (D.state disk.new) self.old (record (names_of self.old) { next = self.old.next + ids }) op.now result self.new }
+        requires stands { Tells (D.state disk.old) →
+            ((ops : List EditOp) × IsNamesystemOf (D.state disk.old) self.old ops) }
+        ensures { Writes (D.state disk.old) (D.state disk.new) self.old
+            (record (names_of self.old) { next = self.old.next + ids }) op.now result self.new }
     {
         match self.store.commit(self.alloc, disk, op) {
             Err(StoreRefusal::NoMemory) => Err(StoreRefusal::NoMemory),
@@ -389,7 +421,8 @@ impl Name {
     }
 
     fn file_refusal(&self, path: &NPath) -> Option<NameRefusal>
-        ensures { (user : Text) → result ≡ first_cause (ask_causes (names_of self.now) user (Ask.Create path.now)) }
+        ensures { (user : Text) →
+            result ≡ first_cause (ask_causes (names_of self.now) user (Ask.Create path.now)) }
     {
         if let Some(why) = path_refusal(path) {
             return Some(why);
@@ -398,7 +431,8 @@ impl Name {
     }
 
     fn zone_refusal(&self, user: &Text, path: &NPath) -> Option<NameRefusal>
-        ensures { (key : KeyName) → result ≡ first_cause (ask_causes (names_of self.now) user.now (Ask.Zone path.now key)) }
+        ensures { (key : KeyName) →
+            result ≡ first_cause (ask_causes (names_of self.now) user.now (Ask.Zone path.now key)) }
     {
         if let Some(why) = path_refusal(path) {
             return Some(why);
@@ -416,7 +450,8 @@ impl Name {
     }
 
     fn submission_refusal(&self, user: &Text, path: &NPath) -> Option<NameRefusal>
-        ensures { result ≡ first_cause (ask_causes (names_of self.now) user.now (Ask.Submit path.now)) }
+        ensures { result ≡
+            first_cause (ask_causes (names_of self.now) user.now (Ask.Submit path.now)) }
     {
         if let Some(why) = path_refusal(path) {
             return Some(why);
@@ -439,8 +474,10 @@ impl Name {
     /// under the id. Otherwise the ask is no longer open afterwards, unless the result is
     /// `NoMemory`.
     pub fn finish<D: Disk>(&mut self, disk: &mut D, answered: Answered) -> Result<(), NameRefusal>
-        requires stands { Tells (D.state disk.old) → ((ops : List EditOp) × IsNamesystemOf (D.state disk.old) self.old ops) }
-        ensures { FinishActs (D.state disk.old) (D.state disk.new) self.old answered.id (answer_of answered.reply) result self.new }
+        requires stands { Tells (D.state disk.old) →
+            ((ops : List EditOp) × IsNamesystemOf (D.state disk.old) self.old ops) }
+        ensures { FinishActs (D.state disk.old) (D.state disk.new) self.old answered.id
+            (answer_of answered.reply) result self.new }
     {
         let answer = answered.answer();
         self.finish_with(disk, answered.id, answer)
@@ -453,8 +490,10 @@ impl Name {
         id: u64,
         answer: KeyAnswer,
     ) -> Result<(), NameRefusal>
-        requires stands { Tells (D.state disk.old) → ((ops : List EditOp) × IsNamesystemOf (D.state disk.old) self.old ops) }
-        ensures { FinishActs (D.state disk.old) (D.state disk.new) self.old id answer result self.new }
+        requires stands { Tells (D.state disk.old) →
+            ((ops : List EditOp) × IsNamesystemOf (D.state disk.old) self.old ops) }
+        ensures { FinishActs (D.state disk.old) (D.state disk.new) self.old id answer result
+            self.new }
     {
         if !self.is_open(id) {
             return Err(self.ask_gone());
@@ -498,8 +537,10 @@ impl Name {
         edek: Option<Edek>,
     ) -> Result<(), NameRefusal>
         requires asked { is_some (open_ask self.old.asks id) ≡ true }
-        requires stands { Tells (D.state disk.old) → ((ops : List EditOp) × IsNamesystemOf (D.state disk.old) self.old ops) }
-        ensures { FinishActs (D.state disk.old) (D.state disk.new) self.old id (KeyAnswer.Given edek) result self.new }
+        requires stands { Tells (D.state disk.old) →
+            ((ops : List EditOp) × IsNamesystemOf (D.state disk.old) self.old ops) }
+        ensures { FinishActs (D.state disk.old) (D.state disk.new) self.old id
+            (KeyAnswer.Given edek) result self.new }
     {
         match self.settle(disk) {
             Err(_) => {
@@ -519,8 +560,11 @@ impl Name {
     ) -> Result<(), NameRefusal>
         requires asked { is_some (open_ask self.old.asks id) ≡ true }
         requires settled { self.old.store.log.pending ≡ None }
-        requires stands { Tells (D.state disk.old) → ((ops : List EditOp) × IsNamesystemOf (D.state disk.old) self.old ops) }
-        ensures { (ask : OpenAsk) → open_ask self.old.asks id ≡ Some ask → FinishesSettled (D.state disk.old) (D.state disk.new) self.old ask edek result self.new }
+        requires stands { Tells (D.state disk.old) →
+            ((ops : List EditOp) × IsNamesystemOf (D.state disk.old) self.old ops) }
+        ensures { (ask : OpenAsk) → open_ask self.old.asks id ≡ Some ask →
+            FinishesSettled (D.state disk.old) (D.state disk.new) self.old ask edek result
+            self.new }
     {
         self.invariants();
         if let Some(why) = self.finish_refusal(id, &edek) {
@@ -546,7 +590,11 @@ impl Name {
 
     fn finish_refusal(&self, id: u64, edek: &Option<Edek>) -> Option<NameRefusal>
         requires { is_some (open_ask self.now.asks id) ≡ true }
-        ensures { (ask : OpenAsk) → open_ask self.now.asks id ≡ Some ask → result ≡ first_cause (finish_causes self.now.store.table.rows self.now.store.table.statuses ask edek.now ask.ask) }
+        ensures { (ask : OpenAsk) → open_ask self.now.asks id ≡ Some ask →
+            result ≡
+            first_cause
+            (finish_causes self.now.store.table.rows self.now.store.table.statuses ask edek.now
+            ask.ask) }
     {
         to_be_finished(
             self.store.tree(),
@@ -558,8 +606,10 @@ impl Name {
 
     fn finish_op(&self, id: u64, edek: Option<Edek>) -> Result<EditOp, NoMemory>
         requires asked { is_some (open_ask self.now.asks id) ≡ true }
-        requires given { (ask : OpenAsk) → open_ask self.now.asks id ≡ Some ask → HasWanted ask.ask edek }
-        ensures { (ask : OpenAsk) → open_ask self.now.asks id ≡ Some ask → IfOk result (λ op. op ≡ finish_op ask.id edek ask.ask) }
+        requires given { (ask : OpenAsk) → open_ask self.now.asks id ≡ Some ask →
+            HasWanted ask.ask edek }
+        ensures { (ask : OpenAsk) → open_ask self.now.asks id ≡ Some ask →
+            IfOk result (λ op. op ≡ finish_op ask.id edek ask.ask) }
     {
         finish_op(self.alloc, self.open_ask(id), edek)
     }
@@ -574,8 +624,10 @@ impl Name {
     ) -> Result<(), StoreRefusal>
         requires may { MayWrite (names_of self.old) op.now (closed (names_of self.old) id) }
         requires settled { self.old.store.log.pending ≡ None }
-        requires stands { Tells (D.state disk.old) → ((ops : List EditOp) × IsNamesystemOf (D.state disk.old) self.old ops) }
-        ensures { Writes (D.state disk.old) (D.state disk.new) self.old (closed (names_of self.old) id) op.now result self.new }
+        requires stands { Tells (D.state disk.old) →
+            ((ops : List EditOp) × IsNamesystemOf (D.state disk.old) self.old ops) }
+        ensures { Writes (D.state disk.old) (D.state disk.new) self.old
+            (closed (names_of self.old) id) op.now result self.new }
     {
         match self.store.commit(self.alloc, disk, op) {
             Err(StoreRefusal::NoMemory) => Err(StoreRefusal::NoMemory),
@@ -600,7 +652,8 @@ impl Name {
     /// The pending operation is settled first. After `StoreFault` at the record of the completion,
     /// the completion is pending.
     pub fn walk<D: Disk>(&mut self, disk: &mut D, zone: &NPath) -> Result<Walked, NameRefusal>
-        requires stands { Tells (D.state disk.old) → ((ops : List EditOp) × IsNamesystemOf (D.state disk.old) self.old ops) }
+        requires stands { Tells (D.state disk.old) →
+            ((ops : List EditOp) × IsNamesystemOf (D.state disk.old) self.old ops) }
         ensures { WalkActs (D.state disk.old) (D.state disk.new) self.old zone.now result self.new }
     {
         if let Some(why) = path_refusal(zone) {
@@ -615,8 +668,10 @@ impl Name {
     /// Walks through a zone while nothing is pending.
     fn walk_settled<D: Disk>(&mut self, disk: &mut D, zone: &NPath) -> Result<Walked, NameRefusal>
         requires settled { self.old.store.log.pending ≡ None }
-        requires stands { Tells (D.state disk.old) → ((ops : List EditOp) × IsNamesystemOf (D.state disk.old) self.old ops) }
-        ensures { WalksSettled (D.state disk.old) (D.state disk.new) self.old zone.now result self.new }
+        requires stands { Tells (D.state disk.old) →
+            ((ops : List EditOp) × IsNamesystemOf (D.state disk.old) self.old ops) }
+        ensures { WalksSettled (D.state disk.old) (D.state disk.new) self.old zone.now result
+            self.new }
     {
         if let Some(why) = self.walk_refusal(zone) {
             return Err(why);
@@ -658,8 +713,10 @@ impl Name {
         requires free { first_cause (walk_causes (names_of self.old) zone.now) ≡ None }
         requires end { IsAtEnd (names_of self.old) zone.now }
         requires settled { self.old.store.log.pending ≡ None }
-        requires stands { Tells (D.state disk.old) → ((ops : List EditOp) × IsNamesystemOf (D.state disk.old) self.old ops) }
-        ensures { WalksSettled (D.state disk.old) (D.state disk.new) self.old zone.now result self.new }
+        requires stands { Tells (D.state disk.old) →
+            ((ops : List EditOp) × IsNamesystemOf (D.state disk.old) self.old ops) }
+        ensures { WalksSettled (D.state disk.old) (D.state disk.new) self.old zone.now result
+            self.new }
     {
         self.invariants();
         let session = self.session_at(zone);

@@ -21,7 +21,8 @@ use zone_table::StatusRow;
 
 /// Returns the reply that describes an entry. It allocates only if the entry lies in a zone.
 pub fn info(alloc: Global, store: &NameStore, path: &ReadPath) -> NameReply
-    ensures { Answers (is_some (zone_read store.now.table path.now)) (info_causes store.now.table path.now) (info_reply store.now.table path.now) result }
+    ensures { Answers (is_some (zone_read store.now.table path.now))
+        (info_causes store.now.table path.now) (info_reply store.now.table path.now) result }
 {
     if let Some(why) = snapshot_refusal(store, path) {
         return NameReply::Refused(why);
@@ -37,7 +38,8 @@ pub fn info(alloc: Global, store: &NameStore, path: &ReadPath) -> NameReply
 
 /// Returns the reply that lists a directory.
 pub fn list(store: &NameStore, path: &ReadPath) -> NameReply
-    ensures { Answers true (list_causes store.now.table path.now) (list_reply store.now.table path.now) result }
+    ensures { Answers true (list_causes store.now.table path.now)
+        (list_reply store.now.table path.now) result }
 {
     if let Some(why) = list_refusal(store, path) {
         return NameReply::Refused(why);
@@ -91,7 +93,8 @@ fn row_read(store: &NameStore, path: &ReadPath) -> Option<Row>
 /// Returns the entries of the directory that is read, which must exist.
 fn children_read(store: &NameStore, path: &ReadPath) -> Result<ChildList, NoMemory>
     requires { first_cause (list_causes store.now.table path.now) ≡ None }
-    ensures { IfOk result (λ list. list ≡ children (rows_read store.now.table path.now) (path_read path.now)) }
+    ensures { IfOk result
+        (λ list. list ≡ children (rows_read store.now.table path.now) (path_read path.now)) }
 {
     match &path.snapshot {
         None => store.tree().list(&path.path),
@@ -104,8 +107,11 @@ fn children_in_snapshot(
     path: &NPath,
     part: &SnapPart,
 ) -> Result<ChildList, NoMemory>
-    requires { is_dir_at (row_at (snapshot_rows store.now.table path.now part.now.name) part.now.below) ≡ true }
-    ensures { IfOk result (λ list. list ≡ children (snapshot_rows store.now.table path.now part.now.name) part.now.below) }
+    requires { is_dir_at
+        (row_at (snapshot_rows store.now.table path.now part.now.name) part.now.below) ≡ true }
+    ensures { IfOk result
+        (λ list. list ≡
+        children (snapshot_rows store.now.table path.now part.now.name) part.now.below) }
 {
     let dir = id_at(store.tree(), path);
     match store.snaps().list(dir, &part.name, &part.below)? {
@@ -117,7 +123,8 @@ fn children_in_snapshot(
 /// Returns the path of the zone that the entry lies in, or lay in.
 fn zone_read(alloc: Global, store: &NameStore, path: &ReadPath) -> Result<Option<NPath>, NoMemory>
     requires { first_cause (snapshot_causes store.now.table path.now) ≡ None }
-    ensures { MatchResult result (λ zone. zone ≡ zone_read store.now.table path.now) (λ why. IsTrue (is_some (zone_read store.now.table path.now))) }
+    ensures { MatchResult result (λ zone. zone ≡ zone_read store.now.table path.now)
+        (λ why. IsTrue (is_some (zone_read store.now.table path.now))) }
 {
     match &path.snapshot {
         None => zone_path(store.tree(), &path.path),
@@ -127,7 +134,8 @@ fn zone_read(alloc: Global, store: &NameStore, path: &ReadPath) -> Result<Option
 
 /// Returns the path of the zone that a path lies in.
 fn zone_path(tree: &Tree, path: &NPath) -> Result<Option<NPath>, NoMemory>
-    ensures { MatchResult result (λ zone. zone ≡ path_of_zone tree.now.rows path.now) (λ why. IsTrue (is_some (path_of_zone tree.now.rows path.now))) }
+    ensures { MatchResult result (λ zone. zone ≡ path_of_zone tree.now.rows path.now)
+        (λ why. IsTrue (is_some (path_of_zone tree.now.rows path.now))) }
 {
     // No two rows have the same id.
     let _ = tree.rows();
@@ -145,7 +153,8 @@ fn zone_in_snapshot(
     part: &SnapPart,
 ) -> Result<Option<NPath>, NoMemory>
     requires { is_some (row_at store.now.table.rows path.now) ≡ true }
-    ensures { MatchResult result (λ zone. zone ≡ zone_in_snapshot store.now.table path.now part.now) (λ why. IsTrue (is_some (zone_in_snapshot store.now.table path.now part.now))) }
+    ensures { MatchResult result (λ zone. zone ≡ zone_in_snapshot store.now.table path.now part.now)
+        (λ why. IsTrue (is_some (zone_in_snapshot store.now.table path.now part.now))) }
 {
     let tree = store.tree();
     match zone_depth(store, path, part) {
@@ -160,7 +169,8 @@ fn zone_in_snapshot(
 /// Returns how many names lead from the directory of a snapshot to the zone of an entry, or `None`
 /// if no directory of the snapshot is its zone.
 fn zone_depth(store: &NameStore, path: &NPath, part: &SnapPart) -> Option<u8>
-    ensures { result ≡ zone_depth (snapshot_rows store.now.table path.now part.now.name) part.now.below }
+    ensures { result ≡
+        zone_depth (snapshot_rows store.now.table path.now part.now.name) part.now.below }
 {
     let dir = id_at(store.tree(), path);
     store.snaps().zone_in(dir, &part.name, &part.below)
@@ -169,7 +179,8 @@ fn zone_depth(store: &NameStore, path: &NPath, part: &SnapPart) -> Option<u8>
 /// Returns the path of the zone over a directory: the zone that its parent lies in. There is none
 /// over the root.
 fn zone_over(tree: &Tree, path: &NPath) -> Result<Option<NPath>, NoMemory>
-    ensures { MatchResult result (λ zone. zone ≡ zone_over tree.now.rows path.now) (λ why. IsTrue (is_some (zone_over tree.now.rows path.now))) }
+    ensures { MatchResult result (λ zone. zone ≡ zone_over tree.now.rows path.now)
+        (λ why. IsTrue (is_some (zone_over tree.now.rows path.now))) }
 {
     if path.is_root() {
         return Ok(None);
@@ -195,7 +206,8 @@ fn shown(row: Row, zone: Option<NPath>) -> NameReply
 
 /// Returns the reply that tells how far the re-encryption of a zone is.
 pub fn status(alloc: Global, store: &NameStore, walks: &Vec<Walker>, path: &NPath) -> NameReply
-    ensures { Answers true (zone_root_causes store.now.table.rows path.now) (NameReply.Status (status_shown_at store.now.table walks.now.items path.now)) result }
+    ensures { Answers true (zone_root_causes store.now.table.rows path.now)
+        (NameReply.Status (status_shown_at store.now.table walks.now.items path.now)) result }
 {
     if let Some(why) = to_be_zone_root(store.tree(), path) {
         return NameReply::Refused(why);
@@ -213,7 +225,8 @@ fn status_at(
     walks: &Vec<Walker>,
     path: &NPath,
 ) -> Result<Option<ZoneStatus>, NoMemory>
-    ensures { IfOk result (λ status. status ≡ status_shown_at store.now.table walks.now.items path.now) }
+    ensures { IfOk result
+        (λ status. status ≡ status_shown_at store.now.table walks.now.items path.now) }
 {
     match store.statuses().get(id_at(store.tree(), path)) {
         None => Ok(None),

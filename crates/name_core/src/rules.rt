@@ -151,7 +151,8 @@ pub fn to_be_deleted(
     path: &NPath,
     recursive: bool,
 ) -> Option<NameRefusal>
-    ensures { result ≡ first_cause (delete_causes tree.now.rows snaps.now.table path.now recursive) }
+    ensures { result ≡
+        first_cause (delete_causes tree.now.rows snaps.now.table path.now recursive) }
 {
     if let Some(why) = to_be_removed(tree, path) {
         return Some(why);
@@ -236,7 +237,8 @@ pub fn to_be_finished(
     ask: &OpenAsk,
     edek: &Option<Edek>,
 ) -> Option<NameRefusal>
-    ensures { result ≡ first_cause (finish_causes tree.now.rows statuses.now.rows ask.now edek.now ask.now.ask) }
+    ensures { result ≡
+        first_cause (finish_causes tree.now.rows statuses.now.rows ask.now edek.now ask.now.ask) }
 {
     match &ask.ask {
         Ask::Create { path } => file_refusal(tree, ask, edek, path),
@@ -251,7 +253,9 @@ fn file_refusal(
     edek: &Option<Edek>,
     path: &NPath,
 ) -> Option<NameRefusal>
-    ensures { (statuses : List StatusRow) → result ≡ first_cause (finish_causes tree.now.rows statuses ask.now edek.now (Ask.Create path.now)) }
+    ensures { (statuses : List StatusRow) →
+        result ≡
+        first_cause (finish_causes tree.now.rows statuses ask.now edek.now (Ask.Create path.now)) }
 {
     if let Some(why) = path_refusal(path) {
         return Some(why);
@@ -272,7 +276,9 @@ fn file_refusal(
 }
 
 fn zone_refusal(tree: &Tree, ask: &OpenAsk, path: &NPath) -> Option<NameRefusal>
-    ensures { (statuses : List StatusRow) (edek : Option Edek) (key : KeyName) → result ≡ first_cause (finish_causes tree.now.rows statuses ask.now edek (Ask.Zone path.now key)) }
+    ensures { (statuses : List StatusRow) (edek : Option Edek) (key : KeyName) →
+        result ≡
+        first_cause (finish_causes tree.now.rows statuses ask.now edek (Ask.Zone path.now key)) }
 {
     if let Some(why) = path_refusal(path) {
         return Some(why);
@@ -293,7 +299,9 @@ fn submission_refusal(
     edek: &Option<Edek>,
     path: &NPath,
 ) -> Option<NameRefusal>
-    ensures { result ≡ first_cause (finish_causes tree.now.rows statuses.now.rows ask.now edek.now (Ask.Submit path.now)) }
+    ensures { result ≡
+        first_cause
+        (finish_causes tree.now.rows statuses.now.rows ask.now edek.now (Ask.Submit path.now)) }
 {
     if let Some(why) = path_refusal(path) {
         return Some(why);

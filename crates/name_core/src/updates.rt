@@ -37,7 +37,8 @@ fn is_note_of(walker: &Walker, note: &BatchNote) -> bool
 /// Returns whether the walk of a session, if there is one, has an outstanding batch with the session
 /// and the files of a note.
 fn has_note(walks: &Vec<Walker>, session: u64, note: &BatchNote) -> bool
-    ensures { result ≡ option_map_or (has_note note.now) (walk_under walks.now.items session) false }
+    ensures { result ≡
+        option_map_or (has_note note.now) (walk_under walks.now.items session) false }
 {
     match find(walks, session) {
         None => false,
@@ -48,7 +49,10 @@ fn has_note(walks: &Vec<Walker>, session: u64, note: &BatchNote) -> bool
 /// Returns whether a batch with the session and the files of a note is outstanding in the present
 /// re-encryption of its zone.
 pub fn is_outstanding(walks: &Vec<Walker>, statuses: &Statuses, note: &BatchNote) -> bool
-    ensures { result ≡ option_map_or (has_note note.now) (option_and_then (walk_of_status walks.now.items) (status_of statuses.now.rows note.now.zone)) false }
+    ensures { result ≡
+        option_map_or (has_note note.now)
+        (option_and_then (walk_of_status walks.now.items)
+        (status_of statuses.now.rows note.now.zone)) false }
 {
     match statuses.get(note.zone) {
         None => false,
@@ -64,7 +68,9 @@ pub fn is_outstanding(walks: &Vec<Walker>, statuses: &Statuses, note: &BatchNote
 /// Returns the mark of a zone after an outstanding batch is retired, or `None` if that does not move
 /// it. Returns `NoMemory` if allocation fails.
 pub fn mark_by(walks: &Vec<Walker>, note: &BatchNote) -> Result<Option<NPath>, NoMemory>
-    requires { IsTrue (option_map_or (λ w. has_batch w.batches note.now.sent) (walk_under walks.now.items note.now.session) false) }
+    requires { IsTrue
+        (option_map_or (λ w. has_batch w.batches note.now.sent)
+        (walk_under walks.now.items note.now.session) false) }
     ensures { IfOk result (λ mark. mark ≡ mark_under walks.now.items note.now) }
 {
     match find(walks, note.session) {

@@ -133,7 +133,9 @@ pub fn take(
     requires submitted { is_some (status_of statuses.now.rows zone) ≡ true }
     requires some { 1 ≤ size }
     requires most { size ≤ 1000 }
-    ensures { (st : StatusRow) → status_of statuses.now.rows zone ≡ Some st → TakesBatch tree.now.rows statuses.now.rows zone size st walks.old.items result walks.new.items }
+    ensures { (st : StatusRow) → status_of statuses.now.rows zone ≡ Some st →
+        TakesBatch tree.now.rows statuses.now.rows zone size st walks.old.items result
+        walks.new.items }
 {
     match statuses.get(zone) {
         None => unreachable!(),

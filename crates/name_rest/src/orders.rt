@@ -20,7 +20,8 @@ pub(crate) fn read_order(
     query: &Query,
 ) -> Result<NameOrder, NameRestFault>
     ensures ok { IfOk result (λ order. spec.order_of operation query.now ≡ Ok order) }
-    ensures err { IfErr result (λ e. ¬ (e ≡ NameRestFault.NoMemory) → spec.order_of operation query.now ≡ Err e) }
+    ensures err { IfErr result
+        (λ e. ¬ (e ≡ NameRestFault.NoMemory) → spec.order_of operation query.now ≡ Err e) }
 {
     match operation {
         Operation::Mkdir => mkdir(alloc, query),
@@ -43,7 +44,8 @@ pub(crate) fn read_order(
 
 fn mkdir(alloc: Global, query: &Query) -> Result<NameOrder, NameRestFault>
     ensures ok { IfOk result (λ order. spec.order_of op.Mkdir query.now ≡ Ok order) }
-    ensures err { IfErr result (λ e. ¬ (e ≡ NameRestFault.NoMemory) → spec.order_of op.Mkdir query.now ≡ Err e) }
+    ensures err { IfErr result
+        (λ e. ¬ (e ≡ NameRestFault.NoMemory) → spec.order_of op.Mkdir query.now ≡ Err e) }
 {
     let path = path_in(alloc, query)?;
     Ok(NameOrder::Call(NameCall::Mkdir { path }))
@@ -51,7 +53,8 @@ fn mkdir(alloc: Global, query: &Query) -> Result<NameOrder, NameRestFault>
 
 fn create(alloc: Global, query: &Query) -> Result<NameOrder, NameRestFault>
     ensures ok { IfOk result (λ order. spec.order_of op.Create query.now ≡ Ok order) }
-    ensures err { IfErr result (λ e. ¬ (e ≡ NameRestFault.NoMemory) → spec.order_of op.Create query.now ≡ Err e) }
+    ensures err { IfErr result
+        (λ e. ¬ (e ≡ NameRestFault.NoMemory) → spec.order_of op.Create query.now ≡ Err e) }
 {
     let path = path_in(alloc, query)?;
     Ok(NameOrder::Ask(Ask::Create { path }))
@@ -59,7 +62,8 @@ fn create(alloc: Global, query: &Query) -> Result<NameOrder, NameRestFault>
 
 fn reencrypt(alloc: Global, query: &Query) -> Result<NameOrder, NameRestFault>
     ensures ok { IfOk result (λ order. spec.order_of op.Reencrypt query.now ≡ Ok order) }
-    ensures err { IfErr result (λ e. ¬ (e ≡ NameRestFault.NoMemory) → spec.order_of op.Reencrypt query.now ≡ Err e) }
+    ensures err { IfErr result
+        (λ e. ¬ (e ≡ NameRestFault.NoMemory) → spec.order_of op.Reencrypt query.now ≡ Err e) }
 {
     let path = path_in(alloc, query)?;
     Ok(NameOrder::Ask(Ask::Submit { path }))
@@ -67,7 +71,8 @@ fn reencrypt(alloc: Global, query: &Query) -> Result<NameOrder, NameRestFault>
 
 fn cancel(alloc: Global, query: &Query) -> Result<NameOrder, NameRestFault>
     ensures ok { IfOk result (λ order. spec.order_of op.Cancel query.now ≡ Ok order) }
-    ensures err { IfErr result (λ e. ¬ (e ≡ NameRestFault.NoMemory) → spec.order_of op.Cancel query.now ≡ Err e) }
+    ensures err { IfErr result
+        (λ e. ¬ (e ≡ NameRestFault.NoMemory) → spec.order_of op.Cancel query.now ≡ Err e) }
 {
     let path = path_in(alloc, query)?;
     Ok(NameOrder::Call(NameCall::Cancel { path }))
@@ -75,7 +80,8 @@ fn cancel(alloc: Global, query: &Query) -> Result<NameOrder, NameRestFault>
 
 fn allow(alloc: Global, query: &Query) -> Result<NameOrder, NameRestFault>
     ensures ok { IfOk result (λ order. spec.order_of op.Allow query.now ≡ Ok order) }
-    ensures err { IfErr result (λ e. ¬ (e ≡ NameRestFault.NoMemory) → spec.order_of op.Allow query.now ≡ Err e) }
+    ensures err { IfErr result
+        (λ e. ¬ (e ≡ NameRestFault.NoMemory) → spec.order_of op.Allow query.now ≡ Err e) }
 {
     let path = path_in(alloc, query)?;
     Ok(NameOrder::Call(NameCall::Allow { path }))
@@ -83,7 +89,8 @@ fn allow(alloc: Global, query: &Query) -> Result<NameOrder, NameRestFault>
 
 fn disallow(alloc: Global, query: &Query) -> Result<NameOrder, NameRestFault>
     ensures ok { IfOk result (λ order. spec.order_of op.Disallow query.now ≡ Ok order) }
-    ensures err { IfErr result (λ e. ¬ (e ≡ NameRestFault.NoMemory) → spec.order_of op.Disallow query.now ≡ Err e) }
+    ensures err { IfErr result
+        (λ e. ¬ (e ≡ NameRestFault.NoMemory) → spec.order_of op.Disallow query.now ≡ Err e) }
 {
     let path = path_in(alloc, query)?;
     Ok(NameOrder::Call(NameCall::Disallow { path }))
@@ -91,7 +98,8 @@ fn disallow(alloc: Global, query: &Query) -> Result<NameOrder, NameRestFault>
 
 fn status(alloc: Global, query: &Query) -> Result<NameOrder, NameRestFault>
     ensures ok { IfOk result (λ order. spec.order_of op.Status query.now ≡ Ok order) }
-    ensures err { IfErr result (λ e. ¬ (e ≡ NameRestFault.NoMemory) → spec.order_of op.Status query.now ≡ Err e) }
+    ensures err { IfErr result
+        (λ e. ¬ (e ≡ NameRestFault.NoMemory) → spec.order_of op.Status query.now ≡ Err e) }
 {
     let path = path_in(alloc, query)?;
     Ok(NameOrder::Call(NameCall::Status { path }))
@@ -99,7 +107,8 @@ fn status(alloc: Global, query: &Query) -> Result<NameOrder, NameRestFault>
 
 fn info(alloc: Global, query: &Query) -> Result<NameOrder, NameRestFault>
     ensures ok { IfOk result (λ order. spec.order_of op.Info query.now ≡ Ok order) }
-    ensures err { IfErr result (λ e. ¬ (e ≡ NameRestFault.NoMemory) → spec.order_of op.Info query.now ≡ Err e) }
+    ensures err { IfErr result
+        (λ e. ¬ (e ≡ NameRestFault.NoMemory) → spec.order_of op.Info query.now ≡ Err e) }
 {
     let path = any_path_in(alloc, query)?;
     Ok(NameOrder::Call(NameCall::Info { path }))
@@ -107,7 +116,8 @@ fn info(alloc: Global, query: &Query) -> Result<NameOrder, NameRestFault>
 
 fn list(alloc: Global, query: &Query) -> Result<NameOrder, NameRestFault>
     ensures ok { IfOk result (λ order. spec.order_of op.List query.now ≡ Ok order) }
-    ensures err { IfErr result (λ e. ¬ (e ≡ NameRestFault.NoMemory) → spec.order_of op.List query.now ≡ Err e) }
+    ensures err { IfErr result
+        (λ e. ¬ (e ≡ NameRestFault.NoMemory) → spec.order_of op.List query.now ≡ Err e) }
 {
     let path = any_path_in(alloc, query)?;
     Ok(NameOrder::Call(NameCall::List { path }))
@@ -115,7 +125,8 @@ fn list(alloc: Global, query: &Query) -> Result<NameOrder, NameRestFault>
 
 fn delete(alloc: Global, query: &Query) -> Result<NameOrder, NameRestFault>
     ensures ok { IfOk result (λ order. spec.order_of op.Delete query.now ≡ Ok order) }
-    ensures err { IfErr result (λ e. ¬ (e ≡ NameRestFault.NoMemory) → spec.order_of op.Delete query.now ≡ Err e) }
+    ensures err { IfErr result
+        (λ e. ¬ (e ≡ NameRestFault.NoMemory) → spec.order_of op.Delete query.now ≡ Err e) }
 {
     let text = needed(query, b"path")?;
     let recursive = read_recursive(query)?;
@@ -125,7 +136,8 @@ fn delete(alloc: Global, query: &Query) -> Result<NameOrder, NameRestFault>
 
 fn rename(alloc: Global, query: &Query) -> Result<NameOrder, NameRestFault>
     ensures ok { IfOk result (λ order. spec.order_of op.Rename query.now ≡ Ok order) }
-    ensures err { IfErr result (λ e. ¬ (e ≡ NameRestFault.NoMemory) → spec.order_of op.Rename query.now ≡ Err e) }
+    ensures err { IfErr result
+        (λ e. ¬ (e ≡ NameRestFault.NoMemory) → spec.order_of op.Rename query.now ≡ Err e) }
 {
     let text = needed(query, b"path")?;
     let to = needed(query, b"to")?;
@@ -136,7 +148,8 @@ fn rename(alloc: Global, query: &Query) -> Result<NameOrder, NameRestFault>
 
 fn zone(alloc: Global, query: &Query) -> Result<NameOrder, NameRestFault>
     ensures ok { IfOk result (λ order. spec.order_of op.Zone query.now ≡ Ok order) }
-    ensures err { IfErr result (λ e. ¬ (e ≡ NameRestFault.NoMemory) → spec.order_of op.Zone query.now ≡ Err e) }
+    ensures err { IfErr result
+        (λ e. ¬ (e ≡ NameRestFault.NoMemory) → spec.order_of op.Zone query.now ≡ Err e) }
 {
     let text = needed(query, b"path")?;
     let key = key_in(query)?;
@@ -146,7 +159,8 @@ fn zone(alloc: Global, query: &Query) -> Result<NameOrder, NameRestFault>
 
 fn snapshot(alloc: Global, query: &Query) -> Result<NameOrder, NameRestFault>
     ensures ok { IfOk result (λ order. spec.order_of op.Snapshot query.now ≡ Ok order) }
-    ensures err { IfErr result (λ e. ¬ (e ≡ NameRestFault.NoMemory) → spec.order_of op.Snapshot query.now ≡ Err e) }
+    ensures err { IfErr result
+        (λ e. ¬ (e ≡ NameRestFault.NoMemory) → spec.order_of op.Snapshot query.now ≡ Err e) }
 {
     let text = needed(query, b"path")?;
     let name = needed(query, b"name")?;
@@ -157,7 +171,8 @@ fn snapshot(alloc: Global, query: &Query) -> Result<NameOrder, NameRestFault>
 
 fn unsnapshot(alloc: Global, query: &Query) -> Result<NameOrder, NameRestFault>
     ensures ok { IfOk result (λ order. spec.order_of op.Unsnapshot query.now ≡ Ok order) }
-    ensures err { IfErr result (λ e. ¬ (e ≡ NameRestFault.NoMemory) → spec.order_of op.Unsnapshot query.now ≡ Err e) }
+    ensures err { IfErr result
+        (λ e. ¬ (e ≡ NameRestFault.NoMemory) → spec.order_of op.Unsnapshot query.now ≡ Err e) }
 {
     let text = needed(query, b"path")?;
     let name = needed(query, b"name")?;

@@ -66,7 +66,8 @@ pub(crate) fn key_in(query: &Query) -> Result<KeyName, NameRestFault>
 /// Reads an absolute path.
 pub(crate) fn read_path(alloc: Global, text: &[u8]) -> Result<NPath, NameRestFault>
     ensures ok { IfOk result (λ path. spec.path_of text.now ≡ Ok path) }
-    ensures err { IfErr result (λ e. ¬ (e ≡ NameRestFault.NoMemory) → spec.path_of text.now ≡ Err e) }
+    ensures err { IfErr result
+        (λ e. ¬ (e ≡ NameRestFault.NoMemory) → spec.path_of text.now ≡ Err e) }
 {
     match NPath::read(alloc, text) {
         Ok(path) => Ok(path),
@@ -78,7 +79,8 @@ pub(crate) fn read_path(alloc: Global, text: &[u8]) -> Result<NPath, NameRestFau
 /// Reads an absolute path, which may lead through a snapshot.
 fn read_any_path(alloc: Global, text: &[u8]) -> Result<ReadPath, NameRestFault>
     ensures ok { IfOk result (λ path. spec.any_path_of text.now ≡ Ok path) }
-    ensures err { IfErr result (λ e. ¬ (e ≡ NameRestFault.NoMemory) → spec.any_path_of text.now ≡ Err e) }
+    ensures err { IfErr result
+        (λ e. ¬ (e ≡ NameRestFault.NoMemory) → spec.any_path_of text.now ≡ Err e) }
 {
     match ReadPath::read(alloc, text) {
         Ok(path) => Ok(path),
@@ -90,7 +92,8 @@ fn read_any_path(alloc: Global, text: &[u8]) -> Result<ReadPath, NameRestFault>
 /// Reads the name of a snapshot.
 pub(crate) fn read_snapshot_name(alloc: Global, name: &[u8]) -> Result<Text, NameRestFault>
     ensures ok { IfOk result (λ text. spec.snapshot_name_of name.now ≡ Ok text) }
-    ensures err { IfErr result (λ e. ¬ (e ≡ NameRestFault.NoMemory) → spec.snapshot_name_of name.now ≡ Err e) }
+    ensures err { IfErr result
+        (λ e. ¬ (e ≡ NameRestFault.NoMemory) → spec.snapshot_name_of name.now ≡ Err e) }
 {
     if !is_component(name) {
         return Err(NameRestFault::BadPath);
@@ -107,7 +110,8 @@ pub(crate) fn read_snapshot_name(alloc: Global, name: &[u8]) -> Result<Text, Nam
 /// Returns the path in `path`.
 pub(crate) fn path_in(alloc: Global, query: &Query) -> Result<NPath, NameRestFault>
     ensures ok { IfOk result (λ path. spec.path_in query.now ≡ Ok path) }
-    ensures err { IfErr result (λ e. ¬ (e ≡ NameRestFault.NoMemory) → spec.path_in query.now ≡ Err e) }
+    ensures err { IfErr result
+        (λ e. ¬ (e ≡ NameRestFault.NoMemory) → spec.path_in query.now ≡ Err e) }
 {
     let text = needed(query, b"path")?;
     read_path(alloc, text)
@@ -116,7 +120,8 @@ pub(crate) fn path_in(alloc: Global, query: &Query) -> Result<NPath, NameRestFau
 /// Returns the path in `path`, which may lead through a snapshot.
 pub(crate) fn any_path_in(alloc: Global, query: &Query) -> Result<ReadPath, NameRestFault>
     ensures ok { IfOk result (λ path. spec.any_path_in query.now ≡ Ok path) }
-    ensures err { IfErr result (λ e. ¬ (e ≡ NameRestFault.NoMemory) → spec.any_path_in query.now ≡ Err e) }
+    ensures err { IfErr result
+        (λ e. ¬ (e ≡ NameRestFault.NoMemory) → spec.any_path_in query.now ≡ Err e) }
 {
     let text = needed(query, b"path")?;
     read_any_path(alloc, text)

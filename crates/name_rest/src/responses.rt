@@ -14,7 +14,8 @@ use std::alloc::Global;
 /// Makes the response of a reply. `created` says that the order was to make a file: then the status
 /// of `Done` is 201 instead of 200.
 pub fn respond_name(alloc: Global, reply: &NameReply, created: bool) -> Result<Response, NoMemory>
-    ensures status { IfOk result (λ response. response.status ≡ spec.reply_status reply.now created) }
+    ensures status { IfOk result
+        (λ response. response.status ≡ spec.reply_status reply.now created) }
     ensures body { IfOk result (λ response. response.body ≡ spec.reply_text reply.now) }
     ensures known { IfOk result (λ response. IsStatus response.status) }
 {

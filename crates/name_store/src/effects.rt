@@ -21,7 +21,8 @@ use zone_table::{Statuses, Zones, zones_are_the_marks};
 
 /// Makes a directory.
 pub(crate) fn make(tree: &mut Tree, path: &NPath, id: u64) -> Result<(), NoMemory>
-    requires allowed { first_cause (to_be_made tree.old.rows path.now ++ row_causes tree.old.rows) ≡ None }
+    requires allowed { first_cause (to_be_made tree.old.rows path.now ++ row_causes tree.old.rows) ≡
+        None }
     requires fresh { entry_of tree.old.rows id ≡ None }
     ensures ok { OnOk result (tree.new.rows ≡ put (new_directory id path.now) tree.old.rows) }
     ensures err { OnErr result (tree.new.rows ≡ tree.old.rows) }
@@ -40,7 +41,8 @@ pub(crate) fn make_file(
     id: u64,
     edek: Option<Edek>,
 ) -> Result<(), NoMemory>
-    requires allowed { first_cause (to_be_made tree.old.rows path.now ++ row_causes tree.old.rows) ≡ None }
+    requires allowed { first_cause (to_be_made tree.old.rows path.now ++ row_causes tree.old.rows) ≡
+        None }
     requires fresh { entry_of tree.old.rows id ≡ None }
     ensures ok { OnOk result (tree.new.rows ≡ put (new_file id path.now edek) tree.old.rows) }
     ensures err { OnErr result (tree.new.rows ≡ tree.old.rows) }
@@ -61,11 +63,14 @@ pub(crate) fn remove(
     statuses: &mut Statuses,
     path: &NPath,
 )
-    requires allowed { first_cause (removal_causes tree.old.rows path.now ++ kept_causes tree.old.rows snaps.old.table path.now) ≡ None }
+    requires allowed { first_cause
+        (removal_causes tree.old.rows path.now ++
+        kept_causes tree.old.rows snaps.old.table path.now) ≡ None }
     requires zones { zones.old.rows ≡ zones_of tree.old.rows }
     ensures rows { tree.new.rows ≡ removed path.now tree.old.rows }
     ensures zones { zones.new.rows ≡ zones_of tree.new.rows }
-    ensures snaps { snaps.new.table ≡ table_after_disallow_below tree.old.rows path.now snaps.old.table }
+    ensures snaps { snaps.new.table ≡
+        table_after_disallow_below tree.old.rows path.now snaps.old.table }
     ensures statuses { statuses.new.rows ≡ without_below tree.old.rows path.now statuses.old.rows }
 {
     zones.remove_below(tree, path);
@@ -77,7 +82,8 @@ pub(crate) fn remove(
 /// Moves what is at a path and below it to another path. Its zones and snapshots stay those of their
 /// directories.
 pub(crate) fn rename(tree: &mut Tree, path: &NPath, to: &NPath) -> Result<(), NoMemory>
-    requires allowed { (snaps : SnapTable) × (statuses : List StatusRow) × (first_cause (rename_causes tree.old.rows snaps statuses path.now to.now) ≡ None) }
+    requires allowed { (snaps : SnapTable) × (statuses : List StatusRow) ×
+        (first_cause (rename_causes tree.old.rows snaps statuses path.now to.now) ≡ None) }
     ensures ok { OnOk result (tree.new.rows ≡ renamed path.now to.now tree.old.rows) }
     ensures err { OnErr result (tree.new.rows ≡ tree.old.rows) }
     ensures zones { zones_of tree.new.rows ≡ zones_of tree.old.rows }
@@ -119,7 +125,8 @@ pub(crate) fn mark(
 /// Disallows snapshots of a directory.
 pub(crate) fn disallow(tree: &Tree, snaps: &mut Snaps, path: &NPath)
     requires { first_cause (disallow_causes tree.now.rows snaps.old.table path.now) ≡ None }
-    ensures { snaps.new.table ≡ table_after_disallow (id_at tree.now.rows path.now) snaps.old.table }
+    ensures { snaps.new.table ≡
+        table_after_disallow (id_at tree.now.rows path.now) snaps.old.table }
 {
     // Each id is that of one row.
     let _ = tree.rows();
@@ -134,9 +141,13 @@ pub(crate) fn snap(
     name: &Text,
 ) -> Result<(), NoMemory>
     requires { first_cause (snap_causes tree.now.rows snaps.old.table path.now name.now) ≡ None }
-    ensures ok { OnOk result (snaps.new.table ≡ table_after_take tree.now.rows (id_at tree.now.rows path.now) name.now snaps.old.table) }
+    ensures ok { OnOk result
+        (snaps.new.table ≡
+        table_after_take tree.now.rows (id_at tree.now.rows path.now) name.now
+        snaps.old.table) }
     ensures err { OnErr result (snaps.new.table ≡ snaps.old.table) }
-    ensures room { IsReady snaps.old.room tree.now.rows (id_at tree.now.rows path.now) name.now → IsOk result }
+    ensures room { IsReady snaps.old.room tree.now.rows (id_at tree.now.rows path.now) name.now →
+        IsOk result }
 {
     // Each id is that of one row.
     let _ = tree.rows();

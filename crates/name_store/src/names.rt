@@ -34,9 +34,23 @@ impl Model for Names {
 
     ghost Value = { NamesState };
 
-    ghost view = { λ a. record { table = record { opening = a.opening; rows = a.tree.rows; snaps = a.snaps.table; statuses = a.statuses.rows }; tree_spare = a.tree.spare; zone_spare = a.zones.spare; snap_room = a.snaps.room; status_spare = a.statuses.spare; mark = a.mark } };
+    ghost view = { λ a.
+        record {
+          table = record {
+            opening = a.opening;
+            rows = a.tree.rows;
+            snaps = a.snaps.table;
+            statuses = a.statuses.rows;
+          };
+          tree_spare = a.tree.spare;
+          zone_spare = a.zones.spare;
+          snap_room = a.snaps.room;
+          status_spare = a.statuses.spare;
+          mark = a.mark;
+        } };
 
-    ghost invariant = { λ a. (a.zones.rows ≡ zones_of a.tree.rows) × FitsRows a.tree.rows a.snaps.table × StatusesFit a.tree.rows a.statuses.rows };
+    ghost invariant = { λ a. (a.zones.rows ≡ zones_of a.tree.rows) ×
+        FitsRows a.tree.rows a.snaps.table × StatusesFit a.tree.rows a.statuses.rows };
 }
 
 impl Names {
@@ -246,7 +260,10 @@ impl Names {
 
     /// Returns why what is at a path can not move to another path.
     pub(crate) fn rename_refusal(&self, path: &NPath, to: &NPath) -> Option<NameRefusal>
-        ensures { result ≡ first_cause (rename_causes self.now.table.rows self.now.table.snaps self.now.table.statuses path.now to.now) }
+        ensures { result ≡
+            first_cause
+            (rename_causes self.now.table.rows self.now.table.snaps self.now.table.statuses path.now
+            to.now) }
     {
         to_be_renamed(
             &self.tree,

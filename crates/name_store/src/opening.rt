@@ -24,17 +24,24 @@ pub(crate) fn open<D: Disk>(
     names: &mut Names,
 ) -> Result<(), StartFault>
     requires settled { log.old.pending ≡ None }
-    requires stands { Tells (D.state disk.old) → ((ops : List EditOp) × IsEditLogOf (D.state disk.old) log.old ops) }
+    requires stands { Tells (D.state disk.old) →
+        ((ops : List EditOp) × IsEditLogOf (D.state disk.old) log.old ops) }
 
-    ensures opened { OnOk result ((names.new.table ≡ after_table names.old.table (next_opening names.old.table)) × (log.new.pending ≡ None)) }
-    ensures log { OnOk result (Tells (D.state disk.old) → (ops : List EditOp) → IsEditLogOf (D.state disk.old) log.old ops
+    ensures opened { OnOk result
+        ((names.new.table ≡ after_table names.old.table (next_opening names.old.table)) ×
+        (log.new.pending ≡ None)) }
+    ensures log { OnOk result
+        (Tells (D.state disk.old) → (ops : List EditOp) → IsEditLogOf (D.state disk.old) log.old ops
         → IsEditLogOf (D.state disk.new) log.new (ops ++ next_opening names.old.table ∷ [])) }
     ensures damaged { (at : ℕ) → IsErrOf result (start.Damaged at) → ⊥ }
     ensures spent { IsErrOf result start.Spent → names.old.table.opening ≡ 4294967295 }
-    ensures moments { Tells (D.state disk.old) → (ops : List EditOp) → IsEditLogOf (D.state disk.old) log.old ops
-        → LeavesOnly 1 (D.state disk.old) (D.state disk.new) (IsWritten ops (next_opening names.old.table)) }
+    ensures moments { Tells (D.state disk.old) → (ops : List EditOp) →
+        IsEditLogOf (D.state disk.old) log.old ops
+        → LeavesOnly 1 (D.state disk.old) (D.state disk.new)
+        (IsWritten ops (next_opening names.old.table)) }
     ensures run { RunOn 1 (D.state disk.old) (D.state disk.new) }
-    ensures cause { IsErrOf result start.StoreFault → Rose (D.state disk.old).faults (D.state disk.new).faults }
+    ensures cause { IsErrOf result start.StoreFault →
+        Rose (D.state disk.old).faults (D.state disk.new).faults }
 {
     let last = names.opening();
     match log.open(alloc, disk, last) {

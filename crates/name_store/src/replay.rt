@@ -20,7 +20,8 @@ use std::alloc::Global;
 /// used, so the rows are not searched for the id.
 fn take(names: &mut Names, used: &mut UsedIds, op: &EditOp) -> Result<bool, NoMemory>
     requires { RowsUsed names.old.table (is_used used.old) }
-    ensures { IfOk result (IsTaken names.old.table (is_used used.old) op.now names.new.table (is_used used.new)) }
+    ensures { IfOk result
+        (IsTaken names.old.table (is_used used.old) op.now names.new.table (is_used used.new)) }
 {
     names.focus(op);
     let fresh = used.is_fresh(op);
@@ -40,8 +41,10 @@ fn take(names: &mut Names, used: &mut UsedIds, op: &EditOp) -> Result<bool, NoMe
 /// Lets an operation take effect, or returns `Damaged` with its offset if it does not apply.
 fn take_placed(names: &mut Names, used: &mut UsedIds, placed: PlacedOp) -> Result<(), StartFault>
     requires { RowsUsed names.old.table (is_used used.old) }
-    ensures taken { OnOk result (IsNext names.old.table (is_used used.old) placed.op names.new.table (is_used used.new)) }
-    ensures damaged { (at : ℕ) → IsErrOf result (Damaged at) → (placed.at ≡ at) × (applies_beside names.old.table (is_used used.old) placed.op ≡ false) }
+    ensures taken { OnOk result
+        (IsNext names.old.table (is_used used.old) placed.op names.new.table (is_used used.new)) }
+    ensures damaged { (at : ℕ) → IsErrOf result (Damaged at) →
+        (placed.at ≡ at) × (applies_beside names.old.table (is_used used.old) placed.op ≡ false) }
     ensures fault { IsErrOf result StoreFault → ⊥ }
     ensures spent { IsErrOf result Spent → ⊥ }
 {
@@ -64,17 +67,22 @@ fn take_all<D: Disk>(
     names: &mut Names,
     used: &mut UsedIds,
 ) -> Result<(), StartFault>
-    requires ahead { Tells (D.state disk.old) → ((todo : List (List ℕ)) × OpsAhead (D.state disk.old) reader.old [] todo) }
+    requires ahead { Tells (D.state disk.old) →
+        ((todo : List (List ℕ)) × OpsAhead (D.state disk.old) reader.old [] todo) }
     requires empty { names.old.table ≡ nothing_logged.table }
     requires unused { (id : ℕ) → is_used used.old id ≡ false }
 
     ensures made { OnOk result (IsMade (D.state disk.old) reader.old names.new.table) }
-    ensures damaged { (at : ℕ) → IsErrOf result (Damaged at) → Tells (D.state disk.old) → (todo : List (List ℕ)) → OpsAhead (D.state disk.old) reader.old [] todo → IsRefusedAt todo at }
+    ensures damaged { (at : ℕ) → IsErrOf result (Damaged at) → Tells (D.state disk.old) →
+        (todo : List (List ℕ)) → OpsAhead (D.state disk.old) reader.old [] todo →
+        IsRefusedAt todo at }
     ensures spent { IsErrOf result Spent → ⊥ }
-    ensures cause { IsErrOf result StoreFault → Rose (D.state disk.old).faults (D.state disk.new).faults }
+    ensures cause { IsErrOf result StoreFault →
+        Rose (D.state disk.old).faults (D.state disk.new).faults }
     ensures same { Reads 1 (D.state disk.old) (D.state disk.new) }
     ensures run { RunOn 1 (D.state disk.old) (D.state disk.new) }
-    ensures moments { LeavesOnly 1 (D.state disk.old) (D.state disk.new) ((D.state disk.old).leaves 1) }
+    ensures moments { LeavesOnly 1 (D.state disk.old) (D.state disk.new)
+        ((D.state disk.old).leaves 1) }
 {
     'each: loop {
         match reader.next(alloc, disk)? {
@@ -91,15 +99,20 @@ pub(crate) fn replay<D: Disk>(
     disk: &mut D,
     reader: &mut OpReader,
 ) -> Result<Names, StartFault>
-    requires ahead { Tells (D.state disk.old) → ((todo : List (List ℕ)) × OpsAhead (D.state disk.old) reader.old [] todo) }
+    requires ahead { Tells (D.state disk.old) →
+        ((todo : List (List ℕ)) × OpsAhead (D.state disk.old) reader.old [] todo) }
 
     ensures made { IfOk result (λ names. IsMade (D.state disk.old) reader.old names.table) }
-    ensures damaged { (at : ℕ) → IsErrOf result (Damaged at) → Tells (D.state disk.old) → (todo : List (List ℕ)) → OpsAhead (D.state disk.old) reader.old [] todo → IsRefusedAt todo at }
+    ensures damaged { (at : ℕ) → IsErrOf result (Damaged at) → Tells (D.state disk.old) →
+        (todo : List (List ℕ)) → OpsAhead (D.state disk.old) reader.old [] todo →
+        IsRefusedAt todo at }
     ensures spent { IsErrOf result Spent → ⊥ }
-    ensures cause { IsErrOf result StoreFault → Rose (D.state disk.old).faults (D.state disk.new).faults }
+    ensures cause { IsErrOf result StoreFault →
+        Rose (D.state disk.old).faults (D.state disk.new).faults }
     ensures same { Reads 1 (D.state disk.old) (D.state disk.new) }
     ensures run { RunOn 1 (D.state disk.old) (D.state disk.new) }
-    ensures moments { LeavesOnly 1 (D.state disk.old) (D.state disk.new) ((D.state disk.old).leaves 1) }
+    ensures moments { LeavesOnly 1 (D.state disk.old) (D.state disk.new)
+        ((D.state disk.old).leaves 1) }
 {
     let mut names = Names::new(alloc)?;
     let mut used = UsedIds::new(alloc);

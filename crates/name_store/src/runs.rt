@@ -56,7 +56,9 @@ impl Runs {
     /// did.
     pub(crate) fn add(&mut self, id: u64) -> Result<bool, NoMemory>
         requires { is_in_runs self.old id ≡ false }
-        ensures { IfOk result (λ added. (x : ℕ) → is_in_runs self.new x ≡ ((added && (id == x)) || is_in_runs self.old x)) }
+        ensures { IfOk result
+            (λ added. (x : ℕ) →
+            is_in_runs self.new x ≡ ((added && (id == x)) || is_in_runs self.old x)) }
     {
         let place = place(&self.list, id);
         if is_next(&self.list, place, id) {
@@ -87,7 +89,8 @@ fn has(runs: &Vec<Run>, id: u64) -> bool
 fn place(runs: &Vec<Run>, id: u64) -> usize
     requires { Rising runs.now.items }
     ensures most { result ≤ length runs.now.items }
-    ensures parted { IsPartitionPoint (λ run. nat_le run.first id ≡ true) (λ run. nat_le run.first id ≡ false) runs.now.items result }
+    ensures parted { IsPartitionPoint (λ run. nat_le run.first id ≡ true)
+        (λ run. nat_le run.first id ≡ false) runs.now.items result }
 {
     match runs.last() {
         None => 0,
@@ -104,7 +107,8 @@ fn place(runs: &Vec<Run>, id: u64) -> usize
 fn search(runs: &Vec<Run>, id: u64) -> usize
     requires { Rising runs.now.items }
     ensures most { result ≤ length runs.now.items }
-    ensures parted { IsPartitionPoint (λ run. nat_le run.first id ≡ true) (λ run. nat_le run.first id ≡ false) runs.now.items result }
+    ensures parted { IsPartitionPoint (λ run. nat_le run.first id ≡ true)
+        (λ run. nat_le run.first id ≡ false) runs.now.items result }
 {
     runs.as_slice().partition_point(|run| run.first <= id)
 }
@@ -113,7 +117,8 @@ fn search(runs: &Vec<Run>, id: u64) -> usize
 fn is_next(runs: &Vec<Run>, place: usize, id: u64) -> bool
     requires { place ≤ length runs.now.items }
     ensures within { result ≡ true → 0 < place }
-    ensures next { result ≡ true → (k : ℕ) (d : Run) → place ≡ k + 1 → (slice_index_or runs.now.items k d).last + 1 ≡ id }
+    ensures next { result ≡ true → (k : ℕ) (d : Run) → place ≡ k + 1 →
+        (slice_index_or runs.now.items k d).last + 1 ≡ id }
 {
     if place == 0 {
         return false;
@@ -126,10 +131,12 @@ fn is_next(runs: &Vec<Run>, place: usize, id: u64) -> bool
 fn extend(runs: &mut Vec<Run>, at: usize, id: u64)
     requires rising { Rising runs.old.items }
     requires within { at < length runs.old.items }
-    requires begun { IsPartitionPoint (λ run. nat_le run.first id ≡ true) (λ run. nat_le run.first id ≡ false) runs.old.items (at + 1) }
+    requires begun { IsPartitionPoint (λ run. nat_le run.first id ≡ true)
+        (λ run. nat_le run.first id ≡ false) runs.old.items (at + 1) }
     requires next { (d : Run) → (slice_index_or runs.old.items at d).last + 1 ≡ id }
     ensures rising { Rising runs.new.items }
-    ensures ids { (x : ℕ) → is_in_runs runs.new.items x ≡ ((id == x) || is_in_runs runs.old.items x) }
+    ensures ids { (x : ℕ) →
+        is_in_runs runs.new.items x ≡ ((id == x) || is_in_runs runs.old.items x) }
 {
     runs[at].last = id;
 }
@@ -138,9 +145,11 @@ fn extend(runs: &mut Vec<Run>, at: usize, id: u64)
 fn append(runs: &mut Vec<Run>, id: u64) -> Result<(), NoMemory>
     requires rising { Rising runs.old.items }
     requires free { is_in_runs runs.old.items id ≡ false }
-    requires begun { IsPartitionPoint (λ run. nat_le run.first id ≡ true) (λ run. nat_le run.first id ≡ false) runs.old.items (length runs.old.items) }
+    requires begun { IsPartitionPoint (λ run. nat_le run.first id ≡ true)
+        (λ run. nat_le run.first id ≡ false) runs.old.items (length runs.old.items) }
     ensures rising { Rising runs.new.items }
-    ensures ids { OnOk result ((x : ℕ) → is_in_runs runs.new.items x ≡ ((id == x) || is_in_runs runs.old.items x)) }
+    ensures ids { OnOk result
+        ((x : ℕ) → is_in_runs runs.new.items x ≡ ((id == x) || is_in_runs runs.old.items x)) }
 {
     runs.push(Run {
         first: id,

@@ -33,7 +33,8 @@ impl Model for NameStore {
 
     ghost view = { λ a. record { log = a.log; table = a.names.table } };
 
-    ghost invariant = { λ a. (0 < a.names.table.opening) × IfSome a.log.pending (λ op. IsPending a.names.table op × HasRoom op a.names) };
+    ghost invariant = { λ a. (0 < a.names.table.opening) ×
+        IfSome a.log.pending (λ op. IsPending a.names.table op × HasRoom op a.names) };
 }
 
 impl NameStore {
@@ -59,7 +60,8 @@ impl NameStore {
         // A crash at any moment leaves what it might have left before, or the log found, now or with its end
         // gate read as 1, or its operations with the new opening or without it. After the first sync of the
         // call it leaves the latter alone. If that sync failed, nothing was written.
-        ensures opens { OpensNames (D.state disk.old) (D.state disk.new) (λ fault. IsErrOf result fault) }
+        ensures opens { OpensNames (D.state disk.old) (D.state disk.new)
+            (λ fault. IsErrOf result fault) }
     {
         let (log, reader) = EditLog::recover_records(alloc, disk)?;
         let mut log = log;
@@ -96,15 +98,21 @@ impl NameStore {
         requires allowed { IsTrue (allows self.old.table op.now) }
         requires no_opening { is_opening op.now ≡ false }
         requires fits { IsTrue (fits op.now) }
-        requires stands { Tells (D.state disk.old) → ((used : List ℕ) × (ops : List EditOp) × IsNameStoreOf (D.state disk.old) self.old used ops) }
+        requires stands { Tells (D.state disk.old) →
+            ((used : List ℕ) × (ops : List EditOp) ×
+            IsNameStoreOf (D.state disk.old) self.old used ops) }
 
-        ensures done { OnOk result ((self.new.table ≡ after_table self.old.table op.now) × (self.new.log.pending ≡ None)) }
-        ensures pending { IsErrOf result store.StoreFault → (self.new.table ≡ self.old.table) × (self.new.log.pending ≡ Some op.now) }
-        ensures memory { IsErrOf result store.NoMemory → (self.new ≡ self.old) × (disk.new ≡ disk.old) }
+        ensures done { OnOk result
+            ((self.new.table ≡ after_table self.old.table op.now) × (self.new.log.pending ≡ None)) }
+        ensures pending { IsErrOf result store.StoreFault →
+            (self.new.table ≡ self.old.table) × (self.new.log.pending ≡ Some op.now) }
+        ensures memory { IsErrOf result store.NoMemory →
+            (self.new ≡ self.old) × (disk.new ≡ disk.old) }
         ensures log { MatchResult result
             (λ _. Commits (D.state disk.old) (D.state disk.new) self.old op.now true self.new)
             (λ _. Commits (D.state disk.old) (D.state disk.new) self.old op.now false self.new) }
-        ensures cause { IsErrOf result store.StoreFault → Rose (D.state disk.old).faults (D.state disk.new).faults }
+        ensures cause { IsErrOf result store.StoreFault →
+            Rose (D.state disk.old).faults (D.state disk.new).faults }
     {
         self.names.reserve(op)?;
         match self.log.commit(alloc, disk, op) {
@@ -120,17 +128,22 @@ impl NameStore {
     /// dropped. Does nothing if none is pending. Does not allocate. After `StoreFault`, the only error, it
     /// is still pending.
     pub fn settle<D: Disk>(&mut self, disk: &mut D) -> Result<Option<EditOp>, StoreRefusal>
-        requires stands { Tells (D.state disk.old) → ((used : List ℕ) × (ops : List EditOp) × IsNameStoreOf (D.state disk.old) self.old used ops) }
+        requires stands { Tells (D.state disk.old) →
+            ((used : List ℕ) × (ops : List EditOp) ×
+            IsNameStoreOf (D.state disk.old) self.old used ops) }
 
-        ensures nothing { self.old.log.pending ≡ None → (result ≡ Ok None) × (self.new ≡ self.old) × (disk.new ≡ disk.old) }
+        ensures nothing { self.old.log.pending ≡ None →
+            (result ≡ Ok None) × (self.new ≡ self.old) × (disk.new ≡ disk.old) }
         ensures settles { MatchResult result
             (λ answer. SettlesNames (D.state disk.old) (D.state disk.new) self.old answer self.new)
             (λ _. Unsettled (D.state disk.old) (D.state disk.new) self.old self.new) }
         ensures fault { IsErr result → IsErrOf result store.StoreFault }
 
         // A crash at any moment leaves the operations from before it, with the pending one or without.
-        ensures any_moment { Tells (D.state disk.old) → (used : List ℕ) (ops : List EditOp) → IsNameStoreOf (D.state disk.old) self.old used ops
-            → LeavesOnly 1 (D.state disk.old) (D.state disk.new) (IsLeftOf (made_with self.old used) self.old.log.pending NothingMore ops) }
+        ensures any_moment { Tells (D.state disk.old) → (used : List ℕ) (ops : List EditOp) →
+            IsNameStoreOf (D.state disk.old) self.old used ops
+            → LeavesOnly 1 (D.state disk.old) (D.state disk.new)
+            (IsLeftOf (made_with self.old used) self.old.log.pending NothingMore ops) }
         ensures run { RunOn 1 (D.state disk.old) (D.state disk.new) }
     {
         match self.log.settle(disk) {
@@ -170,7 +183,10 @@ impl NameStore {
 
     /// Returns why a rename is refused, without the pending operation.
     pub fn rename_refusal(&self, path: &NPath, to: &NPath) -> Option<NameRefusal>
-        ensures { result ≡ first_cause (rename_causes self.now.table.rows self.now.table.snaps self.now.table.statuses path.now to.now) }
+        ensures { result ≡
+            first_cause
+            (rename_causes self.now.table.rows self.now.table.snaps self.now.table.statuses path.now
+            to.now) }
     {
         self.names.rename_refusal(path, to)
     }

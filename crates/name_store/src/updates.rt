@@ -35,7 +35,9 @@ fn ids_once(files: &[FileKey]) -> bool
 
 /// Returns whether a row has an encrypted key of the same key as the file's new one.
 fn is_of_key(file: &FileKey, row: &Row) -> bool
-    ensures { result ≡ option_map_or (λ edek. bytes_eq file.now.edek.version.key edek.version.key) (edek_of row.now.kind) false }
+    ensures { result ≡
+        option_map_or (λ edek. bytes_eq file.now.edek.version.key edek.version.key)
+        (edek_of row.now.kind) false }
 {
     match &row.kind {
         Kind::Dir { .. } => false,
@@ -46,7 +48,10 @@ fn is_of_key(file: &FileKey, row: &Row) -> bool
 
 /// Returns whether a path lies in a zone that is being re-encrypted under a session.
 fn lies_under(tree: &Tree, statuses: &Statuses, session: u64, path: &NPath) -> bool
-    ensures { result ≡ option_map_or (λ zone. option_map_or (goes_on_under session) (status_of statuses.now.rows zone) false) (zone_id tree.now.rows path.now) false }
+    ensures { result ≡
+        option_map_or
+        (λ zone. option_map_or (goes_on_under session) (status_of statuses.now.rows zone) false)
+        (zone_id tree.now.rows path.now) false }
 {
     match tree.zone_of(path) {
         None => false,
@@ -58,7 +63,12 @@ fn lies_under(tree: &Tree, statuses: &Statuses, session: u64, path: &NPath) -> b
 /// if allocation fails.
 fn row_lies_under(tree: &Tree, statuses: &Statuses, session: u64, id: u64) -> Result<bool, NoMemory>
     requires { IsSome (entry_of tree.now.rows id) }
-    ensures { (e : Entry) → entry_of tree.now.rows id ≡ Some e → IfOk result (λ lies. lies ≡ option_map_or (λ zone. option_map_or (goes_on_under session) (status_of statuses.now.rows zone) false) (zone_id tree.now.rows e.path) false) }
+    ensures { (e : Entry) → entry_of tree.now.rows id ≡ Some e →
+        IfOk result
+        (λ lies. lies ≡
+        option_map_or
+        (λ zone. option_map_or (goes_on_under session) (status_of statuses.now.rows zone) false)
+        (zone_id tree.now.rows e.path) false) }
 {
     let path = tree.path_of(id)?;
     Ok(lies_under(tree, statuses, session, &path))
@@ -72,7 +82,16 @@ fn may_update(
     session: u64,
     file: &FileKey,
 ) -> Result<bool, NoMemory>
-    ensures { (opening : ℕ) (snaps : SnapTable) → IfOk result (λ may. may ≡ may_update (record { opening = opening; rows = tree.now.rows; snaps = snaps; statuses = statuses.now.rows }) session file.now) }
+    ensures { (opening : ℕ) (snaps : SnapTable) →
+        IfOk result
+        (λ may. may ≡
+        may_update
+        (record {
+          opening = opening;
+          rows = tree.now.rows;
+          snaps = snaps;
+          statuses = statuses.now.rows;
+        }) session file.now) }
 {
     match tree.row(file.id) {
         None => Ok(false),
@@ -93,7 +112,17 @@ fn may_update_each(
     session: u64,
     files: &[FileKey],
 ) -> Result<bool, NoMemory>
-    ensures { (opening : ℕ) (snaps : SnapTable) → IfOk result (λ may. may ≡ list_all (may_update (record { opening = opening; rows = tree.now.rows; snaps = snaps; statuses = statuses.now.rows }) session) files.now) }
+    ensures { (opening : ℕ) (snaps : SnapTable) →
+        IfOk result
+        (λ may. may ≡
+        list_all
+        (may_update
+        (record {
+          opening = opening;
+          rows = tree.now.rows;
+          snaps = snaps;
+          statuses = statuses.now.rows;
+        }) session) files.now) }
 {
     for file in files {
         let may = may_update(tree, statuses, session, file)?;
@@ -112,7 +141,18 @@ pub(crate) fn may_update_all(
     session: u64,
     files: &[FileKey],
 ) -> Result<bool, NoMemory>
-    ensures { (opening : ℕ) (snaps : SnapTable) → IfOk result (λ may. may ≡ (ids_once files.now && list_all (may_update (record { opening = opening; rows = tree.now.rows; snaps = snaps; statuses = statuses.now.rows }) session) files.now)) }
+    ensures { (opening : ℕ) (snaps : SnapTable) →
+        IfOk result
+        (λ may. may ≡
+        (ids_once files.now &&
+        list_all
+        (may_update
+        (record {
+          opening = opening;
+          rows = tree.now.rows;
+          snaps = snaps;
+          statuses = statuses.now.rows;
+        }) session) files.now)) }
 {
     if !ids_once(files) {
         return Ok(false);

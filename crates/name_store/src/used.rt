@@ -53,7 +53,8 @@ impl UsedIds {
     /// Adds the ids of the operation, none of which was used before.
     pub(crate) fn add(&mut self, op: &EditOp) -> Result<(), NoMemory>
         requires { list_any (is_used self.old) (uses op.now) ≡ false }
-        ensures { OnOk result ((id : ℕ) → is_used self.new id ≡ (is_among (uses op.now) id || is_used self.old id)) }
+        ensures { OnOk result
+            ((id : ℕ) → is_used self.new id ≡ (is_among (uses op.now) id || is_used self.old id)) }
     {
         match op {
             EditOp::Mkdir { id, .. } => self.add_one(*id),
@@ -65,7 +66,8 @@ impl UsedIds {
 
     fn add_one(&mut self, one: u64) -> Result<(), NoMemory>
         requires { is_used self.old one ≡ false }
-        ensures { OnOk result ((id : ℕ) → is_used self.new id ≡ (is_among (one ∷ []) id || is_used self.old id)) }
+        ensures { OnOk result
+            ((id : ℕ) → is_used self.new id ≡ (is_among (one ∷ []) id || is_used self.old id)) }
     {
         let in_runs = self.runs.add(one)?;
         if in_runs {

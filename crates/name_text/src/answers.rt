@@ -46,7 +46,9 @@ fn write_reply(alloc: Global, reply: &NameReply, out: &mut String) -> Result<(),
 }
 
 fn write_refused(alloc: Global, why: &NameRefusal, out: &mut String) -> Result<(), NoMemory>
-    ensures { OnOk result (string_bytes out.new ≡ string_bytes out.old ++ codes "refused " ++ name_refusal_text why.now) }
+    ensures { OnOk result
+        (string_bytes out.new ≡
+        string_bytes out.old ++ codes "refused " ++ name_refusal_text why.now) }
 {
     write_text("refused ", out)?;
     write_refusal(alloc, why, out)
@@ -59,7 +61,9 @@ fn write_directory(
     key: &Option<KeyName>,
     out: &mut String,
 ) -> Result<(), NoMemory>
-    ensures { OnOk result (string_bytes out.new ≡ string_bytes out.old ++ row_front (codes "dir ") id zone.now ++ key_text key.now) }
+    ensures { OnOk result
+        (string_bytes out.new ≡
+        string_bytes out.old ++ row_front (codes "dir ") id zone.now ++ key_text key.now) }
 {
     write_row(alloc, "dir ", id, zone, out)?;
     write_zone_key(key, out)
@@ -72,7 +76,9 @@ fn write_file(
     edek: &Option<Edek>,
     out: &mut String,
 ) -> Result<(), NoMemory>
-    ensures { OnOk result (string_bytes out.new ≡ string_bytes out.old ++ row_front (codes "file ") id zone.now ++ edek_field edek.now) }
+    ensures { OnOk result
+        (string_bytes out.new ≡
+        string_bytes out.old ++ row_front (codes "file ") id zone.now ++ edek_field edek.now) }
 {
     write_row(alloc, "file ", id, zone, out)?;
     write_edek_field(alloc, edek, out)
@@ -86,7 +92,8 @@ fn write_row(
     zone: &Option<NPath>,
     out: &mut String,
 ) -> Result<(), NoMemory>
-    ensures { OnOk result (string_bytes out.new ≡ string_bytes out.old ++ row_front kind.now id zone.now) }
+    ensures { OnOk result
+        (string_bytes out.new ≡ string_bytes out.old ++ row_front kind.now id zone.now) }
 {
     write_text(kind, out)?;
     write_number(id, out)?;
@@ -114,14 +121,17 @@ fn write_zone_key(key: &Option<KeyName>, out: &mut String) -> Result<(), NoMemor
 }
 
 fn write_child_list(children: &ChildList, out: &mut String) -> Result<(), NoMemory>
-    ensures { OnOk result (string_bytes out.new ≡ string_bytes out.old ++ codes "list" ++ flat_map child_part children.now) }
+    ensures { OnOk result
+        (string_bytes out.new ≡
+        string_bytes out.old ++ codes "list" ++ flat_map child_part children.now) }
 {
     write_text("list", out)?;
     write_children(children.as_slice(), out)
 }
 
 fn write_children(children: &[Child], out: &mut String) -> Result<(), NoMemory>
-    ensures { OnOk result (string_bytes out.new ≡ string_bytes out.old ++ flat_map child_part children.now) }
+    ensures { OnOk result
+        (string_bytes out.new ≡ string_bytes out.old ++ flat_map child_part children.now) }
 {
     'children: for child in children {
         write_child(child, out)?;
@@ -142,14 +152,17 @@ fn write_child(child: &Child, out: &mut String) -> Result<(), NoMemory>
 }
 
 fn write_zone_list(alloc: Global, zones: &ZoneList, out: &mut String) -> Result<(), NoMemory>
-    ensures { OnOk result (string_bytes out.new ≡ string_bytes out.old ++ codes "zones" ++ flat_map zone_part zones.now) }
+    ensures { OnOk result
+        (string_bytes out.new ≡
+        string_bytes out.old ++ codes "zones" ++ flat_map zone_part zones.now) }
 {
     write_text("zones", out)?;
     write_zones(alloc, zones.as_slice(), out)
 }
 
 fn write_zones(alloc: Global, zones: &[ZonePath], out: &mut String) -> Result<(), NoMemory>
-    ensures { OnOk result (string_bytes out.new ≡ string_bytes out.old ++ flat_map zone_part zones.now) }
+    ensures { OnOk result
+        (string_bytes out.new ≡ string_bytes out.old ++ flat_map zone_part zones.now) }
 {
     'zones: for zone in zones {
         write_zone_part(alloc, zone, out)?;

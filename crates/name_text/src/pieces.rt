@@ -47,7 +47,9 @@ pub(crate) fn write_key(key: &KeyName, out: &mut String) -> Result<(), NoMemory>
 }
 
 pub(crate) fn write_version(version: &VersionName, out: &mut String) -> Result<(), NoMemory>
-    ensures { OnOk result (string_bytes out.new ≡ string_bytes out.old ++ version_text version.now.key version.now.number) }
+    ensures { OnOk result
+        (string_bytes out.new ≡
+        string_bytes out.old ++ version_text version.now.key version.now.number) }
 {
     write_key(&version.key, out)?;
     write_text("@", out)?;
@@ -56,7 +58,8 @@ pub(crate) fn write_version(version: &VersionName, out: &mut String) -> Result<(
 
 /// Appends bytes of a path, with escapes.
 pub(crate) fn write_escaped(bytes: &[u8], out: &mut String) -> Result<(), NoMemory>
-    ensures { OnOk result (string_bytes out.new ≡ string_bytes out.old ++ percent_encode ESCAPED bytes.now) }
+    ensures { OnOk result
+        (string_bytes out.new ≡ string_bytes out.old ++ percent_encode ESCAPED bytes.now) }
 {
     percent_encode(bytes, ESCAPED).append_to(out)?;
     Ok(())
@@ -76,7 +79,8 @@ pub(crate) fn write_relative_path(
     path: &NPath,
     out: &mut String,
 ) -> Result<(), NoMemory>
-    ensures { OnOk result (string_bytes out.new ≡ string_bytes out.old ++ escaped_relative_path path.now) }
+    ensures { OnOk result
+        (string_bytes out.new ≡ string_bytes out.old ++ escaped_relative_path path.now) }
 {
     let mut bytes = ByteList::new(alloc);
     path.write(&mut bytes)?;

@@ -39,7 +39,8 @@ pub(crate) fn write_refusal(
     why: &NameRefusal,
     out: &mut String,
 ) -> Result<(), NoMemory>
-    ensures { OnOk result (string_bytes out.new ≡ string_bytes out.old ++ name_refusal_text why.now) }
+    ensures { OnOk result
+        (string_bytes out.new ≡ string_bytes out.old ++ name_refusal_text why.now) }
 {
     write_text("N", out)?;
     write_number(refusal_number(why), out)?;
@@ -126,7 +127,9 @@ fn write_values(alloc: Global, why: &NameRefusal, out: &mut String) -> Result<()
 
 /// Appends the number of the opening and the counter of its next id.
 fn write_counters(opening: u32, next: u64, out: &mut String) -> Result<(), NoMemory>
-    ensures { OnOk result (string_bytes out.new ≡ string_bytes out.old ++ codes " " ++ decimal opening ++ codes " " ++ decimal next) }
+    ensures { OnOk result
+        (string_bytes out.new ≡
+        string_bytes out.old ++ codes " " ++ decimal opening ++ codes " " ++ decimal next) }
 {
     write_text(" ", out)?;
     write_number(opening as u64, out)?;
@@ -136,14 +139,16 @@ fn write_counters(opening: u32, next: u64, out: &mut String) -> Result<(), NoMem
 
 /// Appends the refusal of the key management service.
 fn write_key_refusal(alloc: Global, refused: &KmsRefusal, out: &mut String) -> Result<(), NoMemory>
-    ensures { OnOk result (string_bytes out.new ≡ string_bytes out.old ++ codes " " ++ refusal_text refused.now) }
+    ensures { OnOk result
+        (string_bytes out.new ≡ string_bytes out.old ++ codes " " ++ refusal_text refused.now) }
 {
     write_text(" ", out)?;
     write_kms_refusal(alloc, refused, out)
 }
 
 fn write_kms_refusal(alloc: Global, refused: &KmsRefusal, out: &mut String) -> Result<(), NoMemory>
-    ensures { OnOk result (string_bytes out.new ≡ string_bytes out.old ++ refusal_text refused.now) }
+    ensures { OnOk result
+        (string_bytes out.new ≡ string_bytes out.old ++ refusal_text refused.now) }
 {
     let mut bytes = ByteList::new(alloc);
     refused.write(&mut bytes)?;

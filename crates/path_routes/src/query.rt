@@ -31,7 +31,8 @@ pub enum Given<'q> {
 impl<'q> Given<'q> {
     /// Counts one more value.
     fn with(self, value: &'q [u8]) -> Given<'q>
-        ensures { (found : List (List ℕ)) → spec.IsGiven found self.entry → spec.IsGiven (found ++ value.now ∷ []) result }
+        ensures { (found : List (List ℕ)) → spec.IsGiven found self.entry →
+            spec.IsGiven (found ++ value.now ∷ []) result }
     {
         match self {
             Given::Absent => Given::Once(value),
@@ -85,14 +86,17 @@ impl Query {
 
 /// Splits a query at each `&`.
 fn pieces<'q>(alloc: Global, query: &'q str) -> Result<Vec<&'q str>, NoMemory>
-    ensures { IfOk result (λ pieces. map (λ piece. piece.now) pieces.items ≡ slice_split spec.is_ampersand query.now) }
+    ensures { IfOk result
+        (λ pieces. map (λ piece. piece.now) pieces.items ≡
+        slice_split spec.is_ampersand query.now) }
 {
     let pieces = query.split('&').collect(alloc)?;
     Ok(pieces)
 }
 
 fn read_parameters(alloc: Global, pieces: &Vec<&str>) -> Result<Vec<Parameter>, NoMemory>
-    ensures { IfOk result (λ found. found.items ≡ map (λ piece. spec.parameter piece.now) pieces.now.items) }
+    ensures { IfOk result
+        (λ found. found.items ≡ map (λ piece. spec.parameter piece.now) pieces.now.items) }
 {
     let mut parameters = Vec::with_capacity(alloc, pieces.len())?;
     'pieces: for piece in pieces {
@@ -139,7 +143,8 @@ pub fn decoded(alloc: Global, bytes: &[u8]) -> Result<ByteList, NoMemory>
 
 /// Counts one more parameter if it has this name.
 fn after<'q>(found: Given<'q>, name: &[u8], parameter: &'q Parameter) -> Given<'q>
-    ensures { (ps : List AParameter) → spec.IsGiven (spec.values name.now ps) found.entry → spec.IsGiven (spec.values name.now (ps ++ parameter.now ∷ [])) result }
+    ensures { (ps : List AParameter) → spec.IsGiven (spec.values name.now ps) found.entry →
+        spec.IsGiven (spec.values name.now (ps ++ parameter.now ∷ [])) result }
 {
     let named = parameter.name.as_slice() == name;
     if named {

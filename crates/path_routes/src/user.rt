@@ -46,7 +46,10 @@ pub fn read_user(alloc: Global, query: &Query) -> Result<Text, UserFault>
 
 /// Copies the bytes as a user's name. Returns `None` if they are not one.
 fn read_text(alloc: Global, user: &[u8]) -> Result<Option<Text>, NoMemory>
-    ensures { IfOk result (λ found. MatchOption found (¬ spec.IsUserText user.now) (λ text. (text ≡ user.now) × spec.IsUserText user.now)) }
+    ensures { IfOk result
+        (λ found.
+        MatchOption found (¬ spec.IsUserText user.now)
+        (λ text. (text ≡ user.now) × spec.IsUserText user.now)) }
 {
     if user.len() > LONGEST_USER {
         return Ok(None);

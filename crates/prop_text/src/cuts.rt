@@ -49,8 +49,10 @@ fn equals_in(bytes: &[u8]) -> Option<usize>
 
 /// Splits a list at its first comma: the first part, and the rest if there is a comma.
 pub fn cut_at_comma(bytes: &[u8]) -> (&[u8], Option<&[u8]>)
-    ensures cut { MatchOption result.1 (slice_split is_comma bytes.now ≡ result.0.now ∷ []) (λ rest. slice_split is_comma bytes.now ≡ result.0.now ∷ slice_split is_comma rest.now) }
-    ensures shorter { MatchOption result.1 (result.0.now ≡ bytes.now) (λ rest. length rest.now < length bytes.now) }
+    ensures cut { MatchOption result.1 (slice_split is_comma bytes.now ≡ result.0.now ∷ [])
+        (λ rest. slice_split is_comma bytes.now ≡ result.0.now ∷ slice_split is_comma rest.now) }
+    ensures shorter { MatchOption result.1 (result.0.now ≡ bytes.now)
+        (λ rest. length rest.now < length bytes.now) }
 {
     match comma_in(bytes) {
         None => (bytes, None),
@@ -60,7 +62,8 @@ pub fn cut_at_comma(bytes: &[u8]) -> (&[u8], Option<&[u8]>)
 
 /// Splits bytes at the first space: the part before it, and the rest if there is a space.
 pub fn cut_at_space(bytes: &[u8]) -> (&[u8], Option<&[u8]>)
-    ensures { MatchOption result.1 (slice_split is_space bytes.now ≡ result.0.now ∷ []) (λ rest. slice_split is_space bytes.now ≡ result.0.now ∷ slice_split is_space rest.now) }
+    ensures { MatchOption result.1 (slice_split is_space bytes.now ≡ result.0.now ∷ [])
+        (λ rest. slice_split is_space bytes.now ≡ result.0.now ∷ slice_split is_space rest.now) }
 {
     match space_in(bytes) {
         None => (bytes, None),
@@ -70,7 +73,8 @@ pub fn cut_at_space(bytes: &[u8]) -> (&[u8], Option<&[u8]>)
 
 /// Returns the bytes, or `None` if they contain a space.
 pub fn without_space(bytes: &[u8]) -> Option<&[u8]>
-    ensures { MatchOption result ((part : List ℕ) → ¬ (slice_split is_space bytes.now ≡ part ∷ [])) (λ part. slice_split is_space bytes.now ≡ part.now ∷ []) }
+    ensures { MatchOption result ((part : List ℕ) → ¬ (slice_split is_space bytes.now ≡ part ∷ []))
+        (λ part. slice_split is_space bytes.now ≡ part.now ∷ []) }
 {
     let (part, rest) = cut_at_space(bytes);
     match rest {
@@ -81,7 +85,8 @@ pub fn without_space(bytes: &[u8]) -> Option<&[u8]>
 
 /// Splits a line at its first `=` into name and value, or returns `None` if there is none.
 pub fn cut_at_equals(line: &[u8]) -> Option<(&[u8], &[u8])>
-    ensures { MatchOption result (cut_at_equals line.now ≡ None) (λ parts. cut_at_equals line.now ≡ Some (parts.0.now, parts.1.now)) }
+    ensures { MatchOption result (cut_at_equals line.now ≡ None)
+        (λ parts. cut_at_equals line.now ≡ Some (parts.0.now, parts.1.now)) }
 {
     match equals_in(line) {
         None => None,
@@ -100,8 +105,10 @@ fn without_cr(line: &[u8]) -> &[u8]
 
 /// Splits a text at its first LF: the line, and the rest if there is an LF.
 pub fn cut_line(text: &[u8]) -> (&[u8], Option<&[u8]>)
-    ensures cut { MatchOption result.1 (lines_of text.now ≡ result.0.now ∷ []) (λ rest. lines_of text.now ≡ result.0.now ∷ lines_of rest.now) }
-    ensures shorter { MatchOption result.1 (result.0.now ≡ text.now) (λ rest. length rest.now < length text.now) }
+    ensures cut { MatchOption result.1 (lines_of text.now ≡ result.0.now ∷ [])
+        (λ rest. lines_of text.now ≡ result.0.now ∷ lines_of rest.now) }
+    ensures shorter { MatchOption result.1 (result.0.now ≡ text.now)
+        (λ rest. length rest.now < length text.now) }
 {
     match line_feed_in(text) {
         None => (text, None),

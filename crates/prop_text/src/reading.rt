@@ -98,7 +98,8 @@ impl Reading {
         name: &[u8],
         value: &[u8],
     ) -> Result<(), PropFault>
-        ensures { MatchResult result (λ _. AddsValue self.old self.new what name.now value.now) (ValueHasFault self.old.names number what name.now value.now) }
+        ensures { MatchResult result (λ _. AddsValue self.old self.new what name.now value.now)
+            (ValueHasFault self.old.names number what name.now value.now) }
     {
         let new = self.names.add(name)?;
         if !new {
@@ -115,7 +116,8 @@ impl Reading {
 
     /// Reads line `number`. After an error the state must not be used again.
     pub fn read_line(&mut self, alloc: Global, number: u64, line: &[u8]) -> Result<(), PropFault>
-        ensures { MatchResult result (λ _. ReadsLine self.old self.new line.now) (LineHasFault self.old.names number line.now) }
+        ensures { MatchResult result (λ _. ReadsLine self.old self.new line.now)
+            (LineHasFault self.old.names number line.now) }
     {
         if is_quiet(line) {
             return Ok(());

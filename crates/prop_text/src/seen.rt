@@ -38,7 +38,9 @@ impl Names {
     /// unchanged. Takes time logarithmic in the number of names.
     pub fn add(&mut self, name: &[u8]) -> Result<bool, NoMemory>
         ensures new { IfOk result (λ new. new ≡ not (is_among name.now self.old)) }
-        ensures added { OnOk result ((other : List ℕ) → is_among other self.new ≡ (bytes_eq other name.now || is_among other self.old)) }
+        ensures added { OnOk result
+            ((other : List ℕ) →
+            is_among other self.new ≡ (bytes_eq other name.now || is_among other self.old)) }
         ensures kept { OnErr result (self.new ≡ self.old) }
     {
         let name = Vec::from_slice(self.alloc, name)?;

@@ -21,9 +21,12 @@ impl Model for Sizes {
 
     ghost Value = { SizeValues };
 
-    ghost view = { λ s. record { queue = s.queue; watermark = s.watermark; batch = s.batch; cache = s.cache } };
+    ghost view = { λ s.
+        record { queue = s.queue; watermark = s.watermark; batch = s.batch; cache = s.cache } };
 
-    ghost invariant = { λ s. (1 ≤ s.queue) × (s.queue ≤ 10000) × (1 ≤ s.watermark) × (s.watermark ≤ 10000) × (1 ≤ s.batch) × (s.batch ≤ 1000) × (1 ≤ s.cache) };
+    ghost invariant = { λ s. (1 ≤ s.queue) × (s.queue ≤ 10000) × (1 ≤ s.watermark) ×
+        (s.watermark ≤ 10000) × (1 ≤ s.batch) × (s.batch ≤ 1000) × (1 ≤ s.cache) };
 
-    ghost inverse = { λ s. record { queue = s.queue; watermark = s.watermark; batch = s.batch; cache = s.cache } };
+    ghost inverse = { λ s.
+        record { queue = s.queue; watermark = s.watermark; batch = s.batch; cache = s.cache } };
 }

@@ -17,7 +17,10 @@ use std::alloc::Global;
 
 /// Converts UTF-8 bytes to a text. Returns `None` if the bytes are not UTF-8.
 fn read_text(alloc: Global, bytes: &[u8]) -> Result<Option<Text>, NoMemory>
-    ensures { IfOk result (λ found. MatchOption found (¬ IsUtf8 bytes.now) (λ text. (text ≡ bytes.now) × IsUtf8 bytes.now)) }
+    ensures { IfOk result
+        (λ found.
+        MatchOption found (¬ IsUtf8 bytes.now)
+        (λ text. (text ≡ bytes.now) × IsUtf8 bytes.now)) }
 {
     let bytes = Vec::from_slice(alloc, bytes)?;
     Ok(Text::from_utf8(bytes))
@@ -25,7 +28,10 @@ fn read_text(alloc: Global, bytes: &[u8]) -> Result<Option<Text>, NoMemory>
 
 /// Parses the name of a user or a group. Returns `None` if the bytes are not a name.
 fn read_name(alloc: Global, bytes: &[u8]) -> Result<Option<Text>, NoMemory>
-    ensures { IfOk result (λ found. MatchOption found (¬ IsName bytes.now) (λ name. (name ≡ bytes.now) × IsName bytes.now)) }
+    ensures { IfOk result
+        (λ found.
+        MatchOption found (¬ IsName bytes.now)
+        (λ name. (name ≡ bytes.now) × IsName bytes.now)) }
 {
     let len = bytes.len();
     if len == 0 {
@@ -42,7 +48,10 @@ fn read_name(alloc: Global, bytes: &[u8]) -> Result<Option<Text>, NoMemory>
 
 /// Parses names separated by commas. Returns `None` if a part is not a name.
 fn read_parts(alloc: Global, bytes: &[u8]) -> Result<Option<TextList>, NoMemory>
-    ensures { IfOk result (λ found. MatchOption found (¬ All IsName (slice_split is_comma bytes.now)) (λ names. (slice_split is_comma bytes.now ≡ names) × All IsName names)) }
+    ensures { IfOk result
+        (λ found.
+        MatchOption found (¬ All IsName (slice_split is_comma bytes.now))
+        (λ names. (slice_split is_comma bytes.now ≡ names) × All IsName names)) }
 {
     let mut names = TextList::new(alloc);
     let mut rest = bytes;
@@ -61,7 +70,10 @@ fn read_parts(alloc: Global, bytes: &[u8]) -> Result<Option<TextList>, NoMemory>
 
 /// Parses a list of names, which may be empty. Returns `None` if the bytes are not such a list.
 fn read_names(alloc: Global, bytes: &[u8]) -> Result<Option<TextList>, NoMemory>
-    ensures { IfOk result (λ found. MatchOption found ((names : List (List ℕ)) → ¬ SpellsNames bytes.now names) (SpellsNames bytes.now)) }
+    ensures { IfOk result
+        (λ found.
+        MatchOption found ((names : List (List ℕ)) → ¬ SpellsNames bytes.now names)
+        (SpellsNames bytes.now)) }
 {
     if bytes.is_empty() {
         return Ok(Some(TextList::new(alloc)));
@@ -74,7 +86,13 @@ fn read_names(alloc: Global, bytes: &[u8]) -> Result<Option<TextList>, NoMemory>
 
 /// Parses users and groups, separated by a space.
 fn read_users_and_groups(alloc: Global, bytes: &[u8]) -> Result<Option<Acl>, NoMemory>
-    ensures { IfOk result (λ found. MatchOption found ((users groups : List (List ℕ)) → ¬ SpellsParts (slice_split is_space bytes.now) users groups) (λ acl. (acl.everybody ≡ false) × SpellsParts (slice_split is_space bytes.now) acl.users acl.groups)) }
+    ensures { IfOk result
+        (λ found.
+        MatchOption found
+        ((users groups : List (List ℕ)) →
+        ¬ SpellsParts (slice_split is_space bytes.now) users groups)
+        (λ acl. (acl.everybody ≡ false) ×
+        SpellsParts (slice_split is_space bytes.now) acl.users acl.groups)) }
 {
     let (first, more) = cut_at_space(bytes);
     let Some(second) = more else {
@@ -98,7 +116,11 @@ fn read_users_and_groups(alloc: Global, bytes: &[u8]) -> Result<Option<Acl>, NoM
 
 /// Creates a list of users without groups.
 fn read_users(alloc: Global, bytes: &[u8]) -> Result<Option<Acl>, NoMemory>
-    ensures { IfOk result (λ found. MatchOption found ((users : List (List ℕ)) → ¬ SpellsNames bytes.now users) (λ acl. (acl.everybody ≡ false) × SpellsNames bytes.now acl.users × (acl.groups ≡ []))) }
+    ensures { IfOk result
+        (λ found.
+        MatchOption found ((users : List (List ℕ)) → ¬ SpellsNames bytes.now users)
+        (λ acl. (acl.everybody ≡ false) × SpellsNames bytes.now acl.users ×
+        (acl.groups ≡ []))) }
 {
     let Some(users) = read_names(alloc, bytes)? else {
         return Ok(None);
@@ -112,7 +134,9 @@ fn read_users(alloc: Global, bytes: &[u8]) -> Result<Option<Acl>, NoMemory>
 
 /// Parses an access control list. Returns `None` if the bytes are not one.
 fn read_acl(alloc: Global, bytes: &[u8]) -> Result<Option<Acl>, NoMemory>
-    ensures { IfOk result (λ found. MatchOption found ((acl : Acl) → ¬ SpellsAcl bytes.now acl) (SpellsAcl bytes.now)) }
+    ensures { IfOk result
+        (λ found.
+        MatchOption found ((acl : Acl) → ¬ SpellsAcl bytes.now acl) (SpellsAcl bytes.now)) }
 {
     if bytes == b"*".as_slice() {
         return Ok(Some(Acl {
@@ -138,7 +162,10 @@ fn acl_line(place: AclPlace, acl: Acl) -> PropLine
 }
 
 fn read_list(alloc: Global, place: AclPlace, value: &[u8]) -> Result<Option<PropLine>, NoMemory>
-    ensures { IfOk result (λ found. MatchOption found ((prop : PropLine) → ¬ SpellsList place value.now prop) (SpellsList place value.now)) }
+    ensures { IfOk result
+        (λ found.
+        MatchOption found ((prop : PropLine) → ¬ SpellsList place value.now prop)
+        (SpellsList place value.now)) }
 {
     let Some(acl) = read_acl(alloc, value)? else {
         return Ok(None);
@@ -147,7 +174,10 @@ fn read_list(alloc: Global, place: AclPlace, value: &[u8]) -> Result<Option<Prop
 }
 
 fn read_group(alloc: Global, name: &[u8], value: &[u8]) -> Result<Option<PropLine>, NoMemory>
-    ensures { IfOk result (λ found. MatchOption found ((prop : PropLine) → ¬ SpellsGroup name.now value.now prop) (SpellsGroup name.now value.now)) }
+    ensures { IfOk result
+        (λ found.
+        MatchOption found ((prop : PropLine) → ¬ SpellsGroup name.now value.now prop)
+        (SpellsGroup name.now value.now)) }
 {
     let Some(group) = behind(b"group.", name) else {
         return Ok(None);
@@ -185,7 +215,8 @@ fn size_line(which: SizeName, size: u16) -> PropLine
 }
 
 fn read_size(which: SizeName, value: &[u8]) -> Option<PropLine>
-    ensures { MatchOption result ((prop : PropLine) → ¬ SpellsSize which value.now prop) (SpellsSize which value.now) }
+    ensures { MatchOption result ((prop : PropLine) → ¬ SpellsSize which value.now prop)
+        (SpellsSize which value.now) }
 {
     let most = most(which);
     let Some(number) = read_number(value) else {
@@ -208,7 +239,10 @@ pub fn read_value(
     name: &[u8],
     value: &[u8],
 ) -> Result<Option<PropLine>, NoMemory>
-    ensures { IfOk result (λ found. MatchOption found ((prop : PropLine) → ¬ SpellsValue what name.now value.now prop) (SpellsValue what name.now value.now)) }
+    ensures { IfOk result
+        (λ found.
+        MatchOption found ((prop : PropLine) → ¬ SpellsValue what name.now value.now prop)
+        (SpellsValue what name.now value.now)) }
 {
     match what {
         Setting::List { place } => read_list(alloc, place, value),

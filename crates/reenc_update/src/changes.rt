@@ -36,7 +36,8 @@ fn has_key(row: &Row, edek: &Edek) -> bool
 /// Returns whether a row lies in a zone. Returns `NoMemory` if allocation fails.
 fn lies_in(tree: &Tree, id: u64, zone: u64) -> Result<bool, NoMemory>
     requires { IsSome (entry_of tree.now.rows id) }
-    ensures { (e : Entry) → entry_of tree.now.rows id ≡ Some e → IfOk result (λ lies. lies ≡ same_id (zone_id tree.now.rows e.path) (Some zone)) }
+    ensures { (e : Entry) → entry_of tree.now.rows id ≡ Some e →
+        IfOk result (λ lies. lies ≡ same_id (zone_id tree.now.rows e.path) (Some zone)) }
 {
     let path = tree.path_of(id)?;
     match tree.zone_of(&path) {
@@ -48,7 +49,10 @@ fn lies_in(tree: &Tree, id: u64, zone: u64) -> Result<bool, NoMemory>
 /// Returns whether a file is still in the zone with the encrypted key that was sent. Returns
 /// `NoMemory` if allocation fails.
 fn is_as_sent(tree: &Tree, zone: u64, sent: &Sent) -> Result<bool, NoMemory>
-    ensures { IfOk result (λ same. same ≡ option_map_or (has_edek tree.now.rows zone sent.now.edek) (entry_of tree.now.rows sent.now.id) false) }
+    ensures { IfOk result
+        (λ same. same ≡
+        option_map_or (has_edek tree.now.rows zone sent.now.edek)
+        (entry_of tree.now.rows sent.now.id) false) }
 {
     match tree.row(sent.id) {
         None => Ok(false),
@@ -81,7 +85,9 @@ fn add_changed(
     sent: &Sent,
     edek: &Edek,
 ) -> Result<(), NoMemory>
-    ensures { OnOk result (files.new.items ≡ files.old.items ++ changed tree.now.rows zone (sent.now ∷ []) (edek.now ∷ [])) }
+    ensures { OnOk result
+        (files.new.items ≡
+        files.old.items ++ changed tree.now.rows zone (sent.now ∷ []) (edek.now ∷ [])) }
 {
     if is_changed(tree, zone, sent, edek)? {
         files.push(FileKey {
@@ -131,7 +137,9 @@ fn changes_by(
     edeks: &[Edek],
 ) -> Result<Changes, NoMemory>
     requires { length note.now.sent ≡ length edeks.now }
-    ensures { IfOk result (λ changes. changes ≡ changes_of tree.now.rows note.now.zone note.now.sent (batch.Ready edeks.now)) }
+    ensures { IfOk result
+        (λ changes. changes ≡
+        changes_of tree.now.rows note.now.zone note.now.sent (batch.Ready edeks.now)) }
 {
     let sent = note.sent.as_slice();
     let files = changed(alloc, tree, note.zone, sent, edeks)?;
@@ -161,7 +169,9 @@ pub fn all_failed(alloc: Global, note: &BatchNote) -> Changes
 ///
 /// The time is that of a look-up for each file of the batch.
 pub fn changes_of(alloc: Global, tree: &Tree, reply: &BatchReply) -> Result<Changes, NoMemory>
-    ensures { IfOk result (λ changes. changes ≡ changes_of tree.now.rows reply.now.note.zone reply.now.note.sent reply.now.result) }
+    ensures { IfOk result
+        (λ changes. changes ≡
+        changes_of tree.now.rows reply.now.note.zone reply.now.note.sent reply.now.result) }
 {
     match reply.result() {
         BatchResult::Refused => Ok(all_failed(alloc, reply.note())),

@@ -29,7 +29,8 @@ fn comes_before(path: &NPath, other: &NPath) -> bool
 /// Returns whether the row at a place does not lie below a directory, or comes after a path in it.
 fn is_past(tree: &Tree, at: u32, dir: &NPath, cursor: &NPath) -> Result<bool, NoMemory>
     requires { at < length tree.now.rows }
-    ensures { (e : Entry) → slice_get tree.now.rows at ≡ Some e → IfOk result (λ past. past ≡ is_past dir.now (Some cursor.now) e) }
+    ensures { (e : Entry) → slice_get tree.now.rows at ≡ Some e →
+        IfOk result (λ past. past ≡ is_past dir.now (Some cursor.now) e) }
 {
     if !tree.place_is_below(at, dir) {
         return Ok(true);

@@ -41,7 +41,8 @@ fn edek_of(row: &Row) -> Option<Edek>
 /// Returns whether the row at a place lies in a zone. Returns `NoMemory` if allocation fails.
 fn lies_in(tree: &Tree, at: u32, zone: u64) -> Result<bool, NoMemory>
     requires { at < length tree.now.rows }
-    ensures { (e : Entry) → slice_get tree.now.rows at ≡ Some e → IfOk result (λ lies. lies ≡ same_id (zone_id tree.now.rows e.path) (Some zone)) }
+    ensures { (e : Entry) → slice_get tree.now.rows at ≡ Some e →
+        IfOk result (λ lies. lies ≡ same_id (zone_id tree.now.rows e.path) (Some zone)) }
 {
     let path = tree.path_from(at, 0)?;
     match tree.zone_of(&path) {
@@ -53,7 +54,8 @@ fn lies_in(tree: &Tree, at: u32, zone: u64) -> Result<bool, NoMemory>
 /// Returns what is sent of the row at a place, or `None` if it is not a file of the zone.
 fn file_at(tree: &Tree, at: u32, zone: u64) -> Result<Option<Sent>, NoMemory>
     requires { at < length tree.now.rows }
-    ensures { (e : Entry) → slice_get tree.now.rows at ≡ Some e → IfOk result (λ sent. sent ≡ file_sent tree.now.rows zone e) }
+    ensures { (e : Entry) → slice_get tree.now.rows at ≡ Some e →
+        IfOk result (λ sent. sent ≡ file_sent tree.now.rows zone e) }
 {
     let row = tree.row_at_place(at);
     match edek_of(&row) {
@@ -72,8 +74,12 @@ fn file_at(tree: &Tree, at: u32, zone: u64) -> Result<Option<Sent>, NoMemory>
 /// Adds the row at a place if it is a file of the zone.
 fn add_row(found: &mut Found, tree: &Tree, at: u32, zone: u64) -> Result<(), NoMemory>
     requires { at < length tree.now.rows }
-    ensures sent { (e : Entry) → slice_get tree.now.rows at ≡ Some e → OnOk result (found.new.sent.items ≡ added (file_sent tree.now.rows zone e) found.old.sent.items) }
-    ensures last { (e : Entry) → slice_get tree.now.rows at ≡ Some e → OnOk result (found.new.last ≡ last_after at (file_sent tree.now.rows zone e) found.old.last) }
+    ensures sent { (e : Entry) → slice_get tree.now.rows at ≡ Some e →
+        OnOk result
+        (found.new.sent.items ≡ added (file_sent tree.now.rows zone e) found.old.sent.items) }
+    ensures last { (e : Entry) → slice_get tree.now.rows at ≡ Some e →
+        OnOk result
+        (found.new.last ≡ last_after at (file_sent tree.now.rows zone e) found.old.last) }
 {
     match file_at(tree, at, zone)? {
         Some(file) => {
@@ -96,7 +102,8 @@ fn find(
     size: u16,
 ) -> Result<Found, NoMemory>
     requires dir { option_map (λ e. e.path) (entry_of tree.now.rows zone) ≡ Some dir.now }
-    ensures { IfOk result (λ found. IsFound tree.now.rows zone cursor.now size found.sent.items found.last) }
+    ensures { IfOk result
+        (λ found. IsFound tree.now.rows zone cursor.now size found.sent.items found.last) }
 {
     let mut found = Found {
         sent: Vec::new(alloc),

@@ -80,7 +80,8 @@ impl SentList {
     /// Makes a list of 1 to 1,000 files. Returns `None` for any other number of files. It does not
     /// allocate.
     pub fn of(files: Vec<Sent>) -> Option<SentList>
-        ensures { SomeIff result ((1 ≤ length files.items) × (length files.items ≤ 1000)) files.items }
+        ensures { SomeIff result ((1 ≤ length files.items) × (length files.items ≤ 1000))
+            files.items }
     {
         let len = files.len();
         if len == 0 || len > MOST_SENT {

@@ -43,9 +43,15 @@ impl Model for Walker {
 
     ghost Value = { WalkState };
 
-    ghost view = { λ walker. record { session = walker.session; cursor = walker.cursor; batches = walker.batches.items } };
+    ghost view = { λ walker.
+        record {
+          session = walker.session;
+          cursor = walker.cursor;
+          batches = walker.batches.items;
+        } };
 
-    ghost invariant = { λ walker. StartsOutstanding walker.batches.items × (length walker.batches.items < 4294967296) };
+    ghost invariant = { λ walker. StartsOutstanding walker.batches.items ×
+        (length walker.batches.items < 4294967296) };
 }
 
 impl Walker {

@@ -33,7 +33,13 @@ pub fn read_ask(alloc: Global, fields: &[u8]) -> Result<Option<Event>, NoMemory>
 
 /// Reads `ask U create P`, from after `create`.
 fn read_create(alloc: Global, user: &[u8], fields: &[u8]) -> Result<Option<Event>, NoMemory>
-    ensures { IfOk result (λ found. MatchOption found ((who path : List ℕ) → ¬ SpellsAskPath (codes "create") (codes "ask" ∷ user.now ∷ codes "create" ∷ fields_of fields.now) who path) (SpellsEvent (codes "ask" ∷ user.now ∷ codes "create" ∷ fields_of fields.now))) }
+    ensures { IfOk result
+        (λ found.
+        MatchOption found
+        ((who path : List ℕ) →
+        ¬ SpellsAskPath (codes "create")
+        (codes "ask" ∷ user.now ∷ codes "create" ∷ fields_of fields.now) who path)
+        (SpellsEvent (codes "ask" ∷ user.now ∷ codes "create" ∷ fields_of fields.now))) }
 {
     let Some(path) = only_field(fields) else {
         return Ok(None);
@@ -49,7 +55,13 @@ fn read_create(alloc: Global, user: &[u8], fields: &[u8]) -> Result<Option<Event
 
 /// Reads `ask U submit P`, from after `submit`.
 fn read_submit(alloc: Global, user: &[u8], fields: &[u8]) -> Result<Option<Event>, NoMemory>
-    ensures { IfOk result (λ found. MatchOption found ((who path : List ℕ) → ¬ SpellsAskPath (codes "submit") (codes "ask" ∷ user.now ∷ codes "submit" ∷ fields_of fields.now) who path) (SpellsEvent (codes "ask" ∷ user.now ∷ codes "submit" ∷ fields_of fields.now))) }
+    ensures { IfOk result
+        (λ found.
+        MatchOption found
+        ((who path : List ℕ) →
+        ¬ SpellsAskPath (codes "submit")
+        (codes "ask" ∷ user.now ∷ codes "submit" ∷ fields_of fields.now) who path)
+        (SpellsEvent (codes "ask" ∷ user.now ∷ codes "submit" ∷ fields_of fields.now))) }
 {
     let Some(path) = only_field(fields) else {
         return Ok(None);
@@ -65,7 +77,13 @@ fn read_submit(alloc: Global, user: &[u8], fields: &[u8]) -> Result<Option<Event
 
 /// Reads `ask U zone P K`, from after `zone`.
 fn read_zone(alloc: Global, user: &[u8], fields: &[u8]) -> Result<Option<Event>, NoMemory>
-    ensures { IfOk result (λ found. MatchOption found ((who path key : List ℕ) → ¬ SpellsAskZone (codes "ask" ∷ user.now ∷ codes "zone" ∷ fields_of fields.now) who path key) (SpellsEvent (codes "ask" ∷ user.now ∷ codes "zone" ∷ fields_of fields.now))) }
+    ensures { IfOk result
+        (λ found.
+        MatchOption found
+        ((who path key : List ℕ) →
+        ¬ SpellsAskZone (codes "ask" ∷ user.now ∷ codes "zone" ∷ fields_of fields.now) who
+        path key)
+        (SpellsEvent (codes "ask" ∷ user.now ∷ codes "zone" ∷ fields_of fields.now))) }
 {
     let (path, rest) = cut(fields);
     let Some(rest) = rest else {
@@ -88,7 +106,11 @@ fn read_zone(alloc: Global, user: &[u8], fields: &[u8]) -> Result<Option<Event>,
 
 /// Reads `walk P`, from after `walk`.
 pub fn read_walk(alloc: Global, fields: &[u8]) -> Result<Option<Event>, NoMemory>
-    ensures { IfOk result (λ found. MatchOption found ((path : List ℕ) → ¬ SpellsWalk (codes "walk" ∷ fields_of fields.now) path) (SpellsEvent (codes "walk" ∷ fields_of fields.now))) }
+    ensures { IfOk result
+        (λ found.
+        MatchOption found
+        ((path : List ℕ) → ¬ SpellsWalk (codes "walk" ∷ fields_of fields.now) path)
+        (SpellsEvent (codes "walk" ∷ fields_of fields.now))) }
 {
     let Some(path) = only_field(fields) else {
         return Ok(None);

@@ -15,7 +15,10 @@ use std::alloc::Global;
 
 /// Returns the call that the fields after the user spell, or `None` if they spell none.
 pub fn read_call(alloc: Global, fields: &[u8]) -> Result<Option<KmsCall>, NoMemory>
-    ensures { IfOk result (λ found. MatchOption found ((call : KmsCall) → ¬ SpellsCall (fields_of fields.now) call) (SpellsCall (fields_of fields.now))) }
+    ensures { IfOk result
+        (λ found.
+        MatchOption found ((call : KmsCall) → ¬ SpellsCall (fields_of fields.now) call)
+        (SpellsCall (fields_of fields.now))) }
 {
     let (verb, rest) = cut(fields);
     let Some(rest) = rest else {
@@ -29,7 +32,8 @@ pub fn read_call(alloc: Global, fields: &[u8]) -> Result<Option<KmsCall>, NoMemo
 
 /// Returns the call of a verb without fields.
 fn read_bare_call(verb: &[u8]) -> Option<KmsCall>
-    ensures { MatchOption result (¬ (verb.now ≡ codes "names")) (λ found. (verb.now ≡ codes "names") × (found ≡ call.Names)) }
+    ensures { MatchOption result (¬ (verb.now ≡ codes "names"))
+        (λ found. (verb.now ≡ codes "names") × (found ≡ call.Names)) }
 {
     if verb == b"names".as_slice() {
         return Some(KmsCall::Names);
@@ -39,7 +43,12 @@ fn read_bare_call(verb: &[u8]) -> Option<KmsCall>
 
 /// Returns the call on keys that a verb and its fields spell. Those on encrypted keys are left out.
 fn read_key_call(alloc: Global, verb: &[u8], rest: &[u8]) -> Result<Option<KmsCall>, NoMemory>
-    ensures { IfOk result (λ found. MatchOption found ((call : KmsCall) → takes_edeks call ≡ false → ¬ SpellsCall (verb.now ∷ fields_of rest.now) call) (SpellsCall (verb.now ∷ fields_of rest.now))) }
+    ensures { IfOk result
+        (λ found.
+        MatchOption found
+        ((call : KmsCall) → takes_edeks call ≡ false →
+        ¬ SpellsCall (verb.now ∷ fields_of rest.now) call)
+        (SpellsCall (verb.now ∷ fields_of rest.now))) }
 {
     if verb == b"create".as_slice() {
         return read_create(alloc, rest);
@@ -73,7 +82,12 @@ fn read_key_call(alloc: Global, verb: &[u8], rest: &[u8]) -> Result<Option<KmsCa
 
 /// Reads `create K BITS H`, from after its verb.
 fn read_create(alloc: Global, fields: &[u8]) -> Result<Option<KmsCall>, NoMemory>
-    ensures { IfOk result (λ found. MatchOption found ((name : List ℕ) (bits : ℕ) (material : Option (List ℕ)) (description : List ℕ) → ¬ SpellsCreate (codes "create" ∷ fields_of fields.now) name bits material description) (SpellsCall (codes "create" ∷ fields_of fields.now))) }
+    ensures { IfOk result
+        (λ found.
+        MatchOption found
+        ((name : List ℕ) (bits : ℕ) (material : Option (List ℕ)) (description : List ℕ) →
+        ¬ SpellsCreate (codes "create" ∷ fields_of fields.now) name bits material
+        description) (SpellsCall (codes "create" ∷ fields_of fields.now))) }
 {
     let (name, rest) = cut(fields);
     let Some(rest) = rest else {
@@ -105,7 +119,12 @@ fn read_create(alloc: Global, fields: &[u8]) -> Result<Option<KmsCall>, NoMemory
 
 /// Reads `roll K H`, from after its verb.
 fn read_roll(alloc: Global, fields: &[u8]) -> Result<Option<KmsCall>, NoMemory>
-    ensures { IfOk result (λ found. MatchOption found ((name : List ℕ) (material : Option (List ℕ)) → ¬ SpellsRoll (codes "roll" ∷ fields_of fields.now) name material) (SpellsCall (codes "roll" ∷ fields_of fields.now))) }
+    ensures { IfOk result
+        (λ found.
+        MatchOption found
+        ((name : List ℕ) (material : Option (List ℕ)) →
+        ¬ SpellsRoll (codes "roll" ∷ fields_of fields.now) name material)
+        (SpellsCall (codes "roll" ∷ fields_of fields.now))) }
 {
     let (name, rest) = cut(fields);
     let Some(rest) = rest else {
@@ -125,7 +144,10 @@ fn read_roll(alloc: Global, fields: &[u8]) -> Result<Option<KmsCall>, NoMemory>
 
 /// Reads `delete K`, from after its verb.
 fn read_delete(fields: &[u8]) -> Option<KmsCall>
-    ensures { MatchOption result ((name : List ℕ) → ¬ SpellsNamed (codes "delete") (codes "delete" ∷ fields_of fields.now) name) (SpellsCall (codes "delete" ∷ fields_of fields.now)) }
+    ensures { MatchOption result
+        ((name : List ℕ) →
+        ¬ SpellsNamed (codes "delete") (codes "delete" ∷ fields_of fields.now) name)
+        (SpellsCall (codes "delete" ∷ fields_of fields.now)) }
 {
     let Some(name) = only_name(fields) else {
         return None;
@@ -135,7 +157,10 @@ fn read_delete(fields: &[u8]) -> Option<KmsCall>
 
 /// Reads `invalidate K`, from after its verb.
 fn read_invalidate(fields: &[u8]) -> Option<KmsCall>
-    ensures { MatchOption result ((name : List ℕ) → ¬ SpellsNamed (codes "invalidate") (codes "invalidate" ∷ fields_of fields.now) name) (SpellsCall (codes "invalidate" ∷ fields_of fields.now)) }
+    ensures { MatchOption result
+        ((name : List ℕ) →
+        ¬ SpellsNamed (codes "invalidate") (codes "invalidate" ∷ fields_of fields.now) name)
+        (SpellsCall (codes "invalidate" ∷ fields_of fields.now)) }
 {
     let Some(name) = only_name(fields) else {
         return None;
@@ -145,7 +170,10 @@ fn read_invalidate(fields: &[u8]) -> Option<KmsCall>
 
 /// Reads `metadata K`, from after its verb.
 fn read_metadata(fields: &[u8]) -> Option<KmsCall>
-    ensures { MatchOption result ((name : List ℕ) → ¬ SpellsNamed (codes "metadata") (codes "metadata" ∷ fields_of fields.now) name) (SpellsCall (codes "metadata" ∷ fields_of fields.now)) }
+    ensures { MatchOption result
+        ((name : List ℕ) →
+        ¬ SpellsNamed (codes "metadata") (codes "metadata" ∷ fields_of fields.now) name)
+        (SpellsCall (codes "metadata" ∷ fields_of fields.now)) }
 {
     let Some(name) = only_name(fields) else {
         return None;
@@ -155,7 +183,10 @@ fn read_metadata(fields: &[u8]) -> Option<KmsCall>
 
 /// Reads `current K`, from after its verb.
 fn read_current(fields: &[u8]) -> Option<KmsCall>
-    ensures { MatchOption result ((name : List ℕ) → ¬ SpellsNamed (codes "current") (codes "current" ∷ fields_of fields.now) name) (SpellsCall (codes "current" ∷ fields_of fields.now)) }
+    ensures { MatchOption result
+        ((name : List ℕ) →
+        ¬ SpellsNamed (codes "current") (codes "current" ∷ fields_of fields.now) name)
+        (SpellsCall (codes "current" ∷ fields_of fields.now)) }
 {
     let Some(name) = only_name(fields) else {
         return None;
@@ -165,7 +196,10 @@ fn read_current(fields: &[u8]) -> Option<KmsCall>
 
 /// Reads `versions K`, from after its verb.
 fn read_versions(fields: &[u8]) -> Option<KmsCall>
-    ensures { MatchOption result ((name : List ℕ) → ¬ SpellsNamed (codes "versions") (codes "versions" ∷ fields_of fields.now) name) (SpellsCall (codes "versions" ∷ fields_of fields.now)) }
+    ensures { MatchOption result
+        ((name : List ℕ) →
+        ¬ SpellsNamed (codes "versions") (codes "versions" ∷ fields_of fields.now) name)
+        (SpellsCall (codes "versions" ∷ fields_of fields.now)) }
 {
     let Some(name) = only_name(fields) else {
         return None;
@@ -175,7 +209,12 @@ fn read_versions(fields: &[u8]) -> Option<KmsCall>
 
 /// Reads `metadatas K,K`, from after its verb.
 fn read_metadatas(alloc: Global, fields: &[u8]) -> Result<Option<KmsCall>, NoMemory>
-    ensures { IfOk result (λ found. MatchOption found ((names : List (List ℕ)) → ¬ SpellsMetadatas (codes "metadatas" ∷ fields_of fields.now) names) (SpellsCall (codes "metadatas" ∷ fields_of fields.now))) }
+    ensures { IfOk result
+        (λ found.
+        MatchOption found
+        ((names : List (List ℕ)) →
+        ¬ SpellsMetadatas (codes "metadatas" ∷ fields_of fields.now) names)
+        (SpellsCall (codes "metadatas" ∷ fields_of fields.now))) }
 {
     let Some(list) = only_field(fields) else {
         return Ok(None);
@@ -188,7 +227,9 @@ fn read_metadatas(alloc: Global, fields: &[u8]) -> Result<Option<KmsCall>, NoMem
 
 /// Reads `version V`, from after its verb.
 fn read_version(fields: &[u8]) -> Option<KmsCall>
-    ensures { MatchOption result ((version : Version) → ¬ SpellsVersion (codes "version" ∷ fields_of fields.now) version) (SpellsCall (codes "version" ∷ fields_of fields.now)) }
+    ensures { MatchOption result
+        ((version : Version) → ¬ SpellsVersion (codes "version" ∷ fields_of fields.now) version)
+        (SpellsCall (codes "version" ∷ fields_of fields.now)) }
 {
     let Some(version) = only_field(fields) else {
         return None;

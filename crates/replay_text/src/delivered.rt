@@ -28,7 +28,10 @@ fn write_applied(
     failed: u32,
     out: &mut ByteList,
 ) -> Result<(), NoMemory>
-    ensures { OnOk result (out.new ≡ out.old ++ codes "applied " ++ decimal changed ++ codes " " ++ decimal skipped ++ codes " " ++ decimal failed) }
+    ensures { OnOk result
+        (out.new ≡
+        out.old ++ codes "applied " ++ decimal changed ++ codes " " ++ decimal skipped ++
+        codes " " ++ decimal failed) }
 {
     out.append(b"applied ")?;
     write_number(changed as u64, out)?;

@@ -13,7 +13,12 @@ use std::alloc::Global;
 
 /// Returns the call on encrypted keys that a verb and its fields spell.
 pub fn read_edek_call(alloc: Global, verb: &[u8], rest: &[u8]) -> Result<Option<KmsCall>, NoMemory>
-    ensures { IfOk result (λ found. MatchOption found ((call : KmsCall) → takes_edeks call ≡ true → ¬ SpellsCall (verb.now ∷ fields_of rest.now) call) (SpellsCall (verb.now ∷ fields_of rest.now))) }
+    ensures { IfOk result
+        (λ found.
+        MatchOption found
+        ((call : KmsCall) → takes_edeks call ≡ true →
+        ¬ SpellsCall (verb.now ∷ fields_of rest.now) call)
+        (SpellsCall (verb.now ∷ fields_of rest.now))) }
 {
     if verb == b"generate".as_slice() {
         return Ok(read_generate(rest));
@@ -32,7 +37,10 @@ pub fn read_edek_call(alloc: Global, verb: &[u8], rest: &[u8]) -> Result<Option<
 
 /// Reads `generate K N`, from after its verb.
 fn read_generate(fields: &[u8]) -> Option<KmsCall>
-    ensures { MatchOption result ((name : List ℕ) (count : ℕ) → ¬ SpellsGenerate (codes "generate" ∷ fields_of fields.now) name count) (SpellsCall (codes "generate" ∷ fields_of fields.now)) }
+    ensures { MatchOption result
+        ((name : List ℕ) (count : ℕ) →
+        ¬ SpellsGenerate (codes "generate" ∷ fields_of fields.now) name count)
+        (SpellsCall (codes "generate" ∷ fields_of fields.now)) }
 {
     let (name, rest) = cut(fields);
     let Some(rest) = rest else {
@@ -52,7 +60,12 @@ fn read_generate(fields: &[u8]) -> Option<KmsCall>
 
 /// Reads `decrypt V IV H`, from after its verb.
 fn read_decrypt(alloc: Global, fields: &[u8]) -> Result<Option<KmsCall>, NoMemory>
-    ensures { IfOk result (λ found. MatchOption found ((name : List ℕ) (sent : RawEdek) → ¬ SpellsSent (codes "decrypt") (codes "decrypt" ∷ fields_of fields.now) name sent) (SpellsCall (codes "decrypt" ∷ fields_of fields.now))) }
+    ensures { IfOk result
+        (λ found.
+        MatchOption found
+        ((name : List ℕ) (sent : RawEdek) →
+        ¬ SpellsSent (codes "decrypt") (codes "decrypt" ∷ fields_of fields.now) name sent)
+        (SpellsCall (codes "decrypt" ∷ fields_of fields.now))) }
 {
     let Some(parts) = edek_fields(fields) else {
         return Ok(None);
@@ -66,7 +79,12 @@ fn read_decrypt(alloc: Global, fields: &[u8]) -> Result<Option<KmsCall>, NoMemor
 
 /// Reads `reencrypt V IV H`, from after its verb.
 fn read_reencrypt(alloc: Global, fields: &[u8]) -> Result<Option<KmsCall>, NoMemory>
-    ensures { IfOk result (λ found. MatchOption found ((name : List ℕ) (sent : RawEdek) → ¬ SpellsSent (codes "reencrypt") (codes "reencrypt" ∷ fields_of fields.now) name sent) (SpellsCall (codes "reencrypt" ∷ fields_of fields.now))) }
+    ensures { IfOk result
+        (λ found.
+        MatchOption found
+        ((name : List ℕ) (sent : RawEdek) →
+        ¬ SpellsSent (codes "reencrypt") (codes "reencrypt" ∷ fields_of fields.now) name
+        sent) (SpellsCall (codes "reencrypt" ∷ fields_of fields.now))) }
 {
     let Some(parts) = edek_fields(fields) else {
         return Ok(None);
@@ -87,7 +105,9 @@ fn key_of(sent: &RawEdek) -> KeyName
 
 /// Reads the fields `V IV H`.
 fn edek_fields(fields: &[u8]) -> Option<EdekFields<'_>>
-    ensures { MatchOption result ((version iv sealed : List ℕ) → ¬ (fields_of fields.now ≡ version ∷ iv ∷ sealed ∷ [])) (λ parts. fields_of fields.now ≡ parts.version.now ∷ parts.iv.now ∷ parts.sealed.now ∷ []) }
+    ensures { MatchOption result
+        ((version iv sealed : List ℕ) → ¬ (fields_of fields.now ≡ version ∷ iv ∷ sealed ∷ []))
+        (λ parts. fields_of fields.now ≡ parts.version.now ∷ parts.iv.now ∷ parts.sealed.now ∷ []) }
 {
     let (version, rest) = cut(fields);
     let (iv, rest) = cut(rest?);
@@ -101,7 +121,12 @@ fn edek_fields(fields: &[u8]) -> Option<EdekFields<'_>>
 
 /// Reads `batch K V:IV:H,V:IV:H`, from after its verb.
 fn read_batch(alloc: Global, fields: &[u8]) -> Result<Option<KmsCall>, NoMemory>
-    ensures { IfOk result (λ found. MatchOption found ((name : List ℕ) (sent : List RawEdek) → ¬ SpellsBatch (codes "batch" ∷ fields_of fields.now) name sent) (SpellsCall (codes "batch" ∷ fields_of fields.now))) }
+    ensures { IfOk result
+        (λ found.
+        MatchOption found
+        ((name : List ℕ) (sent : List RawEdek) →
+        ¬ SpellsBatch (codes "batch" ∷ fields_of fields.now) name sent)
+        (SpellsCall (codes "batch" ∷ fields_of fields.now))) }
 {
     let (name, rest) = cut(fields);
     let Some(rest) = rest else {

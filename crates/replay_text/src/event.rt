@@ -25,7 +25,8 @@ pub enum LineFault {
 /// Returns the event of a line, or `None` if the line is empty or a comment.
 pub fn read_event(alloc: Global, line: &[u8]) -> Result<Option<Event>, LineFault>
     requires { length line.now ≤ 1048576 }
-    ensures { MatchResult result (λ found. MatchOption found (IsQuiet line.now) (Spells line.now)) (λ fault. fault ≡ LineFault.BadLine → IsBad line.now) }
+    ensures { MatchResult result (λ found. MatchOption found (IsQuiet line.now) (Spells line.now))
+        (λ fault. fault ≡ LineFault.BadLine → IsBad line.now) }
 {
     if line.is_empty() {
         return Ok(None);
@@ -42,7 +43,10 @@ pub fn read_event(alloc: Global, line: &[u8]) -> Result<Option<Event>, LineFault
 
 /// Returns the event that a line spells, or `None` if it spells none.
 fn read_spelled(alloc: Global, line: &[u8]) -> Result<Option<Event>, NoMemory>
-    ensures { IfOk result (λ found. MatchOption found ((event : Event) → ¬ SpellsEvent (fields_of line.now) event) (SpellsEvent (fields_of line.now))) }
+    ensures { IfOk result
+        (λ found.
+        MatchOption found ((event : Event) → ¬ SpellsEvent (fields_of line.now) event)
+        (SpellsEvent (fields_of line.now))) }
 {
     let (first, rest) = cut(line);
     let Some(rest) = rest else {
@@ -78,7 +82,12 @@ fn read_bare_event(field: &[u8]) -> Option<Event>
 
 /// Reads `kms U` and a call, from after `kms`.
 fn read_kms_event(alloc: Global, fields: &[u8]) -> Result<Option<Event>, NoMemory>
-    ensures { IfOk result (λ found. MatchOption found ((user : List ℕ) (call : KmsCall) → ¬ SpellsKms (codes "kms" ∷ fields_of fields.now) user call) (SpellsEvent (codes "kms" ∷ fields_of fields.now))) }
+    ensures { IfOk result
+        (λ found.
+        MatchOption found
+        ((user : List ℕ) (call : KmsCall) →
+        ¬ SpellsKms (codes "kms" ∷ fields_of fields.now) user call)
+        (SpellsEvent (codes "kms" ∷ fields_of fields.now))) }
 {
     let (user, rest) = cut(fields);
     let Some(rest) = rest else {
@@ -95,7 +104,10 @@ fn read_kms_event(alloc: Global, fields: &[u8]) -> Result<Option<Event>, NoMemor
 
 /// Reads `restart kms` or `restart nn`, from after `restart`.
 fn read_restart(fields: &[u8]) -> Option<Event>
-    ensures { MatchOption result (¬ SpellsRestart (codes "kms") (codes "restart" ∷ fields_of fields.now) × ¬ SpellsRestart (codes "nn") (codes "restart" ∷ fields_of fields.now)) (SpellsEvent (codes "restart" ∷ fields_of fields.now)) }
+    ensures { MatchOption result
+        (¬ SpellsRestart (codes "kms") (codes "restart" ∷ fields_of fields.now) ×
+        ¬ SpellsRestart (codes "nn") (codes "restart" ∷ fields_of fields.now))
+        (SpellsEvent (codes "restart" ∷ fields_of fields.now)) }
 {
     let Some(service) = only_field(fields) else {
         return None;
@@ -111,7 +123,11 @@ fn read_restart(fields: &[u8]) -> Option<Event>
 
 /// Reads `nn U`, a verb and its fields, from after `nn`.
 fn read_name_event(alloc: Global, fields: &[u8]) -> Result<Option<Event>, NoMemory>
-    ensures { IfOk result (λ found. MatchOption found ((event : Event) → ¬ SpellsEvent (codes "nn" ∷ fields_of fields.now) event) (SpellsEvent (codes "nn" ∷ fields_of fields.now))) }
+    ensures { IfOk result
+        (λ found.
+        MatchOption found
+        ((event : Event) → ¬ SpellsEvent (codes "nn" ∷ fields_of fields.now) event)
+        (SpellsEvent (codes "nn" ∷ fields_of fields.now))) }
 {
     let (user, rest) = cut(fields);
     let Some(rest) = rest else {
@@ -126,7 +142,11 @@ fn read_name_event(alloc: Global, fields: &[u8]) -> Result<Option<Event>, NoMemo
 
 /// Reads `nn U zones`, whose fields are given.
 fn read_zones(alloc: Global, user: &[u8], verb: &[u8]) -> Result<Option<Event>, NoMemory>
-    ensures { IfOk result (λ found. MatchOption found ((who : List ℕ) → ¬ SpellsZones (codes "nn" ∷ user.now ∷ verb.now ∷ []) who) (SpellsEvent (codes "nn" ∷ user.now ∷ verb.now ∷ []))) }
+    ensures { IfOk result
+        (λ found.
+        MatchOption found
+        ((who : List ℕ) → ¬ SpellsZones (codes "nn" ∷ user.now ∷ verb.now ∷ []) who)
+        (SpellsEvent (codes "nn" ∷ user.now ∷ verb.now ∷ []))) }
 {
     if verb != b"zones".as_slice() {
         return Ok(None);
@@ -144,7 +164,12 @@ fn read_path_event(
     verb: &[u8],
     fields: &[u8],
 ) -> Result<Option<Event>, NoMemory>
-    ensures { IfOk result (λ found. MatchOption found ((event : Event) → ¬ SpellsEvent (codes "nn" ∷ user.now ∷ verb.now ∷ fields_of fields.now) event) (SpellsEvent (codes "nn" ∷ user.now ∷ verb.now ∷ fields_of fields.now))) }
+    ensures { IfOk result
+        (λ found.
+        MatchOption found
+        ((event : Event) →
+        ¬ SpellsEvent (codes "nn" ∷ user.now ∷ verb.now ∷ fields_of fields.now) event)
+        (SpellsEvent (codes "nn" ∷ user.now ∷ verb.now ∷ fields_of fields.now))) }
 {
     let (path, rest) = cut(fields);
     match rest {
@@ -160,7 +185,12 @@ fn read_path_call(
     verb: &[u8],
     path: &[u8],
 ) -> Result<Option<Event>, NoMemory>
-    ensures { IfOk result (λ found. MatchOption found ((word who p : List ℕ) → IsPathVerb word → ¬ SpellsPath word (codes "nn" ∷ user.now ∷ verb.now ∷ path.now ∷ []) who p) (SpellsEvent (codes "nn" ∷ user.now ∷ verb.now ∷ path.now ∷ []))) }
+    ensures { IfOk result
+        (λ found.
+        MatchOption found
+        ((word who p : List ℕ) → IsPathVerb word →
+        ¬ SpellsPath word (codes "nn" ∷ user.now ∷ verb.now ∷ path.now ∷ []) who p)
+        (SpellsEvent (codes "nn" ∷ user.now ∷ verb.now ∷ path.now ∷ []))) }
 {
     let Some(user) = read_user(alloc, user)? else {
         return Ok(None);
@@ -179,7 +209,13 @@ fn read_two_field_call(
     path: &[u8],
     fields: &[u8],
 ) -> Result<Option<Event>, NoMemory>
-    ensures { IfOk result (λ found. MatchOption found ((word who p second : List ℕ) → IsTwoFieldVerb word → ¬ SpellsTwoFields word (codes "nn" ∷ user.now ∷ verb.now ∷ path.now ∷ fields_of fields.now) who p second) (SpellsEvent (codes "nn" ∷ user.now ∷ verb.now ∷ path.now ∷ fields_of fields.now))) }
+    ensures { IfOk result
+        (λ found.
+        MatchOption found
+        ((word who p second : List ℕ) → IsTwoFieldVerb word →
+        ¬ SpellsTwoFields word
+        (codes "nn" ∷ user.now ∷ verb.now ∷ path.now ∷ fields_of fields.now) who p second)
+        (SpellsEvent (codes "nn" ∷ user.now ∷ verb.now ∷ path.now ∷ fields_of fields.now))) }
 {
     let Some(second) = only_field(fields) else {
         return Ok(None);
@@ -199,7 +235,8 @@ fn read_two_field_call(
 /// Returns the event of a verb that takes a path, and another path or the name of a snapshot, or
 /// `None` if there is no such verb.
 fn two_field_event(verb: &[u8], user: Text, path: ByteList, second: ByteList) -> Option<Event>
-    ensures { MatchOption result (¬ IsTwoFieldVerb verb.now) (IsTwoFieldEvent verb.now user path second) }
+    ensures { MatchOption result (¬ IsTwoFieldVerb verb.now)
+        (IsTwoFieldEvent verb.now user path second) }
 {
     if verb == b"rename".as_slice() {
         return Some(Event::Rename {

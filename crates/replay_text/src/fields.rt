@@ -24,7 +24,8 @@ fn space_in(bytes: &[u8]) -> Option<usize>
 
 /// Splits a line at its first space: the field, and the rest if there is a space.
 pub fn cut(bytes: &[u8]) -> (&[u8], Option<&[u8]>)
-    ensures { MatchOption result.1 (fields_of bytes.now ≡ result.0.now ∷ []) (λ rest. fields_of bytes.now ≡ result.0.now ∷ fields_of rest.now) }
+    ensures { MatchOption result.1 (fields_of bytes.now ≡ result.0.now ∷ [])
+        (λ rest. fields_of bytes.now ≡ result.0.now ∷ fields_of rest.now) }
 {
     match space_in(bytes) {
         None => (bytes, None),
@@ -34,7 +35,8 @@ pub fn cut(bytes: &[u8]) -> (&[u8], Option<&[u8]>)
 
 /// Returns the only field of a line, or `None` if there are more.
 pub fn only_field(bytes: &[u8]) -> Option<&[u8]>
-    ensures { MatchOption result ((field : List ℕ) → ¬ (fields_of bytes.now ≡ field ∷ [])) (λ field. fields_of bytes.now ≡ field.now ∷ []) }
+    ensures { MatchOption result ((field : List ℕ) → ¬ (fields_of bytes.now ≡ field ∷ []))
+        (λ field. fields_of bytes.now ≡ field.now ∷ []) }
 {
     let (field, rest) = cut(bytes);
     match rest {
@@ -86,7 +88,9 @@ fn decoded(alloc: Global, field: &[u8]) -> Result<Vec<u8>, NoMemory>
 
 /// Returns the user that a field spells, or `None` if it spells none.
 pub fn read_user(alloc: Global, field: &[u8]) -> Result<Option<Text>, NoMemory>
-    ensures { IfOk result (λ found. MatchOption found ((user : List ℕ) → ¬ IsUser field.now user) (IsUser field.now)) }
+    ensures { IfOk result
+        (λ found.
+        MatchOption found ((user : List ℕ) → ¬ IsUser field.now user) (IsUser field.now)) }
 {
     if !is_escaped(field) {
         return Ok(None);
@@ -100,7 +104,10 @@ pub fn read_user(alloc: Global, field: &[u8]) -> Result<Option<Text>, NoMemory>
 
 /// Returns the bytes that a field with escapes spells, or `None` if it spells none.
 pub fn read_escaped(alloc: Global, field: &[u8]) -> Result<Option<ByteList>, NoMemory>
-    ensures { IfOk result (λ found. MatchOption found ((bytes : List ℕ) → ¬ IsEscaped field.now bytes) (IsEscaped field.now)) }
+    ensures { IfOk result
+        (λ found.
+        MatchOption found ((bytes : List ℕ) → ¬ IsEscaped field.now bytes)
+        (IsEscaped field.now)) }
 {
     if !is_escaped(field) {
         return Ok(None);
@@ -110,7 +117,10 @@ pub fn read_escaped(alloc: Global, field: &[u8]) -> Result<Option<ByteList>, NoM
 
 /// Returns the bytes that 2 to 128 hexadecimal digits spell, or `None` for another field.
 pub fn read_bytes(alloc: Global, field: &[u8]) -> Result<Option<ByteList>, NoMemory>
-    ensures { IfOk result (λ found. MatchOption found ((material : List ℕ) → ¬ IsMaterial field.now material) (IsMaterial field.now)) }
+    ensures { IfOk result
+        (λ found.
+        MatchOption found ((material : List ℕ) → ¬ IsMaterial field.now material)
+        (IsMaterial field.now)) }
 {
     if field.len() < 2 {
         return Ok(None);
@@ -127,7 +137,10 @@ pub fn read_bytes(alloc: Global, field: &[u8]) -> Result<Option<ByteList>, NoMem
 
 /// Returns the material that a field spells, `Some(None)` for `-`, and `None` for another field.
 pub fn read_material(alloc: Global, field: &[u8]) -> Result<Option<Option<ByteList>>, NoMemory>
-    ensures { IfOk result (λ found. MatchOption found ((material : Option (List ℕ)) → ¬ SpellsMaterial field.now material) (SpellsMaterial field.now)) }
+    ensures { IfOk result
+        (λ found.
+        MatchOption found ((material : Option (List ℕ)) → ¬ SpellsMaterial field.now material)
+        (SpellsMaterial field.now)) }
 {
     if field == b"-".as_slice() {
         return Ok(Some(None));
@@ -140,7 +153,8 @@ pub fn read_material(alloc: Global, field: &[u8]) -> Result<Option<Option<ByteLi
 
 /// Reads a number below 2^32, which has one spelling.
 pub fn read_small_number(field: &[u8]) -> Option<u32>
-    ensures { MatchOption result ((n : ℕ) → n < 2 ^ 32 → ¬ (field.now ≡ decimal n)) (λ n. (n < 2 ^ 32) × (field.now ≡ decimal n)) }
+    ensures { MatchOption result ((n : ℕ) → n < 2 ^ 32 → ¬ (field.now ≡ decimal n))
+        (λ n. (n < 2 ^ 32) × (field.now ≡ decimal n)) }
 {
     let Some(number) = read_number(field) else {
         return None;
@@ -153,7 +167,9 @@ pub fn read_small_number(field: &[u8]) -> Option<u32>
 
 /// Returns the key name that is the only field. Returns `None` for several fields or another one.
 pub fn only_name(fields: &[u8]) -> Option<KeyName>
-    ensures { MatchOption result ((name : List ℕ) → IsKeyName name → ¬ (fields_of fields.now ≡ name ∷ [])) (λ name. IsKeyName name × (fields_of fields.now ≡ name ∷ [])) }
+    ensures { MatchOption result
+        ((name : List ℕ) → IsKeyName name → ¬ (fields_of fields.now ≡ name ∷ []))
+        (λ name. IsKeyName name × (fields_of fields.now ≡ name ∷ [])) }
 {
     let Some(field) = only_field(fields) else {
         return None;

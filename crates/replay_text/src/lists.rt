@@ -19,8 +19,10 @@ fn comma_in(bytes: &[u8]) -> Option<usize>
 
 /// Splits a list at its first comma: the part, and the rest if there is a comma.
 fn cut_at_comma(bytes: &[u8]) -> (&[u8], Option<&[u8]>)
-    ensures cut { MatchOption result.1 (slice_split is_comma bytes.now ≡ result.0.now ∷ []) (λ rest. slice_split is_comma bytes.now ≡ result.0.now ∷ slice_split is_comma rest.now) }
-    ensures shorter { MatchOption result.1 (result.0.now ≡ bytes.now) (λ rest. length rest.now < length bytes.now) }
+    ensures cut { MatchOption result.1 (slice_split is_comma bytes.now ≡ result.0.now ∷ [])
+        (λ rest. slice_split is_comma bytes.now ≡ result.0.now ∷ slice_split is_comma rest.now) }
+    ensures shorter { MatchOption result.1 (result.0.now ≡ bytes.now)
+        (λ rest. length rest.now < length bytes.now) }
 {
     match comma_in(bytes) {
         None => (bytes, None),
@@ -37,7 +39,8 @@ fn colon_in(bytes: &[u8]) -> Option<usize>
 
 /// Splits bytes at their first colon: the part, and the rest if there is a colon.
 fn cut_at_colon(bytes: &[u8]) -> (&[u8], Option<&[u8]>)
-    ensures { MatchOption result.1 (slice_split is_colon bytes.now ≡ result.0.now ∷ []) (λ rest. slice_split is_colon bytes.now ≡ result.0.now ∷ slice_split is_colon rest.now) }
+    ensures { MatchOption result.1 (slice_split is_colon bytes.now ≡ result.0.now ∷ [])
+        (λ rest. slice_split is_colon bytes.now ≡ result.0.now ∷ slice_split is_colon rest.now) }
 {
     match colon_in(bytes) {
         None => (bytes, None),
@@ -47,7 +50,8 @@ fn cut_at_colon(bytes: &[u8]) -> (&[u8], Option<&[u8]>)
 
 /// Returns the bytes, or `None` if there is a colon among them.
 fn without_colon(bytes: &[u8]) -> Option<&[u8]>
-    ensures { MatchOption result ((part : List ℕ) → ¬ (slice_split is_colon bytes.now ≡ part ∷ [])) (λ part. slice_split is_colon bytes.now ≡ part.now ∷ []) }
+    ensures { MatchOption result ((part : List ℕ) → ¬ (slice_split is_colon bytes.now ≡ part ∷ []))
+        (λ part. slice_split is_colon bytes.now ≡ part.now ∷ []) }
 {
     let (part, rest) = cut_at_colon(bytes);
     match rest {
@@ -58,7 +62,10 @@ fn without_colon(bytes: &[u8]) -> Option<&[u8]>
 
 /// Returns the names between commas, or `None` if a part is no name.
 pub fn read_names(alloc: Global, bytes: &[u8]) -> Result<Option<NameList>, NoMemory>
-    ensures { IfOk result (λ found. MatchOption found (¬ All IsKeyName (slice_split is_comma bytes.now)) (λ names. (slice_split is_comma bytes.now ≡ names) × All IsKeyName names)) }
+    ensures { IfOk result
+        (λ found.
+        MatchOption found (¬ All IsKeyName (slice_split is_comma bytes.now))
+        (λ names. (slice_split is_comma bytes.now ≡ names) × All IsKeyName names)) }
 {
     let mut names = NameList::with_room(alloc, 1)?;
     let mut rest = bytes;
@@ -90,7 +97,10 @@ pub fn read_edek(
     iv: &[u8],
     sealed: &[u8],
 ) -> Result<Option<RawEdek>, NoMemory>
-    ensures { IfOk result (λ found. MatchOption found ((sent : RawEdek) → ¬ SpellsEdek version.now iv.now sealed.now sent) (SpellsEdek version.now iv.now sealed.now)) }
+    ensures { IfOk result
+        (λ found.
+        MatchOption found ((sent : RawEdek) → ¬ SpellsEdek version.now iv.now sealed.now sent)
+        (SpellsEdek version.now iv.now sealed.now)) }
 {
     let Some(version) = VersionName::read(version) else {
         return Ok(None);
@@ -110,7 +120,11 @@ pub fn read_edek(
 
 /// The fields of `V:IV:H`.
 fn triple_fields(part: &[u8]) -> Option<EdekFields<'_>>
-    ensures { MatchOption result ((version iv sealed : List ℕ) → ¬ (slice_split is_colon part.now ≡ version ∷ iv ∷ sealed ∷ [])) (λ parts. slice_split is_colon part.now ≡ parts.version.now ∷ parts.iv.now ∷ parts.sealed.now ∷ []) }
+    ensures { MatchOption result
+        ((version iv sealed : List ℕ) →
+        ¬ (slice_split is_colon part.now ≡ version ∷ iv ∷ sealed ∷ []))
+        (λ parts. slice_split is_colon part.now ≡
+        parts.version.now ∷ parts.iv.now ∷ parts.sealed.now ∷ []) }
 {
     let (version, rest) = cut_at_colon(part);
     let (iv, rest) = cut_at_colon(rest?);
@@ -124,7 +138,9 @@ fn triple_fields(part: &[u8]) -> Option<EdekFields<'_>>
 
 /// Returns the encrypted key that `V:IV:H` spells, or `None` if the bytes are no such triple.
 fn read_triple(alloc: Global, part: &[u8]) -> Result<Option<RawEdek>, NoMemory>
-    ensures { IfOk result (λ found. MatchOption found ((sent : RawEdek) → ¬ IsTriple part.now sent) (IsTriple part.now)) }
+    ensures { IfOk result
+        (λ found.
+        MatchOption found ((sent : RawEdek) → ¬ IsTriple part.now sent) (IsTriple part.now)) }
 {
     let Some(parts) = triple_fields(part) else {
         return Ok(None);
@@ -134,7 +150,11 @@ fn read_triple(alloc: Global, part: &[u8]) -> Result<Option<RawEdek>, NoMemory>
 
 /// Returns the encrypted keys between commas, or `None` if a part spells none.
 pub fn read_edeks(alloc: Global, bytes: &[u8]) -> Result<Option<RawEdekList>, NoMemory>
-    ensures { IfOk result (λ found. MatchOption found ((sent : List RawEdek) → ¬ AreTriples (slice_split is_comma bytes.now) sent) (AreTriples (slice_split is_comma bytes.now))) }
+    ensures { IfOk result
+        (λ found.
+        MatchOption found
+        ((sent : List RawEdek) → ¬ AreTriples (slice_split is_comma bytes.now) sent)
+        (AreTriples (slice_split is_comma bytes.now))) }
 {
     let mut edeks = RawEdekList::with_room(alloc, 1)?;
     let mut rest = bytes;

@@ -8,7 +8,10 @@ use hk_events::Event;
 
 /// Reads a verb and a number, from after the verb, which is given.
 pub fn read_number_event(verb: &[u8], fields: &[u8]) -> Option<Event>
-    ensures { MatchOption result ((word : List ℕ) (number : ℕ) → IsNumberVerb word → ¬ SpellsKept word (verb.now ∷ fields_of fields.now) number) (SpellsEvent (verb.now ∷ fields_of fields.now)) }
+    ensures { MatchOption result
+        ((word : List ℕ) (number : ℕ) → IsNumberVerb word →
+        ¬ SpellsKept word (verb.now ∷ fields_of fields.now) number)
+        (SpellsEvent (verb.now ∷ fields_of fields.now)) }
 {
     let Some(number) = only_number(fields) else {
         return None;
@@ -44,7 +47,8 @@ fn number_event(verb: &[u8], number: u32) -> Option<Event>
 /// Returns the number below 2^32 that the only field spells. Returns `None` for several fields or
 /// another spelling.
 fn only_number(fields: &[u8]) -> Option<u32>
-    ensures { MatchOption result ((n : ℕ) → n < 2 ^ 32 → ¬ (fields_of fields.now ≡ decimal n ∷ [])) (λ n. (n < 2 ^ 32) × (fields_of fields.now ≡ decimal n ∷ [])) }
+    ensures { MatchOption result ((n : ℕ) → n < 2 ^ 32 → ¬ (fields_of fields.now ≡ decimal n ∷ []))
+        (λ n. (n < 2 ^ 32) × (fields_of fields.now ≡ decimal n ∷ [])) }
 {
     let Some(field) = only_field(fields) else {
         return None;

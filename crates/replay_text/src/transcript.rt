@@ -120,7 +120,10 @@ fn write_deposit(deposit: &Deposit, out: &mut ByteList) -> Result<(), NoMemory>
 
 /// Appends the answer to a deposit that is stale: the current opening, birth and number of the version.
 fn write_stale(opening: u32, birth: u64, number: u16, out: &mut ByteList) -> Result<(), NoMemory>
-    ensures { OnOk result (out.new ≡ out.old ++ codes "stale " ++ decimal opening ++ codes " " ++ decimal birth ++ codes " " ++ decimal number) }
+    ensures { OnOk result
+        (out.new ≡
+        out.old ++ codes "stale " ++ decimal opening ++ codes " " ++ decimal birth ++
+        codes " " ++ decimal number) }
 {
     out.append(b"stale ")?;
     write_number(opening as u64, out)?;
@@ -140,7 +143,10 @@ fn write_opened(opening: u32, out: &mut ByteList) -> Result<(), NoMemory>
 
 /// Appends the answer to an ask that was accepted.
 fn write_asked(number: u64, note: &AskNote, out: &mut ByteList) -> Result<(), NoMemory>
-    ensures { OnOk result (out.new ≡ out.old ++ codes "ask " ++ decimal number ++ codes " " ++ decimal note.now.id ++ codes " " ++ want_text note.now.want) }
+    ensures { OnOk result
+        (out.new ≡
+        out.old ++ codes "ask " ++ decimal number ++ codes " " ++ decimal note.now.id ++
+        codes " " ++ want_text note.now.want) }
 {
     out.append(b"ask ")?;
     write_number(number, out)?;
@@ -173,7 +179,9 @@ fn write_replied(
     reply: &Option<KmsReply>,
     out: &mut ByteList,
 ) -> Result<(), NoMemory>
-    ensures { OnOk result (out.new ≡ out.old ++ codes "reply " ++ decimal number ++ codes " " ++ kept_text reply.now) }
+    ensures { OnOk result
+        (out.new ≡
+        out.old ++ codes "reply " ++ decimal number ++ codes " " ++ kept_text reply.now) }
 {
     out.append(b"reply ")?;
     write_number(number, out)?;
@@ -186,7 +194,8 @@ fn write_replied(
 
 /// Appends the answer to a walk that gave a batch.
 fn write_batch(number: u64, files: u32, out: &mut ByteList) -> Result<(), NoMemory>
-    ensures { OnOk result (out.new ≡ out.old ++ codes "batch " ++ decimal number ++ codes " " ++ decimal files) }
+    ensures { OnOk result
+        (out.new ≡ out.old ++ codes "batch " ++ decimal number ++ codes " " ++ decimal files) }
 {
     out.append(b"batch ")?;
     write_number(number, out)?;
@@ -232,7 +241,10 @@ fn write_version(
     material: &Option<Dek>,
     out: &mut ByteList,
 ) -> Result<(), NoMemory>
-    ensures { OnOk result (out.new ≡ out.old ++ codes "version " ++ version_text version.now.key version.now.number ++ codes " " ++ material_text material.now) }
+    ensures { OnOk result
+        (out.new ≡
+        out.old ++ codes "version " ++ version_text version.now.key version.now.number ++
+        codes " " ++ material_text material.now) }
 {
     out.append(b"version ")?;
     version.write(out)?;
@@ -259,7 +271,8 @@ fn write_version_list(
     versions: &VersionList,
     out: &mut ByteList,
 ) -> Result<(), NoMemory>
-    ensures { OnOk result (out.new ≡ out.old ++ codes "versions" ++ flat_map shown_part versions.now) }
+    ensures { OnOk result
+        (out.new ≡ out.old ++ codes "versions" ++ flat_map shown_part versions.now) }
 {
     out.append(b"versions")?;
     write_versions(alloc, versions.as_slice(), out)

@@ -22,9 +22,11 @@ pub fn servers_hold_what_they_acknowledged<Y: Yard, P: Door, W: Words>(
     _words: PhantomData<W>,
     conns: u32,
 )
-    ensures logs { ServersHoldLogs Y.Own.state W.to_come (ServesEnds P.In.left P.In.faults P.Out.written P.Out.faults) conns
+    ensures logs { ServersHoldLogs Y.Own.state W.to_come
+        (ServesEnds P.In.left P.In.faults P.Out.written P.Out.faults) conns
         (Y.state yard.now) (Y.state yard_after.now) (P.state door.now) (P.state door_after.now) }
-    ensures verdicts { ServersJudge Y.Own.state W.to_come (ServesEnds P.In.left P.In.faults P.Out.written P.Out.faults) conns
+    ensures verdicts { ServersJudge Y.Own.state W.to_come
+        (ServesEnds P.In.left P.In.faults P.Out.written P.Out.faults) conns
         (Y.state yard.now) (Y.state yard_after.now) (P.state door.now) (P.state door_after.now) }
 {}
 
@@ -41,7 +43,8 @@ pub fn servers_keep_files_open<Y: Yard, P: Door, W: Words>(
     _words: PhantomData<W>,
     conns: u32,
 )
-    ensures served { ServersKeepFiles Y.Own.state W.to_come (ServesEnds P.In.left P.In.faults P.Out.written P.Out.faults) conns
+    ensures served { ServersKeepFiles Y.Own.state W.to_come
+        (ServesEnds P.In.left P.In.faults P.Out.written P.Out.faults) conns
         (Y.state yard.now) (Y.state yard_after.now) (P.state door.now) (P.state door_after.now) }
     ensures unopened { UnopenedKeepFiles (Y.state yard.now) (Y.state yard_after.now) }
 {}

@@ -44,16 +44,23 @@ pub trait Door {
     /// Waits for the next connection. Neither of its ends has counted a fault yet. Returns `None` if the
     /// door takes no more connections.
     fn accept(&mut self) -> Result<Option<Accepted<Self::In, Self::Out, Self::Handle>>, Failed>
-        ensures some { IfOk result (λ next. IfSome next (λ came. state self.new ≡ with_accepted (state self.old) (came.input, came.out))) }
+        ensures some { IfOk result
+            (λ next.
+            IfSome next
+            (λ came. state self.new ≡ with_accepted (state self.old) (came.input, came.out))) }
         ensures closed { result ≡ Ok None → state self.new ≡ with_closed (state self.old) }
         ensures none { OnErr result (state self.new ≡ state self.old) }
-        ensures fresh { IfOk result (λ next. IfSome next (λ came. (Self.In.faults came.input ≡ 0) × (Self.Out.faults came.out ≡ 0))) }
+        ensures fresh { IfOk result
+            (λ next.
+            IfSome next
+            (λ came. (Self.In.faults came.input ≡ 0) × (Self.Out.faults came.out ≡ 0))) }
         ensures cause { HasCause (faults self.old) (faults self.new) result };
 
     /// Takes back both ends of a connection and how it ended. This cannot fail.
     fn leave(&mut self, input: Self::In, out: Self::Out, ended: Ended)
         requires { (state self.old).left < (state self.old).accepted }
-        ensures gone { state self.new ≡ with_left (state self.old) (record { input = input; out = out; ended = ended }) }
+        ensures gone { state self.new ≡
+            with_left (state self.old) (record { input = input; out = out; ended = ended }) }
         ensures faults { faults self.new ≡ faults self.old };
 
     /// No more connections were left than accepted.

@@ -22,7 +22,8 @@ pub trait Yard {
     fn take(&mut self, file: u8) -> Result<Self::Own, Failed>
         requires file { file < 2 }
         requires lies { IsTrue ((state self.old).lies file) }
-        ensures taken { IfOk result (λ own. Taken file (state self.old) (state self.new) (Self.Own.state own)) }
+        ensures taken { IfOk result
+            (λ own. Taken file (state self.old) (state self.new) (Self.Own.state own)) }
         ensures kept { OnErr result (OnlyFaults (state self.old) (state self.new)) }
         ensures cause { HasCause (state self.old).faults (state self.new).faults result };
 

@@ -33,10 +33,12 @@ pub(crate) fn open_keys<Y: Yard>(
     sizes: Sizes,
 ) -> Result<(Kms, Y::Own), StartFault>
     requires lies { IsTrue ((Y.state yard.old).lies 0) }
-    ensures opened { IfOk result (λ opened. KeysOpened Y.Own.state (Y.state yard.old) (Y.state yard.new) opened.1 opened.0) }
+    ensures opened { IfOk result
+        (λ opened. KeysOpened Y.Own.state (Y.state yard.old) (Y.state yard.new) opened.1 opened.0) }
     ensures lists { IfOk result (λ opened. opened.0.acls ≡ acls) }
     ensures queues { IfOk result (λ opened. opened.0.ready ≡ no_queues sizes) }
-    ensures failed { IfErr result (λ fault. KeysNotOpened (Y.state yard.old) (Y.state yard.new) fault) }
+    ensures failed { IfErr result
+        (λ fault. KeysNotOpened (Y.state yard.old) (Y.state yard.new) fault) }
 {
     let Ok(mut disk) = yard.take(KEYS) else {
         drop(acls);
@@ -65,8 +67,11 @@ pub(crate) fn open_names<Y: Yard>(
     requires some { 1 ≤ batch }
     requires most { batch ≤ 1000 }
     requires lies { IsTrue ((Y.state yard.old).lies 1) }
-    ensures opened { IfOk result (λ opened. NamesOpened Y.Own.state batch (Y.state yard.old) (Y.state yard.new) opened.1 opened.0) }
-    ensures failed { IfErr result (λ fault. NamesNotOpened (Y.state yard.old) (Y.state yard.new) fault) }
+    ensures opened { IfOk result
+        (λ opened.
+        NamesOpened Y.Own.state batch (Y.state yard.old) (Y.state yard.new) opened.1 opened.0) }
+    ensures failed { IfErr result
+        (λ fault. NamesNotOpened (Y.state yard.old) (Y.state yard.new) fault) }
 {
     let Ok(mut disk) = yard.take(NAMES) else {
         return Err(StartFault::StoreFault);
@@ -122,8 +127,12 @@ fn open_logs<Y: Yard>(
     ensures keys_run { IfOk result (λ on. RunsOn (Y.Own.state on.keys_disk) on.kms) }
     ensures names_run { IfOk result (λ on. NamesRunOn (Y.Own.state on.names_disk) on.names) }
     ensures no_walks { IfOk result (λ on. on.names.walks ≡ []) }
-    ensures opened { IfOk result (λ on. LogsOpened Y.Own.state acls sizes.now (Y.state yard.old) (Y.state yard.new) on.keys_disk on.kms on.names_disk on.names) }
-    ensures failed { IfErr result (λ fault. LogFails ⊥ (Y.state yard.old) (Y.state yard.new) fault) }
+    ensures opened { IfOk result
+        (λ on.
+        LogsOpened Y.Own.state acls sizes.now (Y.state yard.old) (Y.state yard.new) on.keys_disk
+        on.kms on.names_disk on.names) }
+    ensures failed { IfErr result
+        (λ fault. LogFails ⊥ (Y.state yard.old) (Y.state yard.new) fault) }
 {
     let (kms, keys_disk) = match open_keys(alloc, yard, acls, *sizes) {
         Ok(opened) => opened,
@@ -155,8 +164,14 @@ pub(crate) fn open_services<Y: Yard, W: Words + Drop, C: Clock + Drop>(
 ) -> Result<Opening<Y::Own, W, C>, OpenFault>
     requires keys { IsTrue ((Y.state yard.old).lies 0) }
     requires names { IsTrue ((Y.state yard.old).lies 1) }
-    ensures opened { IfOk result (λ opening. BothOpened Y.Own.state props.now (Y.state yard.old) (Y.state yard.new) words opening.keys.core opening.names opening.disk) }
-    ensures failed { IfErr result (λ fault. LogFails (LacksMemory Y.Own.state props.now (Y.state yard.old) (Y.state yard.new)) (Y.state yard.old) (Y.state yard.new) fault) }
+    ensures opened { IfOk result
+        (λ opening.
+        BothOpened Y.Own.state props.now (Y.state yard.old) (Y.state yard.new) words
+        opening.keys.core opening.names opening.disk) }
+    ensures failed { IfErr result
+        (λ fault.
+        LogFails (LacksMemory Y.Own.state props.now (Y.state yard.old) (Y.state yard.new))
+        (Y.state yard.old) (Y.state yard.new) fault) }
 {
     let Ok(acls) = Acls::from_props(alloc, props) else {
         return Err(OpenFault::NoMemory);

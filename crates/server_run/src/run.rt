@@ -124,7 +124,8 @@ fn serve_opened<
     ensures ran { IfOk result (λ served. (n : NameView D W) × (n.names ≡ opening.names) × (n.disk ≡ opening.disk)
         × RanTo D.state W.to_come (ServesEnds A.In.left A.In.faults A.Out.written A.Out.faults) (V.to_come plan.first) (V.to_come plan.second) plan.port plan.conns (A.state door.old) (A.state door.new) served.1
         opening.keys.core n served.0.keys_disk served.0.names_disk) }
-    ensures cause { IfOk result (λ served. served.1 ≡ ServeEnd.DoorFault → Rose (A.faults door.old) (A.faults door.new)) }
+    ensures cause { IfOk result
+        (λ served. served.1 ≡ ServeEnd.DoorFault → Rose (A.faults door.old) (A.faults door.new)) }
     ensures unserved { IfErr result (λ _. door.new ≡ door.old) }
 {
     match opening.named::<M, R>(rt, alloc) {
@@ -143,7 +144,8 @@ fn serve_opened<
 fn give_both<Y: Yard>(yard: &mut Y, keys: Y::Own, names: Y::Own) -> bool
     requires keys_away { IsFalse ((Y.state yard.old).lies 0) }
     requires names_away { IsFalse ((Y.state yard.old).lies 1) }
-    ensures given { (mid : YardState) × Given 0 (Y.state yard.old) mid (Y.Own.state keys) × Given 1 mid (Y.state yard.new) (Y.Own.state names) }
+    ensures given { (mid : YardState) × Given 0 (Y.state yard.old) mid (Y.Own.state keys) ×
+        Given 1 mid (Y.state yard.new) (Y.Own.state names) }
     ensures failed { DisksFailed result (Y.Own.state keys).faults (Y.Own.state names).faults }
 {
     let keys_failed = yard.give(KEYS, keys);
@@ -198,12 +200,16 @@ pub fn run_server<
 ) -> RunEnd
     requires keys { IsTrue ((Y.state yard.old).lies 0) }
     requires names { IsTrue ((Y.state yard.old).lies 1) }
-    ensures ends { EndsAs Y.Own.state W.to_come (ServesEnds A.In.left A.In.faults A.Out.written A.Out.faults) (V.to_come plan.first) (V.to_come plan.second) props.now words plan.port plan.conns
+    ensures ends { EndsAs Y.Own.state W.to_come
+        (ServesEnds A.In.left A.In.faults A.Out.written A.Out.faults) (V.to_come plan.first)
+        (V.to_come plan.second) props.now words plan.port plan.conns
         (Y.state yard.old) (Y.state yard.new) (A.state door.old) (A.state door.new) result }
     ensures closed { result ≡ RunEnd.Closed → IsTrue (A.state door.new).closed }
     ensures door_fault { result ≡ RunEnd.DoorFault → Rose (A.faults door.old) (A.faults door.new) }
-    ensures store_fault { result ≡ RunEnd.StoreFault → Rose (Y.state yard.old).faults (Y.state yard.new).faults }
-    ensures no_fault { (result ≡ RunEnd.Served) ⊎ (result ≡ RunEnd.Closed) → (Y.state yard.new).faults ≡ (Y.state yard.old).faults }
+    ensures store_fault { result ≡ RunEnd.StoreFault →
+        Rose (Y.state yard.old).faults (Y.state yard.new).faults }
+    ensures no_fault { (result ≡ RunEnd.Served) ⊎ (result ≡ RunEnd.Closed) →
+        (Y.state yard.new).faults ≡ (Y.state yard.old).faults }
 {
     let opening = match open_services(alloc, yard, props, words, clock) {
         Ok(opening) => opening,

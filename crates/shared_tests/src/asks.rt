@@ -53,7 +53,8 @@ fn call<S: Turns, R: Wait + Abort + AllocGlobal>(
     keys: &mut S::Keys,
     call: KmsCall,
 ) -> KmsReply
-    ensures { Got 0 (key_act.Call superuser call) result (S.keys_seen keys.new).number (S.keys_seen keys.new).seen }
+    ensures { Got 0 (key_act.Call superuser call) result (S.keys_seen keys.new).number
+        (S.keys_seen keys.new).seen }
 {
     let user = superuser(rt.alloc()).expect(rt, "memory");
     shared.call_keys(rt, keys, user, call)
@@ -66,7 +67,9 @@ fn call_wanted<S: Turns, R: Wait + Abort + AllocGlobal>(
     keys: &mut S::Keys,
     wanted: Want,
 ) -> KmsReply
-    ensures got { IfWanted (λ q r. Got 0 q r (S.keys_seen keys.new).number (S.keys_seen keys.new).seen) (act_wanted wanted) (Some result) }
+    ensures got { IfWanted
+        (λ q r. Got 0 q r (S.keys_seen keys.new).number (S.keys_seen keys.new).seen)
+        (act_wanted wanted) (Some result) }
     ensures answers { Answers wanted (Some result) }
 {
     match wanted {

@@ -105,7 +105,8 @@ impl Taken {
 fn place(taken: &Vec<Taken>, dir: u64, name: &Text) -> usize
     requires { IsRisingBy snapshot_cmp taken.now.items }
     ensures most { result ≤ length taken.now.items }
-    ensures parted { IsPartitionPoint (λ s. is_lt (snapshot_cmp s (key_of dir name.now)) ≡ true) (λ s. is_lt (snapshot_cmp s (key_of dir name.now)) ≡ false) taken.now.items result }
+    ensures parted { IsPartitionPoint (λ s. is_lt (snapshot_cmp s (key_of dir name.now)) ≡ true)
+        (λ s. is_lt (snapshot_cmp s (key_of dir name.now)) ≡ false) taken.now.items result }
 {
     taken
         .as_slice()
@@ -133,7 +134,8 @@ pub fn find(taken: &Vec<Taken>, dir: u64, name: &Text) -> Option<usize>
 pub fn first_of(taken: &Vec<Taken>, dir: u64) -> usize
     requires { IsRisingBy snapshot_cmp taken.now.items }
     ensures most { result ≤ length taken.now.items }
-    ensures parted { IsPartitionPoint (λ s. nat_lt s.dir dir ≡ true) (λ s. nat_lt s.dir dir ≡ false) taken.now.items result }
+    ensures parted { IsPartitionPoint (λ s. nat_lt s.dir dir ≡ true) (λ s. nat_lt s.dir dir ≡ false)
+        taken.now.items result }
 {
     taken
         .as_slice()
@@ -144,7 +146,8 @@ pub fn first_of(taken: &Vec<Taken>, dir: u64) -> usize
 pub fn end_of(taken: &Vec<Taken>, dir: u64) -> usize
     requires { IsRisingBy snapshot_cmp taken.now.items }
     ensures most { result ≤ length taken.now.items }
-    ensures parted { IsPartitionPoint (λ s. nat_le s.dir dir ≡ true) (λ s. nat_le s.dir dir ≡ false) taken.now.items result }
+    ensures parted { IsPartitionPoint (λ s. nat_le s.dir dir ≡ true) (λ s. nat_le s.dir dir ≡ false)
+        taken.now.items result }
 {
     taken
         .as_slice()
@@ -164,7 +167,10 @@ pub fn holds(taken: &Vec<Taken>, tree: &Tree, path: &NPath) -> bool
 pub fn root_of(taken: &Vec<Taken>, roots: &Vec<u32>, dir: u64, name: &Text) -> Option<u32>
     requires rising { IsRisingBy snapshot_cmp taken.now.items }
     requires count { length roots.now.items ≡ length taken.now.items }
-    ensures rows { (nodes : List FrozenNode) → option_map (rows_from nodes) result ≡ option_map (λ s. s.rows) (snapshot_named (snapshots_of nodes taken.now.items roots.now.items) dir name.now) }
+    ensures rows { (nodes : List FrozenNode) →
+        option_map (rows_from nodes) result ≡
+        option_map (λ s. s.rows)
+        (snapshot_named (snapshots_of nodes taken.now.items roots.now.items) dir name.now) }
     ensures within { (n : ℕ) → AllBelow n roots.now.items → IfSome result (λ root. root < n) }
 {
     match find(taken, dir, name) {
@@ -195,8 +201,11 @@ pub fn newest_root(taken: &Vec<Taken>, roots: &Vec<u32>, dir: u64) -> u32
 pub fn reserve_place(taken: &mut Vec<Taken>, roots: &mut Vec<u32>) -> Result<(), NoMemory>
     ensures taken { taken.new.items ≡ taken.old.items }
     ensures roots { roots.new.items ≡ roots.old.items }
-    ensures ok { OnOk result ((vec_len taken.new < vec_capacity taken.new) × (vec_len roots.new < vec_capacity roots.new)) }
-    ensures room { vec_len taken.old < vec_capacity taken.old → vec_len roots.old < vec_capacity roots.old → IsOk result }
+    ensures ok { OnOk result
+        ((vec_len taken.new < vec_capacity taken.new) ×
+        (vec_len roots.new < vec_capacity roots.new)) }
+    ensures room { vec_len taken.old < vec_capacity taken.old →
+        vec_len roots.old < vec_capacity roots.old → IsOk result }
 {
     taken.reserve(1)?;
     roots.reserve(1)?;
@@ -208,8 +217,13 @@ pub fn put_reserved(taken: &mut Vec<Taken>, roots: &mut Vec<u32>, snapshot: Take
     requires rising { IsRisingBy snapshot_cmp taken.old.items }
     requires count { length roots.old.items ≡ length taken.old.items }
     requires free { snapshot_named taken.old.items snapshot.dir snapshot.name ≡ None }
-    requires room { (vec_len taken.old < vec_capacity taken.old) × (vec_len roots.old < vec_capacity roots.old) }
-    ensures snapshots { (nodes : List FrozenNode) → snapshots_of nodes taken.new.items roots.new.items ≡ put_snapshot (record { dir = snapshot.dir; name = snapshot.name; rows = rows_from nodes root }) (snapshots_of nodes taken.old.items roots.old.items) }
+    requires room { (vec_len taken.old < vec_capacity taken.old) ×
+        (vec_len roots.old < vec_capacity roots.old) }
+    ensures snapshots { (nodes : List FrozenNode) →
+        snapshots_of nodes taken.new.items roots.new.items ≡
+        put_snapshot
+        (record { dir = snapshot.dir; name = snapshot.name; rows = rows_from nodes root })
+        (snapshots_of nodes taken.old.items roots.old.items) }
     ensures count { length roots.new.items ≡ length taken.new.items }
     ensures below { (n : ℕ) → root < n → AllBelow n roots.old.items → AllBelow n roots.new.items }
 {
@@ -222,7 +236,9 @@ pub fn put_reserved(taken: &mut Vec<Taken>, roots: &mut Vec<u32>, snapshot: Take
 pub fn remove(taken: &mut Vec<Taken>, roots: &mut Vec<u32>, dir: u64, name: &Text) -> usize
     requires rising { IsRisingBy snapshot_cmp taken.old.items }
     requires count { length roots.old.items ≡ length taken.old.items }
-    ensures snapshots { (nodes : List FrozenNode) → snapshots_of nodes taken.new.items roots.new.items ≡ without_snapshot (snapshots_of nodes taken.old.items roots.old.items) dir name.now }
+    ensures snapshots { (nodes : List FrozenNode) →
+        snapshots_of nodes taken.new.items roots.new.items ≡
+        without_snapshot (snapshots_of nodes taken.old.items roots.old.items) dir name.now }
     ensures count { length roots.new.items ≡ length taken.new.items }
     ensures below { (n : ℕ) → AllBelow n roots.old.items → AllBelow n roots.new.items }
 {

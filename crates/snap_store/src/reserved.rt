@@ -34,7 +34,10 @@ impl Reserved {
     /// Reserves the memory for a snapshot of the directory with the id. The nodes are unchanged.
     pub fn reserve(&mut self, forest: &mut Forest, tree: &Tree, dir: u64) -> Result<(), NoMemory>
         ensures same { forest.new.nodes ≡ forest.old.nodes }
-        ensures ok { OnOk result (IsRoomFor (record { path = self.new.path; nodes = forest.new.room; copies = self.new.buffer }) tree.now.rows dir) }
+        ensures ok { OnOk result
+            (IsRoomFor
+            (record { path = self.new.path; nodes = forest.new.room; copies = self.new.buffer })
+            tree.now.rows dir) }
     {
         let _count = tree.rows();
         match tree.row(dir) {
@@ -63,11 +66,14 @@ impl Reserved {
         near: u32,
     ) -> Result<FrozenRows, NoMemory>
         requires { IsSome (entry_of tree.now.rows dir) }
-        ensures rows { IfOk result (λ taken. rows_from forest.new.nodes taken.root ≡ frozen tree.now.rows dir) }
+        ensures rows { IfOk result
+            (λ taken. rows_from forest.new.nodes taken.root ≡ frozen tree.now.rows dir) }
         ensures within { IfOk result (λ taken. taken.root < length forest.new.nodes) }
         ensures others { KeepsNodes forest.old.nodes forest.new.nodes }
         ensures err { OnErr result (forest.new.nodes ≡ forest.old.nodes) }
-        ensures room { IsRoomFor (record { path = self.old.path; nodes = forest.old.room; copies = self.old.buffer }) tree.now.rows dir → IsOk result }
+        ensures room { IsRoomFor
+            (record { path = self.old.path; nodes = forest.old.room; copies = self.old.buffer })
+            tree.now.rows dir → IsOk result }
     {
         let _count = tree.rows();
         let kept = mem::replace(&mut self.path, None);
@@ -78,7 +84,8 @@ impl Reserved {
 
 /// Returns whether the path is that of the row with the id.
 fn is_path_of(tree: &Tree, dir: u64, path: &NPath) -> bool
-    ensures { IsTrue result ↔ (option_map (λ e. e.path) (entry_of tree.now.rows dir) ≡ Some path.now) }
+    ensures { IsTrue result ↔
+        (option_map (λ e. e.path) (entry_of tree.now.rows dir) ≡ Some path.now) }
 {
     let above = tree.at_or_above(dir, path);
     let below = tree.at_or_below(dir, path);
@@ -88,7 +95,8 @@ fn is_path_of(tree: &Tree, dir: u64, path: &NPath) -> bool
 /// Returns the path of the row with the id, and does not allocate if it is the given path.
 fn path_for(path: Option<NPath>, tree: &Tree, dir: u64) -> Result<NPath, NoMemory>
     requires { IsSome (entry_of tree.now.rows dir) }
-    ensures path { IfOk result (λ path. option_map (λ e. e.path) (entry_of tree.now.rows dir) ≡ Some path) }
+    ensures path { IfOk result
+        (λ path. option_map (λ e. e.path) (entry_of tree.now.rows dir) ≡ Some path) }
     ensures given { path ≡ option_map (λ e. e.path) (entry_of tree.now.rows dir) → IsOk result }
 {
     match path {

@@ -31,7 +31,8 @@ pub const MOST_SNAPSHOTS: u32 = 65_536;
 fn place_id(ids: &Vec<u64>, id: u64) -> usize
     requires { IsRisingBy nat_cmp ids.now.items }
     ensures most { result ≤ length ids.now.items }
-    ensures parted { IsPartitionPoint (λ i. nat_lt i id ≡ true) (λ i. nat_lt i id ≡ false) ids.now.items result }
+    ensures parted { IsPartitionPoint (λ i. nat_lt i id ≡ true) (λ i. nat_lt i id ≡ false)
+        ids.now.items result }
 {
     ids.as_slice().partition_point(|other| *other < id)
 }
@@ -41,7 +42,8 @@ fn find_id(ids: &Vec<u64>, id: u64) -> Option<usize>
     requires { IsRisingBy nat_cmp ids.now.items }
     ensures within { IfSome result (λ at. at < length ids.now.items) }
     ensures found { is_some result ≡ is_among ids.now.items id }
-    ensures rest { option_map_or (λ at. remove ids.now.items at) result ids.now.items ≡ without_id id ids.now.items }
+    ensures rest { option_map_or (λ at. remove ids.now.items at) result ids.now.items ≡
+        without_id id ids.now.items }
 {
     let at = place_id(ids, id);
     if at == ids.len() {
@@ -94,7 +96,9 @@ fn remove_below(ids: &mut Vec<u64>, tree: &Tree, path: &NPath)
 /// allocation fails.
 fn give_back(forest: &mut Forest, roots: &mut Vec<u32>, loose: usize) -> usize
     requires { AllBelow (length forest.old.nodes) roots.old.items }
-    ensures snapshots { (keys : List Snapshot) → snapshots_of forest.new.nodes keys roots.new.items ≡ snapshots_of forest.old.nodes keys roots.old.items }
+    ensures snapshots { (keys : List Snapshot) →
+        snapshots_of forest.new.nodes keys roots.new.items ≡
+        snapshots_of forest.old.nodes keys roots.old.items }
     ensures count { length roots.new.items ≡ length roots.old.items }
     ensures below { AllBelow (length forest.new.nodes) roots.new.items }
     ensures reached { result < loose → AllReached 0 forest.new.nodes roots.new.items }
@@ -168,7 +172,8 @@ impl Model for Snaps {
 
     ghost view = { λ snaps. record { table = record { allowed = snaps.allowed.items; taken = snapshots_of snaps.forest.nodes snaps.taken.items snaps.roots.items }; room = record { ids = vec_capacity snaps.allowed - vec_len snaps.allowed; snapshots = min (vec_capacity snaps.taken - vec_len snaps.taken) (vec_capacity snaps.roots - vec_len snaps.roots); rows = record { path = snaps.reserved.path; nodes = snaps.forest.room; copies = snaps.reserved.buffer }; name = snaps.name } } };
 
-    ghost invariant = { λ snaps. IsStored snaps.forest.nodes snaps.allowed.items snaps.taken.items snaps.roots.items };
+    ghost invariant = { λ snaps.
+        IsStored snaps.forest.nodes snaps.allowed.items snaps.taken.items snaps.roots.items };
 }
 
 impl Snaps {
@@ -222,7 +227,8 @@ impl Snaps {
     /// this before the rows are removed from the tree. It does not allocate.
     pub fn disallow_below(&mut self, tree: &Tree, path: &NPath)
         requires { holds_snapshot tree.now.rows self.old.table.taken path.now ≡ false }
-        ensures { self.new.table ≡ table_after_disallow_below tree.now.rows path.now self.old.table }
+        ensures { self.new.table ≡
+            table_after_disallow_below tree.now.rows path.now self.old.table }
     {
         remove_below(&mut self.allowed, tree, path);
     }
@@ -239,9 +245,11 @@ impl Snaps {
         requires allowed { IsTrue (is_among self.old.table.allowed dir) }
         requires free { snapshot_named self.old.table.taken dir name.now ≡ None }
         requires room { count_of self.old.table.taken dir < 65536 }
-        ensures ok { OnOk result (self.new.table ≡ table_after_take tree.now.rows dir name.now self.old.table) }
+        ensures ok { OnOk result
+            (self.new.table ≡ table_after_take tree.now.rows dir name.now self.old.table) }
         ensures err { OnErr result (self.new.table ≡ self.old.table) }
-        ensures others { (d : ℕ) (n : List ℕ) → is_named dir name.now (key_of d n) ≡ false → snapshot_named self.new.table.taken d n ≡ snapshot_named self.old.table.taken d n }
+        ensures others { (d : ℕ) (n : List ℕ) → is_named dir name.now (key_of d n) ≡ false →
+            snapshot_named self.new.table.taken d n ≡ snapshot_named self.old.table.taken d n }
         ensures spare { IsReady self.old.room tree.now.rows dir name.now → IsOk result }
     {
         let kept = mem::replace(&mut self.name, None);
@@ -273,7 +281,8 @@ impl Snaps {
     /// it allocates memory for the others; if that fails, all nodes stay until a later removal.
     pub fn remove(&mut self, dir: u64, name: &Text)
         ensures table { self.new.table ≡ table_after_remove dir name.now self.old.table }
-        ensures others { (d : ℕ) (n : List ℕ) → is_named dir name.now (key_of d n) ≡ false → snapshot_named self.new.table.taken d n ≡ snapshot_named self.old.table.taken d n }
+        ensures others { (d : ℕ) (n : List ℕ) → is_named dir name.now (key_of d n) ≡ false →
+            snapshot_named self.new.table.taken d n ≡ snapshot_named self.old.table.taken d n }
     {
         let rows = remove(&mut self.taken, &mut self.roots, dir, name);
         let loose = self.loose.saturating_add(rows);
@@ -284,7 +293,8 @@ impl Snaps {
     /// there is no such snapshot, or it has no row at the path. The empty path gives the row of the
     /// directory itself, which every snapshot has.
     pub fn look(&self, dir: u64, name: &Text, below: &NPath) -> Option<Row>
-        ensures own { below.now ≡ [] → is_some result ≡ is_some (snapshot_named self.now.table.taken dir name.now) }
+        ensures own { below.now ≡ [] →
+            is_some result ≡ is_some (snapshot_named self.now.table.taken dir name.now) }
         ensures row { result ≡ row_at (rows_in self.now.table.taken dir name.now) below.now }
     {
         match root_of(&self.taken, &self.roots, dir, name) {
@@ -296,7 +306,8 @@ impl Snaps {
     /// Returns the children of a directory of a snapshot. Returns `None` if and only if there is no
     /// such snapshot, or it has no directory at the path.
     pub fn list(&self, dir: u64, name: &Text, below: &NPath) -> Result<Option<ChildList>, NoMemory>
-        ensures { IfOk result (λ list. list ≡ list_in (rows_in self.now.table.taken dir name.now) below.now) }
+        ensures { IfOk result
+            (λ list. list ≡ list_in (rows_in self.now.table.taken dir name.now) below.now) }
     {
         match root_of(&self.taken, &self.roots, dir, name) {
             Some(root) => self.forest.list(root, below),
@@ -356,7 +367,8 @@ impl Snaps {
     /// Returns the name of the snapshot of a directory at index `at` in byte order, from 0. Returns
     /// `None` if there are no more.
     pub fn name_at(&self, dir: u64, at: u32) -> Option<&Text>
-        ensures { option_map (λ name. name.now) result ≡ slice_get (names_of self.now.table.taken dir) at }
+        ensures { option_map (λ name. name.now) result ≡
+            slice_get (names_of self.now.table.taken dir) at }
     {
         let first = first_of(&self.taken, dir);
         let end = end_of(&self.taken, dir);
@@ -405,7 +417,8 @@ impl Snaps {
 
 /// Returns whether the row with the id is strictly above the path.
 fn is_above(tree: &Tree, id: u64, path: &NPath) -> bool
-    ensures { result ≡ (at_or_above tree.now.rows id path.now && not (at_or_below tree.now.rows id path.now)) }
+    ensures { result ≡
+        (at_or_above tree.now.rows id path.now && not (at_or_below tree.now.rows id path.now)) }
 {
     let above = tree.at_or_above(id, path);
     let below = tree.at_or_below(id, path);
@@ -414,7 +427,8 @@ fn is_above(tree: &Tree, id: u64, path: &NPath) -> bool
 
 /// Returns whether the row with the id is strictly below the path.
 fn is_below(tree: &Tree, id: u64, path: &NPath) -> bool
-    ensures { result ≡ (at_or_below tree.now.rows id path.now && not (at_or_above tree.now.rows id path.now)) }
+    ensures { result ≡
+        (at_or_below tree.now.rows id path.now && not (at_or_above tree.now.rows id path.now)) }
 {
     let above = tree.at_or_above(id, path);
     let below = tree.at_or_below(id, path);

@@ -62,7 +62,8 @@ pub trait Turns {
         user: Text,
         call: KmsCall,
     ) -> KmsReply
-        ensures { KeysMakeOne state to_come (keys_seen pass.old) (key_act.Call user call) (key_acted.Call result) (keys_seen pass.new) };
+        ensures { KeysMakeOne state to_come (keys_seen pass.old) (key_act.Call user call)
+            (key_acted.Call result) (keys_seen pass.new) };
 
     /// Makes a call of a user to the namesystem.
     fn call_names<R: Wait>(
@@ -72,7 +73,8 @@ pub trait Turns {
         user: Text,
         call: NameCall,
     ) -> NameReply
-        ensures { Makes state to_come (names_seen pass.old) (act.Call user call) (acted.Call result) (names_seen pass.new) };
+        ensures { Makes state to_come (names_seen pass.old) (act.Call user call) (acted.Call result)
+            (names_seen pass.new) };
 
     /// Opens an ask of a user.
     fn ask_names<R: Wait>(
@@ -82,7 +84,8 @@ pub trait Turns {
         user: Text,
         ask: Ask,
     ) -> Result<AskNote, NameRefusal>
-        ensures { Makes state to_come (names_seen pass.old) (act.Ask user ask) (acted.Ask result) (names_seen pass.new) };
+        ensures { Makes state to_come (names_seen pass.old) (act.Ask user ask) (acted.Ask result)
+            (names_seen pass.new) };
 
     /// Finishes an ask that wanted no call. The pass must have seen its note.
     fn finish_names<R: Wait>(
@@ -91,9 +94,11 @@ pub trait Turns {
         pass: &mut Self::Names,
         answered: Answered,
     ) -> Result<(), NameRefusal>
-        requires seen { (note : ANote) × HasNote note (names_seen pass.old).seen × IsAnswered note answered }
+        requires seen { (note : ANote) × HasNote note (names_seen pass.old).seen ×
+            IsAnswered note answered }
         requires alone { answered.reply ≡ None }
-        ensures { Makes state to_come (names_seen pass.old) (act.Finish answered) (acted.Finish result) (names_seen pass.new) };
+        ensures { Makes state to_come (names_seen pass.old) (act.Finish answered)
+            (acted.Finish result) (names_seen pass.new) };
 
     /// Finishes an ask with the reply to the call that its note wants. The pass must have seen the note, and `keys` must
     /// have got the reply. `keys` is met into the pass that the namesystem keeps.
@@ -104,9 +109,12 @@ pub trait Turns {
         keys: Self::Keys,
         answered: Answered,
     ) -> Result<(), NameRefusal>
-        requires seen { (note : ANote) × HasNote note (names_seen pass.old).seen × IsAnswered note answered }
-        requires got { (note : ANote) × HasNote note (names_seen pass.old).seen × GotForNote note answered (keys_seen keys) }
-        ensures { MakesMeeting state to_come (names_seen pass.old) (keys_seen keys) (act.Finish answered) (acted.Finish result) (names_seen pass.new) };
+        requires seen { (note : ANote) × HasNote note (names_seen pass.old).seen ×
+            IsAnswered note answered }
+        requires got { (note : ANote) × HasNote note (names_seen pass.old).seen ×
+            GotForNote note answered (keys_seen keys) }
+        ensures { MakesMeeting state to_come (names_seen pass.old) (keys_seen keys)
+            (act.Finish answered) (acted.Finish result) (names_seen pass.new) };
 
     /// Fills a low queue of ready keys, if there is one: takes a ticket, passes the gate, and then deposits keys that
     /// are drawn from `words` and sealed with the ticket.
@@ -117,7 +125,8 @@ pub trait Turns {
         words: &mut V,
         gate: &G,
     ) -> FillTurn
-        ensures { FillsTurn state to_come (V.to_come words.old) (V.to_come words.new) (keys_seen pass.old) result (keys_seen pass.new) };
+        ensures { FillsTurn state to_come (V.to_come words.old) (V.to_come words.new)
+            (keys_seen pass.old) result (keys_seen pass.new) };
 
     /// Takes the next batch of a zone that is being re-encrypted, and lends a pass with which it is served. If there is
     /// no memory for the pass, nothing is walked.
@@ -127,7 +136,10 @@ pub trait Turns {
         pass: &mut Self::Names,
         zone: NPath,
     ) -> Result<Lent<Self::Keys>, NoMemory>
-        ensures lent { IfOk result (λ lent. LendsTurn state to_come (names_seen pass.old) zone lent.walked lent.front (names_seen pass.new) (keys_seen lent.keys)) }
+        ensures lent { IfOk result
+            (λ lent.
+            LendsTurn state to_come (names_seen pass.old) zone lent.walked lent.front
+            (names_seen pass.new) (keys_seen lent.keys)) }
         ensures none { IfErr result (λ _. names_seen pass.new ≡ names_seen pass.old) };
 
     /// Passes the gate, and has a batch re-encrypted: calls the key management service as `hdfs`. If there is no memory
@@ -154,17 +166,20 @@ pub trait Turns {
         gate: &G,
     ) -> Result<Delivered, NameRefusal>
         requires got { GotForBatch front reply (keys_seen keys) }
-        ensures { MakesMeeting state to_come (names_seen names.old) (keys_seen keys) (act.Deliver front reply) (acted.Deliver result) (names_seen names.new) };
+        ensures { MakesMeeting state to_come (names_seen names.old) (keys_seen keys)
+            (act.Deliver front reply) (acted.Deliver result) (names_seen names.new) };
 
     /// Returns the number of entries that a pass of the key management service has seen. They are a legal history.
     fn count_keys(&self, pass: &Self::Keys) -> u64
         ensures count { result ≡ length (keys_seen pass.now).seen }
-        ensures legal { LegalOf (KmsSteps state to_come) KmsAllows (keys_seen pass.now).start (keys_seen pass.now).seen };
+        ensures legal { LegalOf (KmsSteps state to_come) KmsAllows (keys_seen pass.now).start
+            (keys_seen pass.now).seen };
 
     /// Returns the number of entries that a pass of the namesystem has seen. They are a legal history.
     fn count_names(&self, pass: &Self::Names) -> u64
         ensures count { result ≡ length (names_seen pass.now).seen }
-        ensures legal { LegalOf (NameSteps state to_come) NameAllows (names_seen pass.now).start (names_seen pass.now).seen };
+        ensures legal { LegalOf (NameSteps state to_come) NameAllows (names_seen pass.now).start
+            (names_seen pass.now).seen };
 
     /// Creates a pass of the key management service with a new number, which has seen what the old one has.
     fn split_keys<R: Wait>(&self, rt: &R, pass: &mut Self::Keys) -> Self::Keys

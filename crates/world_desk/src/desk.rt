@@ -47,10 +47,14 @@ impl<'a, D, W, C> WorldDesk<'a, D, W, C> {
         words: &'a mut W,
         clock: &'a mut C,
     ) -> WorldDesk<'a, D, W, C>
-        ensures world { (result.world.ghost_name ≡ world.entry.ghost_name) × (result.world.now ≡ world.old) }
-        ensures disk { (result.disk.ghost_name ≡ disk.entry.ghost_name) × (result.disk.now ≡ disk.old) }
-        ensures words { (result.words.ghost_name ≡ words.entry.ghost_name) × (result.words.now ≡ words.old) }
-        ensures clock { (result.clock.ghost_name ≡ clock.entry.ghost_name) × (result.clock.now ≡ clock.old) }
+        ensures world { (result.world.ghost_name ≡ world.entry.ghost_name) ×
+            (result.world.now ≡ world.old) }
+        ensures disk { (result.disk.ghost_name ≡ disk.entry.ghost_name) ×
+            (result.disk.now ≡ disk.old) }
+        ensures words { (result.words.ghost_name ≡ words.entry.ghost_name) ×
+            (result.words.now ≡ words.old) }
+        ensures clock { (result.clock.ghost_name ≡ clock.entry.ghost_name) ×
+            (result.clock.now ≡ clock.old) }
     {
         WorldDesk {
             alloc,
@@ -63,7 +67,8 @@ impl<'a, D, W, C> WorldDesk<'a, D, W, C> {
 }
 
 impl<'a, D: Disk, W: Words, C: Clock> Desk for WorldDesk<'a, D, W, C> {
-    ghost ready = { λ d. IsReady D.state (record { disk = d.disk.now; world = d.world.now; words = d.words.now }) };
+    ghost ready = { λ d.
+        IsReady D.state (record { disk = d.disk.now; world = d.world.now; words = d.words.now }) };
 
     ghost answers = { λ old user done new. ((new.world.ghost_name ≡ old.world.ghost_name) × ((new.disk.ghost_name ≡ old.disk.ghost_name) × ((new.words.ghost_name ≡ old.words.ghost_name) × (new.clock.ghost_name ≡ old.clock.ghost_name))))
         × Happens D.state W.to_come (record { disk = old.disk.now; world = old.world.now; words = old.words.now }) user done (record { disk = new.disk.now; world = new.world.now; words = new.words.now }) };
@@ -89,17 +94,28 @@ fn serve_desk<'a, S: Source, K: Sink, D: Disk, W: Words, C: Clock>(
     sink: &mut K,
     desk: &mut WorldDesk<'a, D, W, C>,
 ) -> Ended
-    requires { IsReady D.state (record { disk = desk.old.disk.now; world = desk.old.world.now; words = desk.old.words.now }) }
+    requires { IsReady D.state
+        (record {
+          disk = desk.old.disk.now;
+          world = desk.old.world.now;
+          words = desk.old.words.now;
+        }) }
     ensures served { (unused : List ℕ) × Served (Happens D.state W.to_come)
         (record { ahead = S.left source.old; desk = record { disk = desk.old.disk.now; world = desk.old.world.now; words = desk.old.words.now }; written = K.written sink.old })
         (record { ahead = ahead unused (S.left source.new); desk = record { disk = desk.new.disk.now; world = desk.new.world.now; words = desk.new.words.now }; written = K.written sink.new }) result }
-    ensures ready { IsReady D.state (record { disk = desk.new.disk.now; world = desk.new.world.now; words = desk.new.words.now }) }
+    ensures ready { IsReady D.state
+        (record {
+          disk = desk.new.disk.now;
+          world = desk.new.world.now;
+          words = desk.new.words.now;
+        }) }
     ensures world { desk.new.world.ghost_name ≡ desk.old.world.ghost_name }
     ensures disk { desk.new.disk.ghost_name ≡ desk.old.disk.ghost_name }
     ensures words { desk.new.words.ghost_name ≡ desk.old.words.ghost_name }
     ensures clock { desk.new.clock.ghost_name ≡ desk.old.clock.ghost_name }
     ensures read_later { S.faults source.old ≤ S.faults source.new }
-    ensures read_fault { result ≡ Ended.ReadFault → Rose (S.faults source.old) (S.faults source.new) }
+    ensures read_fault { result ≡ Ended.ReadFault →
+        Rose (S.faults source.old) (S.faults source.new) }
     ensures write_later { K.faults sink.old ≤ K.faults sink.new }
     ensures write_fault { result ≡ Ended.WriteFault → Rose (K.faults sink.old) (K.faults sink.new) }
 {
@@ -130,10 +146,12 @@ pub fn serve_world<S: Source, K: Sink, D: Disk, W: Words, C: Clock>(
     ensures served { (unused : List ℕ) × Served (Happens D.state W.to_come)
         (record { ahead = S.left source.old; desk = record { disk = disk.old; world = world.old; words = words.old }; written = K.written sink.old })
         (record { ahead = ahead unused (S.left source.new); desk = record { disk = disk.new; world = world.new; words = words.new }; written = K.written sink.new }) result }
-    ensures ready { IsReady D.state (record { disk = disk.new; world = world.new; words = words.new }) }
+    ensures ready { IsReady D.state
+        (record { disk = disk.new; world = world.new; words = words.new }) }
 
     ensures read_later { S.faults source.old ≤ S.faults source.new }
-    ensures read_fault { result ≡ Ended.ReadFault → Rose (S.faults source.old) (S.faults source.new) }
+    ensures read_fault { result ≡ Ended.ReadFault →
+        Rose (S.faults source.old) (S.faults source.new) }
     ensures write_later { K.faults sink.old ≤ K.faults sink.new }
     ensures write_fault { result ≡ Ended.WriteFault → Rose (K.faults sink.old) (K.faults sink.new) }
 {

@@ -24,10 +24,15 @@ pub(crate) fn answer<D: Disk, W: Words>(
     now: u64,
     event: Event,
 ) -> Line
-    requires ready { IsReady D.state (record { disk = disk.old; world = world.old; words = words.old }) }
+    requires ready { IsReady D.state
+        (record { disk = disk.old; world = world.old; words = words.old }) }
     requires goes_on { (file : ℕ) → is_restart event file → ⊥ }
-    ensures leads { (lines : List PropLine) → AreListsOf world.old.keys.acls lines → Leads D.state W.to_come lines now (record { disk = disk.old; world = world.old; words = words.old }) event result (record { disk = disk.new; world = world.new; words = words.new }) }
-    ensures ready { IsReady D.state (record { disk = disk.new; world = world.new; words = words.new }) }
+    ensures leads { (lines : List PropLine) → AreListsOf world.old.keys.acls lines →
+        Leads D.state W.to_come lines now
+        (record { disk = disk.old; world = world.old; words = words.old }) event result
+        (record { disk = disk.new; world = world.new; words = words.new }) }
+    ensures ready { IsReady D.state
+        (record { disk = disk.new; world = world.new; words = words.new }) }
 {
     match world.step(disk, words, now, event) {
         Ok(line) => line,
@@ -62,10 +67,15 @@ fn carry_out<D: Disk, W: Words>(
     now: u64,
     first: Event,
 ) -> NameReply
-    requires ready { IsReady D.state (record { disk = disk.old; world = world.old; words = words.old }) }
+    requires ready { IsReady D.state
+        (record { disk = disk.old; world = world.old; words = words.old }) }
     requires goes_on { (file : ℕ) → is_restart first file → ⊥ }
-    ensures carries { (lines : List PropLine) → AreListsOf world.old.keys.acls lines → Carries (Leads D.state W.to_come lines now) first (record { disk = disk.old; world = world.old; words = words.old }) result (record { disk = disk.new; world = world.new; words = words.new }) }
-    ensures ready { IsReady D.state (record { disk = disk.new; world = world.new; words = words.new }) }
+    ensures carries { (lines : List PropLine) → AreListsOf world.old.keys.acls lines →
+        Carries (Leads D.state W.to_come lines now) first
+        (record { disk = disk.old; world = world.old; words = words.old }) result
+        (record { disk = disk.new; world = world.new; words = words.new }) }
+    ensures ready { IsReady D.state
+        (record { disk = disk.new; world = world.new; words = words.new }) }
 {
     let mut event = first;
     'events: loop {
@@ -84,9 +94,14 @@ fn drive<D: Disk, W: Words>(
     now: u64,
     zone: Option<&NPath>,
 )
-    requires ready { IsReady D.state (record { disk = disk.old; world = world.old; words = words.old }) }
-    ensures drives { (lines : List PropLine) → AreListsOf world.old.keys.acls lines → DrivesOn D.state W.to_come lines now (option_map (λ path. path.now) zone.entry) (record { disk = disk.old; world = world.old; words = words.old }) (record { disk = disk.new; world = world.new; words = words.new }) }
-    ensures ready { IsReady D.state (record { disk = disk.new; world = world.new; words = words.new }) }
+    requires ready { IsReady D.state
+        (record { disk = disk.old; world = world.old; words = words.old }) }
+    ensures drives { (lines : List PropLine) → AreListsOf world.old.keys.acls lines →
+        DrivesOn D.state W.to_come lines now (option_map (λ path. path.now) zone.entry)
+        (record { disk = disk.old; world = world.old; words = words.old })
+        (record { disk = disk.new; world = world.new; words = words.new }) }
+    ensures ready { IsReady D.state
+        (record { disk = disk.new; world = world.new; words = words.new }) }
 {
     match zone {
         None => {}
@@ -106,9 +121,15 @@ pub(crate) fn answer_order<D: Disk, W: Words>(
     user: Text,
     order: &NameOrder,
 ) -> NameReply
-    requires ready { IsReady D.state (record { disk = disk.old; world = world.old; words = words.old }) }
-    ensures passes { (lines : List PropLine) → AreListsOf world.old.keys.acls lines → Passes D.state W.to_come lines now (record { disk = disk.old; world = world.old; words = words.old }) user (OfNames order.now result) (record { disk = disk.new; world = world.new; words = words.new }) }
-    ensures ready { IsReady D.state (record { disk = disk.new; world = world.new; words = words.new }) }
+    requires ready { IsReady D.state
+        (record { disk = disk.old; world = world.old; words = words.old }) }
+    ensures passes { (lines : List PropLine) → AreListsOf world.old.keys.acls lines →
+        Passes D.state W.to_come lines now
+        (record { disk = disk.old; world = world.old; words = words.old }) user
+        (OfNames order.now result)
+        (record { disk = disk.new; world = world.new; words = words.new }) }
+    ensures ready { IsReady D.state
+        (record { disk = disk.new; world = world.new; words = words.new }) }
 {
     let Ok(first) = first_event(alloc, user, order) else {
         return NameReply::Refused(NameRefusal::NoMemory);

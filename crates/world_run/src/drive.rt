@@ -119,9 +119,13 @@ impl World {
         now: u64,
         zone: &NPath,
     ) -> Result<Walked, NameRefusal>
-        requires stands { Tells (D.state disk.old) → ((done : Acknowledged) × HoldsLogs (D.state disk.old) self.old done) }
+        requires stands { Tells (D.state disk.old) →
+            ((done : Acknowledged) × HoldsLogs (D.state disk.old) self.old done) }
         requires lists { (lines : List PropLine) × AreListsOf self.old.keys.acls lines }
-        ensures { (lines : List PropLine) → AreListsOf self.old.keys.acls lines → Drives D.state W.to_come lines now zone.now (record { disk = disk.old; world = self.old; words = words.old }) result (record { disk = disk.new; world = self.new; words = words.new }) }
+        ensures { (lines : List PropLine) → AreListsOf self.old.keys.acls lines →
+            Drives D.state W.to_come lines now zone.now
+            (record { disk = disk.old; world = self.old; words = words.old }) result
+            (record { disk = disk.new; world = self.new; words = words.new }) }
     {
         self.fits();
         let alloc = self.alloc();
@@ -155,9 +159,12 @@ impl World {
         now: u64,
         event: Event,
     ) -> Line
-        requires stands { Tells (D.state disk.old) → ((done : Acknowledged) × HoldsLogs (D.state disk.old) self.old done) }
+        requires stands { Tells (D.state disk.old) →
+            ((done : Acknowledged) × HoldsLogs (D.state disk.old) self.old done) }
         requires goes_on { (file : ℕ) → is_restart event file → ⊥ }
-        ensures steps { (lines : List PropLine) → AreListsOf self.old.keys.acls lines → Steps lines (D.state disk.old) (D.state disk.new) self.old (W.to_come words.old) now event result self.new (W.to_come words.new) }
+        ensures steps { (lines : List PropLine) → AreListsOf self.old.keys.acls lines →
+            Steps lines (D.state disk.old) (D.state disk.new) self.old (W.to_come words.old) now
+            event result self.new (W.to_come words.new) }
         ensures fits { ServicesFit (world_of self.new) }
     {
         match self.step(disk, words, now, event) {

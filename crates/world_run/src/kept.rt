@@ -93,7 +93,8 @@ fn batch_reply_of(reply: &KeptReply) -> Option<&BatchReply>
 /// Returns the reply with a number, if it is to the call for a batch. Returns `None` if there is no
 /// such reply, or if it is to an ask.
 pub fn batch_answered(replies: &Vec<KeptReply>, number: u32) -> Option<&BatchReply>
-    ensures { option_map (λ reply. reply.now) result ≡ option_and_then batch_reply_of (numbered replies.now.items number) }
+    ensures { option_map (λ reply. reply.now) result ≡
+        option_and_then batch_reply_of (numbered replies.now.items number) }
 {
     match reply_numbered(replies, number) {
         None => None,

@@ -19,7 +19,8 @@ impl RenamePaths {
     /// found before any memory is taken.
     pub fn read(alloc: Global, path: &ByteList, to: &ByteList) -> Result<RenamePaths, PathFault>
         ensures ok { IfOk result (λ paths. read_rename_paths path.now to.now ≡ Some paths) }
-        ensures bad { (result ≡ Err PathFault.BadPath) ↔ (read_rename_paths path.now to.now ≡ None) }
+        ensures bad { (result ≡ Err PathFault.BadPath) ↔
+            (read_rename_paths path.now to.now ≡ None) }
     {
         if !is_path(to.as_slice()) {
             return Err(PathFault::BadPath);

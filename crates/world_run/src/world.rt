@@ -63,7 +63,17 @@ impl Model for World {
 
     ghost Value = { RunningWorld };
 
-    ghost view = { λ a. record { keys = a.keys; names = a.names; kept = record { tickets = a.tickets.items; notes = a.notes.items; batches = a.batches.items; replies = a.replies.items } } };
+    ghost view = { λ a.
+        record {
+          keys = a.keys;
+          names = a.names;
+          kept = record {
+            tickets = a.tickets.items;
+            notes = a.notes.items;
+            batches = a.batches.items;
+            replies = a.replies.items;
+          };
+        } };
 
     ghost invariant = { λ a. a.superuser ≡ calls.superuser };
 }
@@ -106,7 +116,8 @@ impl World {
     pub fn start<D: Disk>(alloc: Global, disk: &mut D, props: &Props) -> Result<World, WorldFault>
         ensures began { IfOk result (Begins props.now.sizes (D.state disk.old) (D.state disk.new)) }
         ensures lists { IfOk result (λ world. AreListsOf world.keys.acls props.now.lines) }
-        ensures opens { OpensBoth (D.state disk.old) (D.state disk.new) (λ file fault. IsErrOf result (record { file = file; fault = fault })) }
+        ensures opens { OpensBoth (D.state disk.old) (D.state disk.new)
+            (λ file fault. IsErrOf result (record { file = file; fault = fault })) }
     {
         let (user, acls) = match beside_logs(alloc, props) {
             Ok(made) => made,
@@ -164,7 +175,8 @@ impl World {
         now: u64,
         event: Event,
     ) -> Result<Line, WorldFault>
-        requires stands { Tells (D.state disk.old) → ((done : Acknowledged) × HoldsLogs (D.state disk.old) self.old done) }
+        requires stands { Tells (D.state disk.old) →
+            ((done : Acknowledged) × HoldsLogs (D.state disk.old) self.old done) }
         ensures { MatchResult result
             (λ line. (lines : List PropLine) → AreListsOf self.old.keys.acls lines → Steps lines (D.state disk.old) (D.state disk.new) self.old (W.to_come words.old) now event line self.new (W.to_come words.new))
             (λ fault. Fails (D.state disk.old) (D.state disk.new) self.old (W.to_come words.old) event fault.file fault.fault self.new (W.to_come words.new)) }
@@ -204,7 +216,8 @@ impl World {
         now: u64,
         event: Event,
     ) -> Result<Line, WorldFault>
-        requires stands { Tells (D.state disk.old) → ((done : Acknowledged) × HoldsLogs (D.state disk.old) self.old done) }
+        requires stands { Tells (D.state disk.old) →
+            ((done : Acknowledged) × HoldsLogs (D.state disk.old) self.old done) }
         ensures { MatchResult result
             (λ line. (lines : List PropLine) → AreListsOf self.old.keys.acls lines → Happens lines (D.state disk.old) (D.state disk.new) self.old (W.to_come words.old) now event line self.new (W.to_come words.new))
             (λ fault. Fails (D.state disk.old) (D.state disk.new) self.old (W.to_come words.old) event fault.file fault.fault self.new (W.to_come words.new)) }
@@ -232,7 +245,8 @@ impl World {
     /// Opens the key log again, and goes on with the keys that it finds and with the same lists. If it
     /// fails, nothing changes except the disk.
     fn restart_keys<D: Disk>(&mut self, disk: &mut D) -> Result<Line, WorldFault>
-        requires stands { Tells (D.state disk.old) → ((done : Acknowledged) × HoldsLogs (D.state disk.old) self.old done) }
+        requires stands { Tells (D.state disk.old) →
+            ((done : Acknowledged) × HoldsLogs (D.state disk.old) self.old done) }
         ensures { MatchResult result
             (λ line. (lines : List PropLine) (words : ℕ → ℕ) (now : ℕ) → Happens lines (D.state disk.old) (D.state disk.new) self.old words now event.RestartKms line self.new words)
             (λ fault. (words : ℕ → ℕ) → Fails (D.state disk.old) (D.state disk.new) self.old words event.RestartKms fault.file fault.fault self.new words) }
@@ -249,7 +263,8 @@ impl World {
     /// Opens the edit log again, and goes on with the rows that it finds. No ask is open then. If it
     /// fails, nothing changes except the disk.
     fn restart_names<D: Disk>(&mut self, disk: &mut D) -> Result<Line, WorldFault>
-        requires stands { Tells (D.state disk.old) → ((done : Acknowledged) × HoldsLogs (D.state disk.old) self.old done) }
+        requires stands { Tells (D.state disk.old) →
+            ((done : Acknowledged) × HoldsLogs (D.state disk.old) self.old done) }
         ensures { MatchResult result
             (λ line. (lines : List PropLine) (words : ℕ → ℕ) (now : ℕ) → Happens lines (D.state disk.old) (D.state disk.new) self.old words now event.RestartName line self.new words)
             (λ fault. (words : ℕ → ℕ) → Fails (D.state disk.old) (D.state disk.new) self.old words event.RestartName fault.file fault.fault self.new words) }

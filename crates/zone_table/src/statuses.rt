@@ -46,7 +46,11 @@ impl Model for Statuses {
 
     ghost Value = { StatusesState };
 
-    ghost view = { λ statuses. record { rows = statuses.rows.items; spare = vec_capacity statuses.rows - vec_len statuses.rows } };
+    ghost view = { λ statuses.
+        record {
+          rows = statuses.rows.items;
+          spare = vec_capacity statuses.rows - vec_len statuses.rows;
+        } };
 }
 
 fn is_of(row: &StatusRow, zone: u64) -> bool
@@ -187,7 +191,8 @@ impl Statuses {
 
     /// Returns whether this zone is being re-encrypted under this session. It does not allocate.
     pub fn zone_goes_on_under(&self, zone: u64, session: u64) -> bool
-        ensures { result ≡ option_map_or (goes_on_under session) (status_of self.now.rows zone) false }
+        ensures { result ≡
+            option_map_or (goes_on_under session) (status_of self.now.rows zone) false }
     {
         match self.get(zone) {
             Some(row) => goes_on_under(row, session),
@@ -218,7 +223,8 @@ impl Statuses {
     /// Returns `NoMemory` if allocation fails; the statuses are then unchanged. It can't fail if there
     /// is room for one more.
     pub fn submit(&mut self, zone: u64, session: u64, noted: VersionName) -> Result<(), NoMemory>
-        ensures ok { OnOk result (self.new.rows ≡ with_status (new_status zone session noted) self.old.rows) }
+        ensures ok { OnOk result
+            (self.new.rows ≡ with_status (new_status zone session noted) self.old.rows) }
         ensures err { OnErr result (self.new.rows ≡ self.old.rows) }
         ensures room { need_status ≤ self.old.spare → IsOk result }
     {

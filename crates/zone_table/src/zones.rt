@@ -35,7 +35,8 @@ impl Model for Zones {
 
     ghost Value = { ZoneState };
 
-    ghost view = { λ zones. record { rows = by_directory zones.keys.entries; spare = spare zones.keys } };
+    ghost view = { λ zones.
+        record { rows = by_directory zones.keys.entries; spare = spare zones.keys } };
 
     ghost invariant = { λ zones. IsUnique nat_eq zones.keys };
 }
@@ -106,7 +107,8 @@ impl Zones {
     /// the zones are then unchanged. It can't fail if there is room for one more.
     pub fn add(&mut self, dir: u64, key: KeyName) -> Result<(), NoMemory>
         requires { zone_row self.old.rows dir ≡ None }
-        ensures ok { OnOk result (self.new.rows ≡ put_zone (record { dir = dir; key = key }) self.old.rows) }
+        ensures ok { OnOk result
+            (self.new.rows ≡ put_zone (record { dir = dir; key = key }) self.old.rows) }
         ensures err { OnErr result (self.new.rows ≡ self.old.rows) }
         ensures room { need_add dir key ≤ self.old.spare → IsOk result }
     {

@@ -65,9 +65,13 @@ impl MemDisk {
     ) -> Result<MemDisk, AllocError>
         requires first { length first.items ≤ 2 ^ 62 }
         requires second { length second.items ≤ 2 ^ 62 }
-        ensures files { IfOk result (λ d. now_of d ≡ record { first = fresh_file first.items; second = fresh_file second.items }) }
+        ensures files { IfOk result
+            (λ d. now_of d ≡
+            record { first = fresh_file first.items; second = fresh_file second.items }) }
         ensures past { IfOk result (λ d. past_of d ≡ []) }
-        ensures plan { IfOk result (λ d. plan_of d ≡ record { failing = failing.items; made = 0; faults = 0; shortages = 0 }) }
+        ensures plan { IfOk result
+            (λ d. plan_of d ≡
+            record { failing = failing.items; made = 0; faults = 0; shortages = 0 }) }
     {
         Ok(MemDisk {
             alloc,
@@ -120,8 +124,11 @@ impl MemDisk {
     /// Replaces a file and records the moment before.
     fn put(&mut self, file: u8, next: Kept) -> Result<(), AllocError>
         requires { file < 2 }
-        ensures ok { OnOk result (Put file (file_at next) (now_of self.old) (now_of self.new) (past_of self.old) (past_of self.new)) }
-        ensures err { OnErr result (Left (now_of self.old) (now_of self.new) (past_of self.old) (past_of self.new)) }
+        ensures ok { OnOk result
+            (Put file (file_at next) (now_of self.old) (now_of self.new) (past_of self.old)
+            (past_of self.new)) }
+        ensures err { OnErr result
+            (Left (now_of self.old) (now_of self.new) (past_of self.old) (past_of self.new)) }
         ensures plan { plan_of self.new ≡ plan_of self.old }
     {
         self.past.push(self.current.copy(self.alloc)?)?;
@@ -140,9 +147,16 @@ impl MemDisk {
         requires place { at ≤ length ((the_file (now_of self.old) file).reads) }
         requires part { length part.now ≤ size }
         ensures limit { OnOk result (at + size ≤ 2 ^ 62) }
-        ensures ok { let old = the_file (now_of self.old) file in OnOk result (Put file (record { reads = written at part.now old.reads; synced = old.synced; changes = old.changes ++ Written at size ∷ [] })
+        ensures ok { let old = the_file (now_of self.old) file in OnOk result
+            (Put file
+            (record {
+              reads = written at part.now old.reads;
+              synced = old.synced;
+              changes = old.changes ++ Written at size ∷ [];
+            })
             (now_of self.old) (now_of self.new) (past_of self.old) (past_of self.new)) }
-        ensures err { OnErr result (Left (now_of self.old) (now_of self.new) (past_of self.old) (past_of self.new)) }
+        ensures err { OnErr result
+            (Left (now_of self.old) (now_of self.new) (past_of self.old) (past_of self.new)) }
         ensures plan { plan_of self.new ≡ plan_of self.old }
     {
         if at > LONGEST_FILE || size > LONGEST_FILE - at {
@@ -167,9 +181,16 @@ impl MemDisk {
     fn cut_to(&mut self, file: u8, size: u64) -> Result<(), AllocError>
         requires file { file < 2 }
         requires place { size ≤ length ((the_file (now_of self.old) file).reads) }
-        ensures ok { let old = the_file (now_of self.old) file in OnOk result (Put file (record { reads = take size old.reads; synced = old.synced; changes = old.changes ++ CutTo size ∷ [] })
+        ensures ok { let old = the_file (now_of self.old) file in OnOk result
+            (Put file
+            (record {
+              reads = take size old.reads;
+              synced = old.synced;
+              changes = old.changes ++ CutTo size ∷ [];
+            })
             (now_of self.old) (now_of self.new) (past_of self.old) (past_of self.new)) }
-        ensures err { OnErr result (Left (now_of self.old) (now_of self.new) (past_of self.old) (past_of self.new)) }
+        ensures err { OnErr result
+            (Left (now_of self.old) (now_of self.new) (past_of self.old) (past_of self.new)) }
         ensures plan { plan_of self.new ≡ plan_of self.old }
     {
         let old = self.current.file(file);
@@ -190,8 +211,11 @@ impl MemDisk {
     /// Marks the content of a file as synced. If allocation fails, nothing changes.
     fn make_synced(&mut self, file: u8) -> Result<(), AllocError>
         requires { file < 2 }
-        ensures ok { OnOk result (Put file (fresh_file ((the_file (now_of self.old) file).reads)) (now_of self.old) (now_of self.new) (past_of self.old) (past_of self.new)) }
-        ensures err { OnErr result (Left (now_of self.old) (now_of self.new) (past_of self.old) (past_of self.new)) }
+        ensures ok { OnOk result
+            (Put file (fresh_file ((the_file (now_of self.old) file).reads)) (now_of self.old)
+            (now_of self.new) (past_of self.old) (past_of self.new)) }
+        ensures err { OnErr result
+            (Left (now_of self.old) (now_of self.new) (past_of self.old) (past_of self.new)) }
         ensures plan { plan_of self.new ≡ plan_of self.old }
     {
         let bytes = self.current.file(file).reads.to_vec(self.alloc)?;
@@ -225,14 +249,16 @@ impl Disk for MemDisk {
 
     ghost bounded = { λ d f tells lt. within d f lt };
 
-    ghost later_leaves_less = { λ d s t c le left. since_earlier (now_of d) (past_of d) s t c (Prim.omega arith) left };
+    ghost later_leaves_less = { λ d s t c le left.
+        since_earlier (now_of d) (past_of d) s t c (Prim.omega arith) left };
 
     fn len(&mut self, file: u8) -> Result<u64, Failed>
         requires { file < 2 }
         ensures listed { IsErr result ↔ NextFails (plan_of self.old) }
         ensures plan { CallMade (plan_of self.old) (plan_of self.new) result }
         ensures size { IfOk result (λ n. n ≡ length (reads_of self.old file)) }
-        ensures kept { Left (now_of self.old) (now_of self.new) (past_of self.old) (past_of self.new) }
+        ensures kept { Left (now_of self.old) (now_of self.new) (past_of self.old)
+            (past_of self.new) }
         ensures call { CallOn file (state_of self.old) (state_of self.new) }
     {
         match self.plan.call() {
@@ -246,10 +272,12 @@ impl Disk for MemDisk {
         requires place { at ≤ length (reads_of self.old file) }
         ensures listed { IsErr result ↔ NextFails (plan_of self.old) }
         ensures plan { CallMade (plan_of self.old) (plan_of self.new) result }
-        ensures count { IfOk result (λ n. n ≡ min (length buf.new) (length (reads_of self.old file) - at)) }
+        ensures count { IfOk result
+            (λ n. n ≡ min (length buf.new) (length (reads_of self.old file) - at)) }
         ensures bytes { IfOk result (λ n. take n buf.new ≡ piece at n (reads_of self.old file)) }
         ensures rest { IfOk result (λ n. drop n buf.new ≡ drop n buf.old) }
-        ensures kept { Left (now_of self.old) (now_of self.new) (past_of self.old) (past_of self.new) }
+        ensures kept { Left (now_of self.old) (now_of self.new) (past_of self.old)
+            (past_of self.new) }
         ensures call { CallOn file (state_of self.old) (state_of self.new) }
     {
         self.plan.call()?;
@@ -260,11 +288,16 @@ impl Disk for MemDisk {
         requires file { file < 2 }
         requires place { at ≤ length (reads_of self.old file) }
         ensures plan { FollowsPlan (plan_of self.old) (plan_of self.new) result }
-        ensures written { OnOk result (reads_of self.new file ≡ written at bytes.now (reads_of self.old file)) }
-        ensures torn { OnErr result (Torn at (length bytes.now) (reads_of self.old file) (reads_of self.new file)) }
+        ensures written { OnOk result
+            (reads_of self.new file ≡ written at bytes.now (reads_of self.old file)) }
+        ensures torn { OnErr result
+            (Torn at (length bytes.now) (reads_of self.old file) (reads_of self.new file)) }
         ensures limit { OnOk result (at + length bytes.now ≤ 2 ^ 62) }
-        ensures kept { ¬ NextFails (plan_of self.old) → OnErr result (Left (now_of self.old) (now_of self.new) (past_of self.old) (past_of self.new)) }
-        ensures crash { Follows (Torn at (length bytes.now)) (leaves_of self.old file) (leaves_of self.new file) }
+        ensures kept { ¬ NextFails (plan_of self.old) →
+            OnErr result
+            (Left (now_of self.old) (now_of self.new) (past_of self.old) (past_of self.new)) }
+        ensures crash { Follows (Torn at (length bytes.now)) (leaves_of self.old file)
+            (leaves_of self.new file) }
         ensures call { CallOn file (state_of self.old) (state_of self.new) }
     {
         let size = bytes.len() as u64;
@@ -284,7 +317,8 @@ impl Disk for MemDisk {
         requires file { file < 2 }
         requires place { len ≤ length (reads_of self.old file) }
         ensures plan { FollowsPlan (plan_of self.old) (plan_of self.new) result }
-        ensures kept { OnErr result (Left (now_of self.old) (now_of self.new) (past_of self.old) (past_of self.new)) }
+        ensures kept { OnErr result
+            (Left (now_of self.old) (now_of self.new) (past_of self.old) (past_of self.new)) }
         ensures cut { OnOk result (reads_of self.new file ≡ take len (reads_of self.old file)) }
         ensures torn { OnErr result (Cut len (reads_of self.old file) (reads_of self.new file)) }
         ensures crash { Follows (Cut len) (leaves_of self.old file) (leaves_of self.new file) }
@@ -300,7 +334,8 @@ impl Disk for MemDisk {
     fn sync(&mut self, file: u8) -> Result<(), Failed>
         requires { file < 2 }
         ensures plan { FollowsPlan (plan_of self.old) (plan_of self.new) result }
-        ensures kept { OnErr result (Left (now_of self.old) (now_of self.new) (past_of self.old) (past_of self.new)) }
+        ensures kept { OnErr result
+            (Left (now_of self.old) (now_of self.new) (past_of self.old) (past_of self.new)) }
         ensures durable { OnOk result (Only (reads_of self.old file) (leaves_of self.new file)) }
         ensures same { Reads file (state_of self.old) (state_of self.new) }
         ensures call { CallOn file (state_of self.old) (state_of self.new) }

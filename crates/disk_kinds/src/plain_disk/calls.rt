@@ -44,7 +44,8 @@ impl PlainDisk {
         requires file { file < 2 }
         requires place { at ≤ length (contents self.old file) }
         requires limit { at + length bytes.now ≤ 2 ^ 62 }
-        ensures written { OnOk result (contents self.new file ≡ written at bytes.now (contents self.old file)) }
+        ensures written { OnOk result
+            (contents self.new file ≡ written at bytes.now (contents self.old file)) }
         ensures other { contents self.new (1 - file) ≡ contents self.old (1 - file) }
         ensures same { OnErr result (contents self.new file ≡ contents self.old file) }
         ensures grows { OnErr result (length (contents self.old file) < at + length bytes.now) }
@@ -117,14 +118,18 @@ impl Disk for PlainDisk {
     fn write_at(&mut self, file: u8, at: u64, bytes: &[u8]) -> Result<(), Failed>
         requires file { file < 2 }
         requires place { at ≤ length (contents self.old file) }
-        ensures written { OnOk result (contents self.new file ≡ written at bytes.now (contents self.old file)) }
+        ensures written { OnOk result
+            (contents self.new file ≡ written at bytes.now (contents self.old file)) }
         ensures other { contents self.new (1 - file) ≡ contents self.old (1 - file) }
         ensures limit { OnOk result (at + length bytes.now ≤ 2 ^ 62) }
         ensures grows { OnErr result (length (contents self.old file) < at + length bytes.now) }
         ensures kept { OnErr result (contents self.new file ≡ contents self.old file) }
-        ensures faults { MatchResult result (λ _. faults_of self.new ≡ faults_of self.old) (λ _. faults_of self.new ≡ counted (faults_of self.old)) }
-        ensures torn { OnErr result (Torn at (length bytes.now) (contents self.old file) (contents self.new file)) }
-        ensures crash { Follows (Torn at (length bytes.now)) ((state_of self.old).leaves file) ((state_of self.new).leaves file) }
+        ensures faults { MatchResult result (λ _. faults_of self.new ≡ faults_of self.old)
+            (λ _. faults_of self.new ≡ counted (faults_of self.old)) }
+        ensures torn { OnErr result
+            (Torn at (length bytes.now) (contents self.old file) (contents self.new file)) }
+        ensures crash { Follows (Torn at (length bytes.now)) ((state_of self.old).leaves file)
+            ((state_of self.new).leaves file) }
         ensures call { CallOn file (state_of self.old) (state_of self.new) }
     {
         let size = bytes.len() as u64;

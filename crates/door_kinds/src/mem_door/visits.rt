@@ -38,7 +38,8 @@ impl MemDoor {
     ) -> Result<MemDoor, AllocError>
         ensures state { IfOk result (λ door. mem_door_state door ≡ known_door None [] []) }
         ensures faults { IfOk result (λ door. mem_door_faults door ≡ 0) }
-        ensures clients { IfOk result (λ door. to_come door ≡ map (λ (c : MemClient). c.sends.items) clients.items) }
+        ensures clients { IfOk result
+            (λ door. to_come door ≡ map (λ (c : MemClient). c.sends.items) clients.items) }
     {
         Ok(MemDoor {
             alloc,
@@ -74,7 +75,8 @@ impl MemDoor {
 
     /// Connects the next client. Counts no fault.
     fn next(&mut self) -> Result<(MemSource, MemSink), Failed>
-        ensures some { IfOk result (λ ends. mem_door_state self.new ≡ with_accepted (mem_door_state self.old) ends) }
+        ensures some { IfOk result
+            (λ ends. mem_door_state self.new ≡ with_accepted (mem_door_state self.old) ends) }
         ensures none { OnErr result (mem_door_state self.new ≡ mem_door_state self.old) }
         ensures client { IfOk result (λ ends. to_come self.old ≡ ends.0.left ∷ to_come self.new) }
         ensures input { IfOk result (λ ends. ends.0.plan.faults ≡ 0) }
@@ -115,7 +117,9 @@ impl Door for MemDoor {
 
     ghost faults = { mem_door_faults };
 
-    ghost no_more_left = { λ d. Prim.omega (arith, d.order, length-map d.gone.items left_of, length-map d.came.items came_of) };
+    ghost no_more_left = { λ d.
+        Prim.omega
+        (arith, d.order, length-map d.gone.items left_of, length-map d.came.items came_of) };
 
     fn open(&mut self, port: u16) -> Result<(), Failed> {
         match self.plan.call() {
@@ -128,13 +132,21 @@ impl Door for MemDoor {
     }
 
     fn accept(&mut self) -> Result<Option<Accepted<MemSource, MemSink, MemHandle>>, Failed>
-        ensures some { IfOk result (λ next. IfSome next (λ came. mem_door_state self.new ≡ with_accepted (mem_door_state self.old) (came.input, came.out))) }
-        ensures closed { result ≡ Ok None → mem_door_state self.new ≡ with_closed (mem_door_state self.old) }
+        ensures some { IfOk result
+            (λ next.
+            IfSome next
+            (λ came. mem_door_state self.new ≡
+            with_accepted (mem_door_state self.old) (came.input, came.out))) }
+        ensures closed { result ≡ Ok None →
+            mem_door_state self.new ≡ with_closed (mem_door_state self.old) }
         ensures none { OnErr result (mem_door_state self.new ≡ mem_door_state self.old) }
-        ensures fresh { IfOk result (λ next. IfSome next (λ came. (came.input.plan.faults ≡ 0) × (came.out.plan.faults ≡ 0))) }
+        ensures fresh { IfOk result
+            (λ next.
+            IfSome next (λ came. (came.input.plan.faults ≡ 0) × (came.out.plan.faults ≡ 0))) }
         ensures cause { HasCause (mem_door_faults self.old) (mem_door_faults self.new) result }
         ensures never_closed { IfOk result (λ next. IsSome next) }
-        ensures client { IfOk result (λ next. IfSome next (λ came. to_come self.old ≡ came.input.left ∷ to_come self.new)) }
+        ensures client { IfOk result
+            (λ next. IfSome next (λ came. to_come self.old ≡ came.input.left ∷ to_come self.new)) }
     {
         match self.next() {
             Ok((input, out)) => Ok(Some(Accepted {

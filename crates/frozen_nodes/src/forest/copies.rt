@@ -98,7 +98,11 @@ impl Forest {
         requires few { length kids.now ≤ 4294967295 }
         requires room { HasRoom 1 (length kids.now) 255 self.old.room }
         requires name_room { 256 ≤ vec_capacity name.old }
-        ensures row { (row : Row) → option_map (λ e. e.row) (slice_get tree.now.rows at) ≡ Some row → rows_from self.new.nodes result ≡ rows_of_node self.old.nodes (record { name = last_name (path_at tree.now.rows at); row = row; kids = kids.now }) }
+        ensures row { (row : Row) →
+            option_map (λ e. e.row) (slice_get tree.now.rows at) ≡ Some row →
+            rows_from self.new.nodes result ≡
+            rows_of_node self.old.nodes
+            (record { name = last_name (path_at tree.now.rows at); row = row; kids = kids.now }) }
         ensures within { result < length self.new.nodes }
         ensures name { (node_at self.new.nodes result).name ≡ last_name (path_at tree.now.rows at) }
         ensures others { KeepsNodes self.old.nodes self.new.nodes }
@@ -130,10 +134,12 @@ impl Forest {
         requires room { HasRoomUpTo at end self.old.room }
         requires kids_room { vec_len kids.old + end ≤ vec_capacity kids.old + at }
         requires name_room { 256 ≤ vec_capacity name.old }
-        ensures copy { IsCopy tree.now.rows at end depth self.old.nodes self.new.nodes result.node result.next }
+        ensures copy { IsCopy tree.now.rows at end depth self.old.nodes self.new.nodes result.node
+            result.next }
         ensures spent { IsSpent at result.next self.old.room self.new.room }
         ensures kids { kids.new.items ≡ kids.old.items }
-        ensures kids_room { (vec_len kids.new ≡ vec_len kids.old) × (vec_capacity kids.old ≤ vec_capacity kids.new) }
+        ensures kids_room { (vec_len kids.new ≡ vec_len kids.old) ×
+            (vec_capacity kids.old ≤ vec_capacity kids.new) }
         ensures name_room { 256 ≤ vec_capacity name.new }
     {
         let _count = tree.rows();

@@ -64,7 +64,10 @@ impl Forest {
     fn kid_place(&self, kids: &[u32], name: &Text) -> usize
         requires { AreNamedInOrder self.now.nodes kids.now }
         ensures most { result ≤ length kids.now }
-        ensures parted { IsPartitionPoint (λ k. is_lt (slice_cmp nat_cmp (node_at self.now.nodes k).name name.now) ≡ true) (λ k. is_lt (slice_cmp nat_cmp (node_at self.now.nodes k).name name.now) ≡ false) kids.now result }
+        ensures parted { IsPartitionPoint
+            (λ k. is_lt (slice_cmp nat_cmp (node_at self.now.nodes k).name name.now) ≡ true)
+            (λ k. is_lt (slice_cmp nat_cmp (node_at self.now.nodes k).name name.now) ≡ false)
+            kids.now result }
     {
         kids.partition_point(|kid| self.is_named_before(*kid, name))
     }
@@ -118,7 +121,8 @@ impl Forest {
     /// Returns the kids of a node as children.
     fn children(&self, n: u32) -> Result<ChildList, NoMemory>
         requires { n < length self.now.nodes }
-        ensures { IfOk result (λ list. list ≡ map (child_at self.now.nodes) (node_at self.now.nodes n).kids) }
+        ensures { IfOk result
+            (λ list. list ≡ map (child_at self.now.nodes) (node_at self.now.nodes n).kids) }
     {
         self.invariants();
         let mut list = ChildList::new(self.alloc);
@@ -132,7 +136,11 @@ impl Forest {
     /// Returns the kids of a node as children, if its row is that of a directory.
     fn list_of(&self, n: u32) -> Result<Option<ChildList>, NoMemory>
         requires { n < length self.now.nodes }
-        ensures { IfOk result (λ list. list ≡ (if is_dir (node_at self.now.nodes n).row.kind then Some (map (child_at self.now.nodes) (node_at self.now.nodes n).kids) else None)) }
+        ensures { IfOk result
+            (λ list. list ≡
+            (if is_dir (node_at self.now.nodes n).row.kind
+            then Some (map (child_at self.now.nodes) (node_at self.now.nodes n).kids)
+            else None)) }
     {
         if !self.row(n).kind.is_dir() {
             return Ok(None);
@@ -157,7 +165,10 @@ impl Forest {
     /// directory at the path. Returns `NoMemory` if allocation fails.
     pub fn list(&self, root: u32, path: &NPath) -> Result<Option<ChildList>, NoMemory>
         requires { root < length self.now.nodes }
-        ensures { IfOk result (λ list. list ≡ (if is_dir_at (row_at (rows_from self.now.nodes root) path.now) then Some (children (rows_from self.now.nodes root) path.now) else None)) }
+        ensures { IfOk result
+            (λ list. list ≡
+            (if is_dir_at (row_at (rows_from self.now.nodes root) path.now)
+            then Some (children (rows_from self.now.nodes root) path.now) else None)) }
     {
         self.invariants();
         match self.node_below(root, path) {
@@ -183,7 +194,8 @@ impl Forest {
     /// marked directory at or above the path. Returns `None` if there is none.
     pub fn zone_in(&self, root: u32, path: &NPath) -> Option<u8>
         requires { root < length self.now.nodes }
-        ensures { result ≡ option_map (λ e. length e.path) (zone_of (rows_from self.now.nodes root) path.now) }
+        ensures { result ≡
+            option_map (λ e. length e.path) (zone_of (rows_from self.now.nodes root) path.now) }
     {
         self.invariants();
         let mut zone = None;

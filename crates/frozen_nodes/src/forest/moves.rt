@@ -27,7 +27,8 @@ fn set_number(numbers: &mut Vec<Option<u32>>, n: u32, number: u32)
 /// Returns a list that has no number for any node.
 fn no_numbers(alloc: Global, count: usize) -> Result<Vec<Option<u32>>, NoMemory>
     ensures count { IfOk result (λ numbers. length numbers.items ≡ count) }
-    ensures none { IfOk result (λ numbers. (k m : ℕ) → slice_get numbers.items k ≡ Some (Some m) → ⊥) }
+    ensures none { IfOk result
+        (λ numbers. (k m : ℕ) → slice_get numbers.items k ≡ Some (Some m) → ⊥) }
 {
     let mut numbers = Vec::new(alloc);
     'fill: for place in 0..count {
@@ -50,11 +51,14 @@ impl Forest {
         requires node { n < length self.now.nodes }
         requires count { length numbers.old.items ≡ length self.now.nodes }
         requires numbered { AreNumbers self.now.nodes to.old.nodes numbers.old.items }
-        requires kids { AllMoved self.now.nodes to.old.nodes (node_at self.now.nodes n).kids (drop start stack.old.items) }
-        ensures moves { IfOk result (λ m. MovesNode self.now.nodes to.old.nodes to.new.nodes numbers.new.items n m) }
+        requires kids { AllMoved self.now.nodes to.old.nodes (node_at self.now.nodes n).kids
+            (drop start stack.old.items) }
+        ensures moves { IfOk result
+            (λ m. MovesNode self.now.nodes to.old.nodes to.new.nodes numbers.new.items n m) }
         ensures number { IfOk result (λ m. m ≡ length to.old.nodes) }
         ensures one { OnOk result (length to.new.nodes ≡ length to.old.nodes + 1) }
-        ensures own { IfOk result (λ m. (node_at to.new.nodes m).kids ≡ drop start stack.old.items) }
+        ensures own { IfOk result
+            (λ m. (node_at to.new.nodes m).kids ≡ drop start stack.old.items) }
         ensures stack { OnOk result (stack.new.items ≡ take start stack.old.items) }
     {
         self.invariants();
@@ -78,8 +82,10 @@ impl Forest {
         requires node { n < length self.now.nodes }
         requires count { length numbers.old.items ≡ length self.now.nodes }
         requires numbered { AreNumbers self.now.nodes to.old.nodes numbers.old.items }
-        ensures moves { IfOk result (λ m. MovesNode self.now.nodes to.old.nodes to.new.nodes numbers.new.items n m) }
-        ensures reached { IfOk result (λ m. AllReached (length to.old.nodes) to.new.nodes (m ∷ [])) }
+        ensures moves { IfOk result
+            (λ m. MovesNode self.now.nodes to.old.nodes to.new.nodes numbers.new.items n m) }
+        ensures reached { IfOk result
+            (λ m. AllReached (length to.old.nodes) to.new.nodes (m ∷ [])) }
         ensures stack { OnOk result (stack.new.items ≡ stack.old.items) }
     {
         self.invariants();
@@ -100,7 +106,8 @@ impl Forest {
     fn move_roots(&self, to: &mut Forest, roots: &[u32]) -> Result<Vec<u32>, NoMemory>
         requires empty { to.old.nodes ≡ [] }
         requires within { AllBelow (length self.now.nodes) roots.now }
-        ensures moved { IfOk result (λ moved. AllMoved self.now.nodes to.new.nodes roots.now moved.items) }
+        ensures moved { IfOk result
+            (λ moved. AllMoved self.now.nodes to.new.nodes roots.now moved.items) }
         ensures reached { IfOk result (λ moved. AllReached 0 to.new.nodes moved.items) }
     {
         let mut numbers = no_numbers(self.alloc, self.len())?;
@@ -119,9 +126,11 @@ impl Forest {
     /// then unchanged.
     pub fn keep(&mut self, roots: &mut Vec<u32>) -> Result<(), NoMemory>
         requires { AllBelow (length self.old.nodes) roots.old.items }
-        ensures ok { OnOk result (AllMoved self.old.nodes self.new.nodes roots.old.items roots.new.items) }
+        ensures ok { OnOk result
+            (AllMoved self.old.nodes self.new.nodes roots.old.items roots.new.items) }
         ensures reached { OnOk result (AllReached 0 self.new.nodes roots.new.items) }
-        ensures err { OnErr result ((self.new.nodes ≡ self.old.nodes) × (roots.new.items ≡ roots.old.items)) }
+        ensures err { OnErr result
+            ((self.new.nodes ≡ self.old.nodes) × (roots.new.items ≡ roots.old.items)) }
     {
         let mut kept = Forest::new(self.alloc);
         let moved = self.move_roots(&mut kept, roots.as_slice())?;

@@ -23,14 +23,19 @@ fn cut(pieces: &mut Vec<Piece>, starts: &mut Vec<u32>, extra: &mut Vec<Piece>, i
     requires starts { starts.old.items ≡ starts_of 0 pieces.old.items }
     requires empty { AreEmpty extra.old.items }
     requires within { i ≤ length (flat pieces.old.items) }
-    requires room { (vec_len pieces.old < vec_capacity pieces.old) × (vec_len starts.old < vec_capacity starts.old) × (0 < length extra.old.items) }
+    requires room { (vec_len pieces.old < vec_capacity pieces.old) ×
+        (vec_len starts.old < vec_capacity starts.old) × (0 < length extra.old.items) }
     requires count { length (flat pieces.old.items) ≤ 1000000 }
     ensures starts { starts.new.items ≡ starts_of 0 pieces.new.items }
     ensures empty { AreEmpty extra.new.items }
     ensures flat { flat pieces.new.items ≡ flat pieces.old.items }
     ensures cut { IsCut pieces.new.items result i }
     ensures kept { (k j : ℕ) → IsCut pieces.old.items k j → j ≤ i → IsCut pieces.new.items k j }
-    ensures room { (vec_len pieces.new ≤ vec_len pieces.old + 1) × (vec_capacity pieces.new ≡ vec_capacity pieces.old) × (vec_len starts.new ≤ vec_len starts.old + 1) × (vec_capacity starts.new ≡ vec_capacity starts.old) × (length extra.old.items ≤ length extra.new.items + 1) }
+    ensures room { (vec_len pieces.new ≤ vec_len pieces.old + 1) ×
+        (vec_capacity pieces.new ≡ vec_capacity pieces.old) ×
+        (vec_len starts.new ≤ vec_len starts.old + 1) ×
+        (vec_capacity starts.new ≡ vec_capacity starts.old) ×
+        (length extra.old.items ≤ length extra.new.items + 1) }
 {
     if i == 0 {
         return 0;
@@ -109,7 +114,8 @@ fn swap(
     requires starts { starts.old.items ≡ starts_of 0 pieces.old.items }
     requires empty { AreEmpty extra.old.items }
     requires runs { (a ≤ b) × (b ≤ c) × (c ≤ length (flat pieces.old.items)) }
-    requires room { (vec_len pieces.old + 3 ≤ vec_capacity pieces.old) × (vec_len starts.old + 3 ≤ vec_capacity starts.old) × (3 ≤ length extra.old.items) }
+    requires room { (vec_len pieces.old + 3 ≤ vec_capacity pieces.old) ×
+        (vec_len starts.old + 3 ≤ vec_capacity starts.old) × (3 ≤ length extra.old.items) }
     requires count { length (flat pieces.old.items) ≤ 1000000 }
     ensures starts { starts.new.items ≡ starts_of 0 pieces.new.items }
     ensures empty { AreEmpty extra.new.items }

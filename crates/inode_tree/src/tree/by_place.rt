@@ -34,7 +34,8 @@ impl Tree {
     /// Returns whether the path of the row at a place is the path or lies below it.
     pub fn place_is_below(&self, at: u32, path: &NPath) -> bool
         requires { at < length self.now.rows }
-        ensures { option_map (λ e. is_prefix path.now e.path) (slice_get self.now.rows at) ≡ Some result }
+        ensures { option_map (λ e. is_prefix path.now e.path) (slice_get self.now.rows at) ≡
+            Some result }
     {
         below(&self.nodes, self.order.get(at as usize), path)
     }
@@ -43,7 +44,8 @@ impl Tree {
     /// directory at those names. Returns `NoMemory` if allocation fails.
     pub fn path_from(&self, at: u32, from: usize) -> Result<NPath, NoMemory>
         requires { at < length self.now.rows }
-        ensures { IfOk result (λ path. option_map (λ e. drop from e.path) (slice_get self.now.rows at) ≡ Some path) }
+        ensures { IfOk result
+            (λ path. option_map (λ e. drop from e.path) (slice_get self.now.rows at) ≡ Some path) }
     {
         let n = self.order.get(at as usize);
         let count = depth(&self.nodes, n).saturating_sub(from);
@@ -77,7 +79,9 @@ fn build_last(alloc: Global, nodes: &Nodes, n: u32, count: usize) -> Result<NPat
     requires live { n < length nodes.now.items }
     requires rule { IsTrue (is_relative (path_of nodes.now.items n)) }
     requires count { count ≤ length (path_of nodes.now.items n) }
-    ensures { IfOk result (λ path. path ≡ drop (length (path_of nodes.now.items n) - count) (path_of nodes.now.items n)) }
+    ensures { IfOk result
+        (λ path. path ≡
+        drop (length (path_of nodes.now.items n) - count) (path_of nodes.now.items n)) }
 {
     if count == 0 {
         return Ok(NPath::root(alloc));

@@ -35,7 +35,8 @@ fn list(
     path: &NPath,
 ) -> Result<ChildList, NoMemory>
     requires tree { (ids : ℕ → Option ℕ) × IsTree nodes.now.items order.now.items ids }
-    ensures { IfOk result (λ list. list ≡ children (rows_of nodes.now.items order.now.items) path.now) }
+    ensures { IfOk result
+        (λ list. list ≡ children (rows_of nodes.now.items order.now.items) path.now) }
 {
     let mut list = ChildList::new(alloc);
     let mut at = place(nodes, order, hints, path, path.len());
@@ -54,7 +55,9 @@ fn list(
 
 /// Appends a node to the list of children.
 fn push(alloc: Global, list: &mut ChildList, link: &Link, row: &Row) -> Result<(), NoMemory>
-    ensures { OnOk result (list.new ≡ list.old ++ record { name = link.now.name; directory = is_dir row.now.kind } ∷ []) }
+    ensures { OnOk result
+        (list.new ≡
+        list.old ++ record { name = link.now.name; directory = is_dir row.now.kind } ∷ []) }
 {
     let name = copy_of(alloc, &link.name)?;
     let directory = row.kind.is_dir();

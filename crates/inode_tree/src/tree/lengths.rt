@@ -49,7 +49,9 @@ fn text_len(path: &NPath) -> usize
 
 /// Returns whether a path keeps the rule of lengths with the longest of several paths after it.
 fn fits(path: &NPath, longest: Longest) -> bool
-    ensures { result ≡ (nat_le (length (names_text path.now) + longest.bytes) 8000 && nat_le (length path.now + longest.names) 100) }
+    ensures { result ≡
+        (nat_le (length (names_text path.now) + longest.bytes) 8000 &&
+        nat_le (length path.now + longest.names) 100) }
 {
     let bytes = text_len(path) + longest.bytes as usize;
     let names = path.len() + longest.names as usize;
@@ -69,7 +71,10 @@ fn last_size(nodes: &Nodes, n: u32, count: usize) -> u16
     requires live { n < length nodes.now.items }
     requires rule { IsTrue (is_relative (path_of nodes.now.items n)) }
     requires count { count ≤ length (path_of nodes.now.items n) }
-    ensures size { result ≡ length (names_text (drop (length (path_of nodes.now.items n) - count) (path_of nodes.now.items n))) }
+    ensures size { result ≡
+        length
+        (names_text
+        (drop (length (path_of nodes.now.items n) - count) (path_of nodes.now.items n))) }
     ensures most { result ≤ 8000 }
 {
     if count == 0 {

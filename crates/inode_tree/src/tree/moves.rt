@@ -75,7 +75,10 @@ fn shift(nodes: &Nodes, order: &mut Order, hints: &Hints, path: &NPath, to: &NPa
     requires tree { (ids : ℕ → Option ℕ) × IsTree nodes.now.items order.old.items ids }
     requires can { CanMove (rows_of nodes.now.items order.old.items) path.now to.now }
     requires room { 0 < order.old.spare }
-    ensures { order.new.items ≡ shifted (rank (rows_of nodes.now.items order.old.items) path.now) (rank_past (rows_of nodes.now.items order.old.items) path.now) (rank (rows_of nodes.now.items order.old.items) to.now) order.old.items }
+    ensures { order.new.items ≡
+        shifted (rank (rows_of nodes.now.items order.old.items) path.now)
+        (rank_past (rows_of nodes.now.items order.old.items) path.now)
+        (rank (rows_of nodes.now.items order.old.items) to.now) order.old.items }
 {
     let from = place(nodes, order, hints, path, path.len());
     let end = past(nodes, order, path, from);
@@ -101,11 +104,13 @@ fn relocate(
 )
     requires kept { IsKept nodes.old order.old places.now free.now }
     requires ready { string_bytes ready.old ≡ [] }
-    requires room { (0 < order.old.spare) × (length (last_name to.now) ≤ string_capacity ready.old) }
+    requires room { (0 < order.old.spare) ×
+        (length (last_name to.now) ≤ string_capacity ready.old) }
     requires can { CanMove (rows_of nodes.old.items order.old.items) path.now to.now }
     ensures kept { IsKept nodes.new order.new places.now free.now }
     ensures ready { string_bytes ready.new ≡ [] }
-    ensures rows { rows_of nodes.new.items order.new.items ≡ renamed path.now to.now (rows_of nodes.old.items order.old.items) }
+    ensures rows { rows_of nodes.new.items order.new.items ≡
+        renamed path.now to.now (rows_of nodes.old.items order.old.items) }
 {
     let _ = places;
     let _ = free;

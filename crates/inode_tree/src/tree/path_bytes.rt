@@ -17,9 +17,14 @@ impl Tree {
     /// appended. It allocates only if `out` has less room than the bytes need.
     pub fn write_path_from(&self, at: u32, from: usize, out: &mut Vec<u8>) -> Result<(), NoMemory>
         requires { at < length self.now.rows }
-        ensures ok { (e : Entry) → slice_get self.now.rows at ≡ Some e → OnOk result (out.new.items ≡ out.old.items ++ path_bytes (drop from e.path)) }
-        ensures len { (e : Entry) → slice_get self.now.rows at ≡ Some e → OnOk result (vec_len out.new ≡ vec_len out.old + length (path_bytes (drop from e.path))) }
-        ensures full { (e : Entry) → slice_get self.now.rows at ≡ Some e → OnErr result (vec_capacity out.old < vec_len out.old + length (path_bytes (drop from e.path))) }
+        ensures ok { (e : Entry) → slice_get self.now.rows at ≡ Some e →
+            OnOk result (out.new.items ≡ out.old.items ++ path_bytes (drop from e.path)) }
+        ensures len { (e : Entry) → slice_get self.now.rows at ≡ Some e →
+            OnOk result
+            (vec_len out.new ≡ vec_len out.old + length (path_bytes (drop from e.path))) }
+        ensures full { (e : Entry) → slice_get self.now.rows at ≡ Some e →
+            OnErr result
+            (vec_capacity out.old < vec_len out.old + length (path_bytes (drop from e.path))) }
         ensures capacity { vec_capacity out.old ≤ vec_capacity out.new }
     {
         let n = self.order.get(at as usize);
@@ -34,9 +39,14 @@ fn write_last(nodes: &Nodes, n: u32, count: usize, out: &mut Vec<u8>) -> Result<
     requires live { n < length nodes.now.items }
     requires rule { IsTrue (is_relative (path_of nodes.now.items n)) }
     requires count { count ≤ length (path_of nodes.now.items n) }
-    ensures ok { OnOk result (out.new.items ≡ out.old.items ++ last_bytes count (path_of nodes.now.items n)) }
-    ensures len { OnOk result (vec_len out.new ≡ vec_len out.old + length (last_bytes count (path_of nodes.now.items n))) }
-    ensures full { OnErr result (vec_capacity out.old < vec_len out.old + length (last_bytes count (path_of nodes.now.items n))) }
+    ensures ok { OnOk result
+        (out.new.items ≡ out.old.items ++ last_bytes count (path_of nodes.now.items n)) }
+    ensures len { OnOk result
+        (vec_len out.new ≡
+        vec_len out.old + length (last_bytes count (path_of nodes.now.items n))) }
+    ensures full { OnErr result
+        (vec_capacity out.old <
+        vec_len out.old + length (last_bytes count (path_of nodes.now.items n))) }
     ensures capacity { vec_capacity out.old ≤ vec_capacity out.new }
 {
     if count == 0 {

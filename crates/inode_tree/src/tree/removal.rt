@@ -34,7 +34,8 @@ impl Tree {
 
 /// Removes an id from `places`.
 fn forget(places: &mut HashMap<u64, u32>, id: u64)
-    ensures { (q : ℕ) → get nat_eq places.new q ≡ (if nat_eq id q then None else get nat_eq places.old q) }
+    ensures { (q : ℕ) →
+        get nat_eq places.new q ≡ (if nat_eq id q then None else get nat_eq places.old q) }
 {
     let _ = places.remove(&id);
 }
@@ -50,7 +51,8 @@ fn take_out(
     requires kept { IsKept nodes.old order.old places.old free.old }
     requires leaf { IsLeaf nodes.old.items order.old.items at }
     ensures kept { IsKept nodes.new order.new places.new free.new }
-    ensures rows { rows_of nodes.new.items order.new.items ≡ remove (rows_of nodes.old.items order.old.items) at }
+    ensures rows { rows_of nodes.new.items order.new.items ≡
+        remove (rows_of nodes.old.items order.old.items) at }
 {
     let n = order.get(at);
     let id = nodes.row(n).id;
@@ -72,7 +74,8 @@ fn clear(
     requires kept { IsKept nodes.old order.old places.old free.old }
     requires deep { 0 < length path.now }
     ensures kept { IsKept nodes.new order.new places.new free.new }
-    ensures rows { rows_of nodes.new.items order.new.items ≡ removed path.now (rows_of nodes.old.items order.old.items) }
+    ensures rows { rows_of nodes.new.items order.new.items ≡
+        removed path.now (rows_of nodes.old.items order.old.items) }
 {
     let from = place(nodes, order, hints, path, path.len());
     let mut end = past(nodes, order, path, from);

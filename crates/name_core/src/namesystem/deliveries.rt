@@ -29,8 +29,10 @@ impl Name {
         disk: &mut D,
         reply: &BatchReply,
     ) -> Result<Delivered, NameRefusal>
-        requires stands { Tells (D.state disk.old) → ((ops : List EditOp) × IsNamesystemOf (D.state disk.old) self.old ops) }
-        ensures { UpdateActs (D.state disk.old) (D.state disk.new) self.old (deliver_deed reply.now) result self.new }
+        requires stands { Tells (D.state disk.old) →
+            ((ops : List EditOp) × IsNamesystemOf (D.state disk.old) self.old ops) }
+        ensures { UpdateActs (D.state disk.old) (D.state disk.new) self.old (deliver_deed reply.now)
+            result self.new }
     {
         match self.settle(disk) {
             Err(_) => Err(NameRefusal::StoreFault),
@@ -45,8 +47,10 @@ impl Name {
         reply: &BatchReply,
     ) -> Result<Delivered, NameRefusal>
         requires settled { self.old.store.log.pending ≡ None }
-        requires stands { Tells (D.state disk.old) → ((ops : List EditOp) × IsNamesystemOf (D.state disk.old) self.old ops) }
-        ensures { UpdatesSettled (D.state disk.old) (D.state disk.new) self.old (deliver_deed reply.now) result self.new }
+        requires stands { Tells (D.state disk.old) →
+            ((ops : List EditOp) × IsNamesystemOf (D.state disk.old) self.old ops) }
+        ensures { UpdatesSettled (D.state disk.old) (D.state disk.new) self.old
+            (deliver_deed reply.now) result self.new }
     {
         self.invariants();
         // Its keys fit its files.
@@ -69,8 +73,10 @@ impl Name {
         disk: &mut D,
         note: &BatchNote,
     ) -> Result<Delivered, NameRefusal>
-        requires stands { Tells (D.state disk.old) → ((ops : List EditOp) × IsNamesystemOf (D.state disk.old) self.old ops) }
-        ensures { UpdateActs (D.state disk.old) (D.state disk.new) self.old (give_up_deed note.now) result self.new }
+        requires stands { Tells (D.state disk.old) →
+            ((ops : List EditOp) × IsNamesystemOf (D.state disk.old) self.old ops) }
+        ensures { UpdateActs (D.state disk.old) (D.state disk.new) self.old (give_up_deed note.now)
+            result self.new }
     {
         match self.settle(disk) {
             Err(_) => Err(NameRefusal::StoreFault),
@@ -85,8 +91,10 @@ impl Name {
         note: &BatchNote,
     ) -> Result<Delivered, NameRefusal>
         requires settled { self.old.store.log.pending ≡ None }
-        requires stands { Tells (D.state disk.old) → ((ops : List EditOp) × IsNamesystemOf (D.state disk.old) self.old ops) }
-        ensures { UpdatesSettled (D.state disk.old) (D.state disk.new) self.old (give_up_deed note.now) result self.new }
+        requires stands { Tells (D.state disk.old) →
+            ((ops : List EditOp) × IsNamesystemOf (D.state disk.old) self.old ops) }
+        ensures { UpdatesSettled (D.state disk.old) (D.state disk.new) self.old
+            (give_up_deed note.now) result self.new }
     {
         if !self.is_outstanding(note) {
             return Ok(self.ignored(note));
@@ -110,8 +118,10 @@ impl Name {
         disk: &mut D,
         note: &BatchNote,
     ) -> Result<Delivered, NameRefusal>
-        requires stands { Tells (D.state disk.old) → ((ops : List EditOp) × IsNamesystemOf (D.state disk.old) self.old ops) }
-        ensures { UpdateActs (D.state disk.old) (D.state disk.new) self.old (ignore_deed note.now) result self.new }
+        requires stands { Tells (D.state disk.old) →
+            ((ops : List EditOp) × IsNamesystemOf (D.state disk.old) self.old ops) }
+        ensures { UpdateActs (D.state disk.old) (D.state disk.new) self.old (ignore_deed note.now)
+            result self.new }
     {
         match self.settle(disk) {
             Err(_) => Err(NameRefusal::StoreFault),
@@ -137,8 +147,11 @@ impl Name {
     ) -> Result<Delivered, NameRefusal>
         requires may { MayUpdate (names_of self.old) note.now changes }
         requires settled { self.old.store.log.pending ≡ None }
-        requires stands { Tells (D.state disk.old) → ((ops : List EditOp) × IsNamesystemOf (D.state disk.old) self.old ops) }
-        ensures { (d : NameState → UpdateDeed) → d (names_of self.old) ≡ applied (names_of self.old) note.now changes → UpdatesSettled (D.state disk.old) (D.state disk.new) self.old d result self.new }
+        requires stands { Tells (D.state disk.old) →
+            ((ops : List EditOp) × IsNamesystemOf (D.state disk.old) self.old ops) }
+        ensures { (d : NameState → UpdateDeed) →
+            d (names_of self.old) ≡ applied (names_of self.old) note.now changes →
+            UpdatesSettled (D.state disk.old) (D.state disk.new) self.old d result self.new }
     {
         self.invariants();
         let answer = applied_answer(&changes);
@@ -169,10 +182,13 @@ impl Name {
         op: &EditOp,
         note: &BatchNote,
     ) -> Result<(), StoreRefusal>
-        requires may { MayWrite (names_of self.old) op.now (record (names_of self.old) { updating = Some note.now.sent }) }
+        requires may { MayWrite (names_of self.old) op.now
+            (record (names_of self.old) { updating = Some note.now.sent }) }
         requires settled { self.old.store.log.pending ≡ None }
-        requires stands { Tells (D.state disk.old) → ((ops : List EditOp) × IsNamesystemOf (D.state disk.old) self.old ops) }
-        ensures { Writes (D.state disk.old) (D.state disk.new) self.old (record (names_of self.old) { updating = Some note.now.sent }) op.now result self.new }
+        requires stands { Tells (D.state disk.old) →
+            ((ops : List EditOp) × IsNamesystemOf (D.state disk.old) self.old ops) }
+        ensures { Writes (D.state disk.old) (D.state disk.new) self.old
+            (record (names_of self.old) { updating = Some note.now.sent }) op.now result self.new }
     {
         let Ok(sent) = note.sent.copy(self.alloc) else {
             return Err(StoreRefusal::NoMemory);

@@ -45,7 +45,8 @@ fn finish_line(finished: Result<(), NameRefusal>) -> Line
 
 impl World {
     pub(super) fn ask_create(&mut self, user: Text, path: ByteList) -> Line
-        ensures acts { AskAt (world_of self.old) user ask.Create (read_path path) result (world_of self.new) }
+        ensures acts { AskAt (world_of self.old) user ask.Create (read_path path) result
+            (world_of self.new) }
         ensures keys { self.new.keys ≡ self.old.keys }
         ensures store { self.new.names.store ≡ self.old.names.store }
     {
@@ -56,7 +57,8 @@ impl World {
     }
 
     pub(super) fn ask_zone(&mut self, user: Text, path: ByteList, key: KeyName) -> Line
-        ensures acts { AskAt (world_of self.old) user (zone_with key) (read_path path) result (world_of self.new) }
+        ensures acts { AskAt (world_of self.old) user (zone_with key) (read_path path) result
+            (world_of self.new) }
         ensures keys { self.new.keys ≡ self.old.keys }
         ensures store { self.new.names.store ≡ self.old.names.store }
     {
@@ -67,7 +69,8 @@ impl World {
     }
 
     pub(super) fn ask_submit(&mut self, user: Text, path: ByteList) -> Line
-        ensures acts { AskAt (world_of self.old) user ask.Submit (read_path path) result (world_of self.new) }
+        ensures acts { AskAt (world_of self.old) user ask.Submit (read_path path) result
+            (world_of self.new) }
         ensures keys { self.new.keys ≡ self.old.keys }
         ensures store { self.new.names.store ≡ self.old.names.store }
     {
@@ -79,7 +82,8 @@ impl World {
 
     /// Makes an ask, and keeps its note, whose room is taken first.
     fn ask(&mut self, user: &Text, ask: Ask) -> Line
-        ensures acts { AskActs (world_of self.old) user.now ask result (world_of self.new) ⊎ Refuses (world_of self.old) NameRefusal.NoMemory result (world_of self.new) }
+        ensures acts { AskActs (world_of self.old) user.now ask result (world_of self.new) ⊎
+            Refuses (world_of self.old) NameRefusal.NoMemory result (world_of self.new) }
         ensures keys { self.new.keys ≡ self.old.keys }
         ensures store { self.new.names.store ≡ self.old.names.store }
     {
@@ -108,8 +112,11 @@ impl World {
         now: u64,
         number: u32,
     ) -> Line
-        requires stands { Tells (D.state disk.old) → ((done : Acknowledged) × HoldsLogs (D.state disk.old) self.old done) }
-        ensures { (lines : List PropLine) → AreListsOf self.old.keys.acls lines → DrawHappens lines (D.state disk.old) (D.state disk.new) self.old (W.to_come words.old) now (numbered self.old.kept.notes number) result self.new (W.to_come words.new) }
+        requires stands { Tells (D.state disk.old) →
+            ((done : Acknowledged) × HoldsLogs (D.state disk.old) self.old done) }
+        ensures { (lines : List PropLine) → AreListsOf self.old.keys.acls lines →
+            DrawHappens lines (D.state disk.old) (D.state disk.new) self.old (W.to_come words.old)
+            now (numbered self.old.kept.notes number) result self.new (W.to_come words.new) }
     {
         let note = match note_numbered(&self.notes, number) {
             None => return Line::Unknown,
@@ -135,8 +142,10 @@ impl World {
 
     /// Finishes the ask that a kept reply answers, if it answers one.
     pub(super) fn finish<D: Disk>(&mut self, disk: &mut D, number: u32) -> Line
-        requires stands { Tells (D.state disk.old) → ((done : Acknowledged) × HoldsLogs (D.state disk.old) self.old done) }
-        ensures { FinishHappens (D.state disk.old) (D.state disk.new) self.old (numbered self.old.kept.replies number) result self.new }
+        requires stands { Tells (D.state disk.old) →
+            ((done : Acknowledged) × HoldsLogs (D.state disk.old) self.old done) }
+        ensures { FinishHappens (D.state disk.old) (D.state disk.new) self.old
+            (numbered self.old.kept.replies number) result self.new }
     {
         match ask_answered(&self.replies, number) {
             None => Line::Unknown,
@@ -146,8 +155,10 @@ impl World {
 
     /// Finishes the ask with an id by what the reply means for it.
     fn finish_ask<D: Disk>(&mut self, disk: &mut D, id: u64, answer: KeyAnswer) -> Line
-        requires stands { Tells (D.state disk.old) → ((done : Acknowledged) × HoldsLogs (D.state disk.old) self.old done) }
-        ensures { FinishHappens (D.state disk.old) (D.state disk.new) self.old (Some (KeptReply.ToAsk id answer)) result self.new }
+        requires stands { Tells (D.state disk.old) →
+            ((done : Acknowledged) × HoldsLogs (D.state disk.old) self.old done) }
+        ensures { FinishHappens (D.state disk.old) (D.state disk.new) self.old
+            (Some (KeptReply.ToAsk id answer)) result self.new }
     {
         finish_line(self.names.finish_with(disk, id, answer))
     }
@@ -162,9 +173,12 @@ fn call_wanted<D: Disk, W: Words>(
     now: u64,
     note: &AskNote,
 ) -> Option<KmsReply>
-    requires stands { Tells (D.state disk.old) → ((commands : List KeyCommand) × IsKeyStoreOf (D.state disk.old) keys.old.store commands) }
+    requires stands { Tells (D.state disk.old) →
+        ((commands : List KeyCommand) × IsKeyStoreOf (D.state disk.old) keys.old.store commands) }
     requires user { user.now ≡ superuser }
-    ensures { (lines : List PropLine) → AreListsOf keys.old.acls lines → WantHappens lines (D.state disk.old) (D.state disk.new) keys.old (W.to_come words.old) now note.now.want result keys.new (W.to_come words.new) }
+    ensures { (lines : List PropLine) → AreListsOf keys.old.acls lines →
+        WantHappens lines (D.state disk.old) (D.state disk.new) keys.old (W.to_come words.old) now
+        note.now.want result keys.new (W.to_come words.new) }
 {
     match note.want {
         Want::Nothing => None,

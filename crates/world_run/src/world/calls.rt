@@ -37,8 +37,11 @@ impl World {
         user: Text,
         call: KmsCall,
     ) -> Line
-        requires stands { Tells (D.state disk.old) → ((done : Acknowledged) × HoldsLogs (D.state disk.old) self.old done) }
-        ensures { (lines : List PropLine) → AreListsOf self.old.keys.acls lines → Happens lines (D.state disk.old) (D.state disk.new) self.old (W.to_come words.old) now (event.Kms user call) result self.new (W.to_come words.new) }
+        requires stands { Tells (D.state disk.old) →
+            ((done : Acknowledged) × HoldsLogs (D.state disk.old) self.old done) }
+        ensures { (lines : List PropLine) → AreListsOf self.old.keys.acls lines →
+            Happens lines (D.state disk.old) (D.state disk.new) self.old (W.to_come words.old) now
+            (event.Kms user call) result self.new (W.to_come words.new) }
     {
         let reply = self.keys.act(disk, words, now, &user, call);
         Line::Kms(reply)
@@ -46,16 +49,20 @@ impl World {
 
     /// Makes a call of the namesystem.
     fn call<D: Disk>(&mut self, disk: &mut D, user: &Text, call: NameCall) -> Line
-        requires stands { Tells (D.state disk.old) → ((done : Acknowledged) × HoldsLogs (D.state disk.old) self.old done) }
-        ensures { CallHappens (D.state disk.old) (D.state disk.new) self.old user.now call result self.new }
+        requires stands { Tells (D.state disk.old) →
+            ((done : Acknowledged) × HoldsLogs (D.state disk.old) self.old done) }
+        ensures { CallHappens (D.state disk.old) (D.state disk.new) self.old user.now call result
+            self.new }
     {
         Line::Name(self.names.act(disk, user, call))
     }
 
     /// Asks for the encryption zones.
     pub(super) fn zones<D: Disk>(&mut self, disk: &mut D, user: Text) -> Line
-        requires stands { Tells (D.state disk.old) → ((done : Acknowledged) × HoldsLogs (D.state disk.old) self.old done) }
-        ensures { CallHappens (D.state disk.old) (D.state disk.new) self.old user call.Zones result self.new }
+        requires stands { Tells (D.state disk.old) →
+            ((done : Acknowledged) × HoldsLogs (D.state disk.old) self.old done) }
+        ensures { CallHappens (D.state disk.old) (D.state disk.new) self.old user call.Zones result
+            self.new }
     {
         let line = self.call(disk, &user, NameCall::Zones);
         drop(user);
@@ -65,8 +72,11 @@ impl World {
     /// Makes the call of an event about paths, or answers why they could not be read.
     pub(super) fn call_at_paths<D: Disk>(&mut self, disk: &mut D, event: Event) -> Line
         requires calls { is_some (path_call event) ≡ true }
-        requires stands { Tells (D.state disk.old) → ((done : Acknowledged) × HoldsLogs (D.state disk.old) self.old done) }
-        ensures { (lines : List PropLine) (words : ℕ → ℕ) (now : ℕ) → Happens lines (D.state disk.old) (D.state disk.new) self.old words now event result self.new words }
+        requires stands { Tells (D.state disk.old) →
+            ((done : Acknowledged) × HoldsLogs (D.state disk.old) self.old done) }
+        ensures { (lines : List PropLine) (words : ℕ → ℕ) (now : ℕ) →
+            Happens lines (D.state disk.old) (D.state disk.new) self.old words now event result
+            self.new words }
     {
         let (user, read) = read_path_call(self.alloc, event);
         match read {

@@ -22,7 +22,9 @@ fn version_of(ticket: &Ticket) -> VersionName
 impl World {
     /// Asks for a ticket, and keeps it if one is given. Its room is taken first.
     pub(super) fn ticket(&mut self) -> Line
-        ensures acts { GivesTicket (world_of self.old) result 0 nothing_acknowledged (world_of self.new) ⊎ LacksRoom (world_of self.old) result 0 nothing_acknowledged (world_of self.new) }
+        ensures acts { GivesTicket (world_of self.old) result 0 nothing_acknowledged
+            (world_of self.new) ⊎
+            LacksRoom (world_of self.old) result 0 nothing_acknowledged (world_of self.new) }
         ensures keys { self.new.keys ≡ self.old.keys }
         ensures names { self.new.names ≡ self.old.names }
     {
@@ -48,7 +50,8 @@ impl World {
 
     /// Draws a data encryption key, seals it with a kept ticket and deposits it.
     pub(super) fn deposit<W: Words>(&mut self, words: &mut W, number: u32) -> Line
-        ensures { DepositHappens self.old (W.to_come words.old) (numbered self.old.kept.tickets number) result self.new (W.to_come words.new) }
+        ensures { DepositHappens self.old (W.to_come words.old)
+            (numbered self.old.kept.tickets number) result self.new (W.to_come words.new) }
     {
         let sealed = match ticket_numbered(&self.tickets, number) {
             None => return Line::Unknown,

@@ -32,8 +32,10 @@ fn update_line(delivered: Result<Delivered, NameRefusal>) -> Line
 impl World {
     /// Reads the path of a zone and walks the zone.
     pub(super) fn walk<D: Disk>(&mut self, disk: &mut D, path: ByteList) -> Line
-        requires stands { Tells (D.state disk.old) → ((done : Acknowledged) × HoldsLogs (D.state disk.old) self.old done) }
-        ensures { WalkHappens (D.state disk.old) (D.state disk.new) self.old (read_path path) result self.new }
+        requires stands { Tells (D.state disk.old) →
+            ((done : Acknowledged) × HoldsLogs (D.state disk.old) self.old done) }
+        ensures { WalkHappens (D.state disk.old) (D.state disk.new) self.old (read_path path) result
+            self.new }
     {
         match NPath::read(self.alloc, path.as_slice()) {
             Err(fault) => unread_ask(fault),
@@ -43,8 +45,10 @@ impl World {
 
     /// Walks a zone, and keeps the batch that it gives, whose room is taken first.
     fn walk_zone<D: Disk>(&mut self, disk: &mut D, zone: &NPath) -> Line
-        requires stands { Tells (D.state disk.old) → ((done : Acknowledged) × HoldsLogs (D.state disk.old) self.old done) }
-        ensures { WalkHappens (D.state disk.old) (D.state disk.new) self.old (Some zone.now) result self.new }
+        requires stands { Tells (D.state disk.old) →
+            ((done : Acknowledged) × HoldsLogs (D.state disk.old) self.old done) }
+        ensures { WalkHappens (D.state disk.old) (D.state disk.new) self.old (Some zone.now) result
+            self.new }
     {
         match self.batches.reserve(1) {
             Err(_) => return Line::Refused(NameRefusal::NoMemory),
@@ -65,8 +69,11 @@ impl World {
         now: u64,
         number: u32,
     ) -> Line
-        requires stands { Tells (D.state disk.old) → ((done : Acknowledged) × HoldsLogs (D.state disk.old) self.old done) }
-        ensures { (lines : List PropLine) → AreListsOf self.old.keys.acls lines → ServeHappens lines (D.state disk.old) (D.state disk.new) self.old (W.to_come words.old) now (numbered self.old.kept.batches number) result self.new (W.to_come words.new) }
+        requires stands { Tells (D.state disk.old) →
+            ((done : Acknowledged) × HoldsLogs (D.state disk.old) self.old done) }
+        ensures { (lines : List PropLine) → AreListsOf self.old.keys.acls lines →
+            ServeHappens lines (D.state disk.old) (D.state disk.new) self.old (W.to_come words.old)
+            now (numbered self.old.kept.batches number) result self.new (W.to_come words.new) }
     {
         let serving = match batch_numbered(&self.batches, number) {
             None => return Line::Unknown,
@@ -96,8 +103,10 @@ impl World {
 
     /// Delivers the kept reply with a number, if it is to the call for a batch.
     pub(super) fn deliver<D: Disk>(&mut self, disk: &mut D, number: u32) -> Line
-        requires stands { Tells (D.state disk.old) → ((done : Acknowledged) × HoldsLogs (D.state disk.old) self.old done) }
-        ensures { DeliverHappens (D.state disk.old) (D.state disk.new) self.old (numbered self.old.kept.replies number) result self.new }
+        requires stands { Tells (D.state disk.old) →
+            ((done : Acknowledged) × HoldsLogs (D.state disk.old) self.old done) }
+        ensures { DeliverHappens (D.state disk.old) (D.state disk.new) self.old
+            (numbered self.old.kept.replies number) result self.new }
     {
         match batch_answered(&self.replies, number) {
             None => Line::Unknown,
@@ -107,8 +116,10 @@ impl World {
 
     /// Gives up the kept batch with a number.
     pub(super) fn give_up<D: Disk>(&mut self, disk: &mut D, number: u32) -> Line
-        requires stands { Tells (D.state disk.old) → ((done : Acknowledged) × HoldsLogs (D.state disk.old) self.old done) }
-        ensures { GiveUpHappens (D.state disk.old) (D.state disk.new) self.old (numbered self.old.kept.batches number) result self.new }
+        requires stands { Tells (D.state disk.old) →
+            ((done : Acknowledged) × HoldsLogs (D.state disk.old) self.old done) }
+        ensures { GiveUpHappens (D.state disk.old) (D.state disk.new) self.old
+            (numbered self.old.kept.batches number) result self.new }
     {
         match batch_numbered(&self.batches, number) {
             None => Line::Unknown,
