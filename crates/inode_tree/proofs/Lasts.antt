@@ -15,6 +15,11 @@ last-name (x ∷ []) (suc u) e = absurd (omega arith)
 last-name (x ∷ y ∷ p) zero e = absurd (omega arith)
 last-name (x ∷ y ∷ p) (suc u) e = last-name (y ∷ p) u (omega arith)
 
+pub last-joined : (p : List (List ℕ)) (x : List ℕ) → last_name (p ++ x ∷ []) ≡ x
+last-joined [] x = refl
+last-joined (y ∷ []) x = refl
+last-joined (y ∷ z ∷ p) x = last-joined (z ∷ p) x
+
 pub tree-same : (ns : List Node) (order : List ℕ) (ids ids' : ℕ → Option ℕ) → ((q : ℕ) → ids' q ≡ ids q) → IsTree ns order ids → IsTree ns order ids'
 tree-same ns order ids ids' e t = record {
   linked = t.linked;

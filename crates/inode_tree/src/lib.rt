@@ -15,4 +15,4 @@ mod zones;
 pub use laws::rows_move_together;
 pub use name_calls::{Child, ChildList, MOST_BYTES, MOST_NAMES, NPath, PathFault};
 pub use rows::{Kind, Row};
-pub use tree::{MOST_ROWS, Tree};
+pub use tree::{MOST_ROWS, PlacedRow, Tree};

@@ -299,6 +299,18 @@ impl Order {
         near(&self.pieces, &self.starts, c, i)
     }
 
+    /// Returns the next piece after the `c`-th one if it begins at or before the `i`-th number, else `c`.
+    pub fn piece_near(&self, c: usize, i: usize) -> usize {
+        if c < self.starts.len() {
+            if c + 1 < self.starts.len() {
+                if self.starts[c + 1] as usize <= i {
+                    return c + 1;
+                }
+            }
+        }
+        c
+    }
+
     /// Returns the number of pieces.
     pub fn pieces(&self) -> usize {
         self.pieces.len()

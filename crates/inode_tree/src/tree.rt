@@ -24,6 +24,7 @@ use crate::nodes::Nodes;
 use crate::order::Order;
 use crate::rows::{Kind, Node, Row};
 use crate::zones::zone_at;
+pub use by_place::PlacedRow;
 use hk_base::{Edek, KeyName, NoMemory};
 use name_calls::NPath;
 use std::alloc::Global;

@@ -2,8 +2,8 @@
 ghost use Rattle.std.specs.Prelude.{◌≡◌, ◌<◌, ◌≤◌, ◌-◌, Some, length, drop, slice_get, IsTrue, IfOk};
 ghost use Rattle.std.specs.Option.{option_map};
 ghost use Rattle.inode_tree.specs.Arena.{IsLinked, path_of, rank};
-ghost use Rattle.inode_tree.specs.Below.{at_or_above, at_or_below};
-ghost use Rattle.name_calls.specs.Paths.{is_prefix, is_relative};
+ghost use Rattle.inode_tree.specs.Below.{at_or_above, at_or_below, view_of};
+ghost use Rattle.name_calls.specs.Paths.{is_prefix, is_relative, last_name};
 
 use super::{Tree, extend};
 use crate::climbs::{above, below, depth};
@@ -13,6 +13,16 @@ use crate::rows::Row;
 use hk_base::NoMemory;
 use name_calls::NPath;
 use std::alloc::Global;
+
+/// What a walk over rows reads of one: the number of names in its path, the last of these names, and
+/// the row. The root has no names. Where the row was found, `piece`, helps to find the row after it.
+#[derive(Clone, Copy)]
+pub struct PlacedRow<'a> {
+    pub depth: usize,
+    pub name: &'a [u8],
+    pub row: &'a Row,
+    pub piece: usize,
+}
 
 impl Tree {
     /// Returns how many rows come before a path in path order. If the path has a row, that is the
@@ -29,6 +39,23 @@ impl Tree {
         ensures { option_map (λ e. e.row) (slice_get self.now.rows at) ≡ Some result }
     {
         *self.nodes.row(self.order.get(at as usize))
+    }
+
+    /// Reads the row at a place in path order, and what it has of its path. It builds no path. `piece`
+    /// is that of the row before it, or 0: no answer depends on it, only the time.
+    pub fn placed_row(&self, at: u32, piece: usize) -> PlacedRow<'_>
+        requires { at < length self.now.rows }
+        ensures { option_map view_of (slice_get self.now.rows at) ≡
+            Some (record { depth = result.depth; name = result.name.now; row = result.row.now }) }
+    {
+        let piece = self.order.piece_near(piece, at as usize);
+        let n = self.order.get_near(piece, at as usize);
+        PlacedRow {
+            depth: depth(&self.nodes, n),
+            name: own_name(&self.nodes, n),
+            row: self.nodes.row(n),
+            piece,
+        }
     }
 
     /// Returns whether the path of the row at a place is the path or lies below it.
@@ -71,6 +98,18 @@ impl Tree {
             None => false,
         }
     }
+}
+
+/// Returns the last name of a node's path: no bytes if it is the root.
+fn own_name(nodes: &Nodes, n: u32) -> &[u8]
+    requires linked { IsLinked nodes.now.items }
+    requires live { n < length nodes.now.items }
+    ensures { result.now ≡ last_name (path_of nodes.now.items n) }
+{
+    if n == 0 {
+        return b"";
+    }
+    nodes.link(n).name.as_bytes()
 }
 
 /// Builds a path from the last `count` names of a node's path.
