@@ -9,10 +9,10 @@ use Rattle.std.proofs.lemmas.List.{append-nil}
 use Rattle.name_calls.specs.Paths.{is_before, is_component, is_prefix, last_name, parent}
 use Rattle.inode_tree.proofs.Blocks.{prefix-not-before}
 use Rattle.inode_tree.proofs.ZoneLemmas.{prefix-itself, prefix-whole}
-use Rattle.inode_tree.specs.Below.{seen_from}
+use Rattle.inode_tree.specs.Below.{RowView, seen_from, view_of}
 use Rattle.inode_tree.specs.Rows.{Entry, IsRows}
 use Rattle.inode_tree.specs.declared.rows.Row.{Row}
-use Rattle.frozen_nodes.specs.Copies.{AllAtOrBelow, AllPlaced, AreCopied, IsCopy, IsPlaced, no_entry, path_at}
+use Rattle.frozen_nodes.specs.Copies.{AllAtOrBelow, AllPlaced, AreCopied, IsCopy, IsPlaced, no_entry, path_at, view_at}
 use Rattle.frozen_nodes.specs.Forest.{AllBelow, AllNamedAfter, AreKids, AreNamedInOrder, FrozenNode, HaveNames, KeepsNodes, Subtree, kid_rows, node_at, rows_from, rows_of_node, subtree_at, subtrees, under}
 use Rattle.frozen_nodes.proofs.PathFacts.{all-above, all-joined, drop-all, last-ruled, parent-last, prefix-more, prefix-trans, seen-under, snoc-before}
 use Rattle.frozen_nodes.proofs.Preorder.{child-next, deeper-below, rising-at}
@@ -126,6 +126,12 @@ row-is [] (suc at) row h = cc
 row-is (e ∷ rows) zero row h = cc
 row-is (e ∷ rows) (suc at) row h = row-is rows at row h
 
+pub view-is : (rows : List Entry) (at : ℕ) (v : RowView) → option_map view_of (slice_get rows at) ≡ Some v → v ≡ view_at rows at
+view-is [] zero v h = cc
+view-is [] (suc at) v h = cc
+view-is (e ∷ rows) zero v h = cc
+view-is (e ∷ rows) (suc at) v h = view-is rows at v h
+
 pub some-at : (rows : List Entry) (at : ℕ) → at < length rows → slice_get rows at ≡ Some (get_or rows at no_entry)
 some-at [] at lt = absurd (omega arith)
 some-at (e ∷ rows) zero lt = refl
@@ -198,17 +204,6 @@ module _ (rows : List Entry) (rules : IsRows rows) where
 
       up : parent (path_at rows next) ≡ path_at rows at
       up = child-next rows no_entry rules.rising rules.housed at next less lt apart inside longer
-
-  -- so it has at most one name more
-  pub next-short : (at next depth : ℕ) → at < next → next < length rows → depth ≡ length (path_at rows at) → ((j : ℕ) → at ≤ j → j < next → is_prefix (path_at rows at) (path_at rows j) ≡ true)
-      → (at + 1 < next → length (path_at rows next) ≤ depth + 1) → length (path_at rows next) ≤ depth + 1
-  next-short at next depth less lt d below low = elim (cases_lt depth (length (path_at rows next))) [
-    | inl long ↦
-        let is = (is-kid at next depth less lt d below low long).1 in
-        let l : length (path_at rows next) ≡ length (path_at rows at ++ last_name (path_at rows next) ∷ []) = ap length is in
-        omega (arith, l, length-append (path_at rows at) (last_name (path_at rows next) ∷ []), d)
-    | inr short ↦ omega (arith, short)
-  ]
 
   -- the row at a place is at it
   pub places-first : (at : ℕ) (j : ℕ) → at ≤ j → j < at + 1 → is_prefix (path_at rows at) (path_at rows j) ≡ true

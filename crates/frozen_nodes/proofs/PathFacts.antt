@@ -1,22 +1,17 @@
 -- Paths of rows in path order: names, prefixes and what comes before what.
-use Rattle.std.proofs.Common.{◌≡◌, ℕ, ◌+◌, ◌<◌, ◌≤◌, zero, suc, Bool, true, ◌&&◌, List, [], ◌∷◌, ◌++◌, length, map, drop, refl, sym, ◌∙◌, ap, subst, arith, inl, inr, Ordering}
-use Rattle.std.proofs.lemmas.Bool.{cases_lt}
+use Rattle.std.proofs.Common.{◌≡◌, ℕ, ◌+◌, ◌<◌, ◌≤◌, zero, suc, Bool, true, ◌&&◌, List, [], ◌∷◌, ◌++◌, length, map, drop, refl, sym, ◌∙◌, ap, subst, arith, Ordering}
 use Rattle.std.specs.Ordering.{is_lt, nat_cmp, ordering_then}
-use Rattle.std.specs.Prelude.{◌-◌, ◌↔◌, nat_lt, IsTrue}
 use Rattle.std.specs.List.{list_all}
-use Rattle.std.proofs.lemmas.Bool.Decides.{nat_tests}
 use Rattle.std.specs.Cmp.Lexicographic.{slice_cmp}
 use Rattle.std.specs.Str.{bytes_eq}
 use Rattle.std.specs.declared.cmp.Ordering.TheVariants.{Less, Equal, Greater}
 use Rattle.std.proofs.lemmas.Cmp.{nat_list_cmp_total, tied_itself}
-use Rattle.std.proofs.lemmas.List.{append-nil}
 use Rattle.std.proofs.lemmas.Slice.Eq.{bytes_eq-Decides}
 use Rattle.name_calls.specs.Paths.{is_before, is_component, is_prefix, is_relative, is_short, last_name, parent, path_cmp}
 use Rattle.name_calls.proofs.PathLemmas.{and-parts}
 use Rattle.inode_tree.proofs.PathBytes.{name-short}
 use Rattle.inode_tree.specs.Below.{seen_from}
 use Rattle.inode_tree.specs.Rows.{Entry}
-use Rattle.inode_tree.specs.Written.{path_bytes}
 use Rattle.frozen_nodes.specs.Copies.{AllAtOrBelow}
 use Rattle.frozen_nodes.specs.Forest.{under}
 
@@ -25,20 +20,6 @@ pub parent-last : (p : List (List ℕ)) → 0 < length p → p ≡ parent p ++ l
 parent-last [] lt = absurd (omega arith)
 parent-last (x ∷ []) lt = refl
 parent-last (x ∷ y ∷ p) lt = λ i. x ∷ parent-last (y ∷ p) (omega arith) i
-
--- the bytes of the last name
-pub tail-bytes : (p : List (List ℕ)) (u : ℕ) → length p ≡ u + 1 → path_bytes (drop u p) ≡ length (last_name p) ∷ last_name p
-tail-bytes [] u e = absurd (omega arith)
-tail-bytes (x ∷ []) zero e = ap (λ (ys : List ℕ). length x ∷ ys) (append-nil x)
-tail-bytes (x ∷ []) (suc u) e = absurd (omega arith)
-tail-bytes (x ∷ y ∷ p) zero e = absurd (omega arith)
-tail-bytes (x ∷ y ∷ p) (suc u) e = tail-bytes (y ∷ p) u (omega arith)
-
-pub no-tail : (p : List (List ℕ)) (u : ℕ) → length p ≤ u → drop u p ≡ []
-no-tail [] zero e = refl
-no-tail [] (suc u) e = refl
-no-tail (x ∷ p) zero e = absurd (omega arith)
-no-tail (x ∷ p) (suc u) e = no-tail p u (omega arith)
 
 pub last-ruled : (p : List (List ℕ)) → is_relative p ≡ true → 0 < length p → is_component (last_name p) ≡ true
 last-ruled p h lt = go p (and-parts (list_all is_component p) (is_short p) h).0 lt
@@ -52,46 +33,6 @@ pub last-short : (p : List (List ℕ)) → is_relative p ≡ true → length (la
 last-short [] h = omega arith
 last-short (x ∷ p) h =
     let lt = name-short (parent (x ∷ p)) (last_name (x ∷ p)) (subst (λ (q : List (List ℕ)). is_relative q ≡ true) (parent-last (x ∷ p) (omega arith)) h) in omega arith
-
--- the last name takes at most 256 bytes
-pub tail-short : (p : List (List ℕ)) (u : ℕ) → is_relative p ≡ true → length p ≤ u + 1 → length (path_bytes (drop u p)) ≤ 256
-tail-short p u h le = elim (cases_lt u (length p)) [
-  | inl lt ↦ let e : length (path_bytes (drop u p)) ≡ length (length (last_name p) ∷ last_name p) = ap length (tail-bytes p u (omega arith)) in omega (arith, e, last-short p h)
-  | inr most ↦ let e : length (path_bytes (drop u p)) ≡ 0 = ap (λ (q : List (List ℕ)). length (path_bytes q)) (no-tail p u most) in omega (arith, e)
-]
-
--- there are such bytes if and only if the path is longer
-pub tail-some : (p : List (List ℕ)) (u : ℕ) → u < length p → 0 < length (path_bytes (drop u p))
-tail-some [] u lt = absurd (omega arith)
-tail-some (x ∷ p) zero lt = omega arith
-tail-some (x ∷ p) (suc u) lt = tail-some p u (omega arith)
-
--- the name after the number of its bytes
-name-of : (p : List (List ℕ)) (u : ℕ) → length p ≡ u + 1 → drop 1 (path_bytes (drop u p)) ≡ last_name p
-name-of p u e = ap (drop 1) (tail-bytes p u e)
-
-written-name : (p : List (List ℕ)) (u : ℕ) → u ≡ length p - 1 → drop 1 (path_bytes (drop u p)) ≡ last_name p
-written-name [] u e = ap (λ (q : List (List ℕ)). drop 1 (path_bytes q)) (no-tail [] u (omega arith))
-written-name (x ∷ p) u e = name-of (x ∷ p) u (omega (arith, e))
-
-pub row-name : (p : List (List ℕ)) (u depth : ℕ) (bytes name : List ℕ) → u ≡ depth - 1 → depth ≡ length p → bytes ≡ path_bytes (drop u p) → name ≡ drop 1 bytes → name ≡ last_name p
-row-name p u depth bytes name e d b n = n ∙ ap (drop 1) b ∙ written-name p u (e ∙ ap (λ (k : ℕ). k - 1) d)
-
-above-zero : (n : ℕ) → nat_lt 0 n ≡ true → 0 < n
-above-zero n h = grind (arith, nat_tests)
-
-tests-above : (n : ℕ) → 0 < n → nat_lt 0 n ≡ true
-tests-above n h = grind (arith, nat_tests)
-
--- names are left if and only if there are bytes
-pub bytes-tell : (p : List (List ℕ)) (u n : ℕ) → n ≡ length (path_bytes (drop u p)) → IsTrue (nat_lt 0 n) ↔ (u < length p)
-bytes-tell p u n e = (
-  λ h. elim (cases_lt u (length p)) [
-    | inl lt ↦ lt
-    | inr most ↦ let z : length (path_bytes (drop u p)) ≡ 0 = ap (λ (q : List (List ℕ)). length (path_bytes q)) (no-tail p u most) in let some = above-zero n h in absurd (omega (arith, e, z, some))
-  ],
-  λ lt. tests-above n (let some = tail-some p u lt in omega (arith, e, some)),
-)
 
 pub prefix-trans : (p q r : List (List ℕ)) → is_prefix p q ≡ true → is_prefix q r ≡ true → is_prefix p r ≡ true
 prefix-trans [] q r h k = refl

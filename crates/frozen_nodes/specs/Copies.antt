@@ -1,6 +1,6 @@
 -- Rows of a tree that are copied into nodes, a directory with the rows below it.
 use Rattle.std.specs.Prelude.{◌≡◌, ℕ, ◌+◌, ◌*◌, ◌<◌, ◌≤◌, true, false, List, [], ◌∷◌, ◌++◌, length, map, drop, slice_index_or, ⊤}
-use Rattle.inode_tree.specs.Below.{seen_from}
+use Rattle.inode_tree.specs.Below.{RowView, seen_from, view_of}
 use Rattle.inode_tree.specs.Rows.{Entry}
 use Rattle.name_calls.specs.Paths.{is_prefix, last_name}
 use Rattle.frozen_nodes.specs.Forest.{AreKids, FrozenNode, KeepsNodes, kid_rows, no_node, node_at, rows_from, subtree_at, subtrees}
@@ -8,6 +8,10 @@ use Rattle.frozen_nodes.specs.Packed.{ForestRoom, HasRoom}
 
 abbrev pub no_entry : Entry
 no_entry = record { path = []; row = no_node.row }
+
+-- what is read of the row at a place
+abbrev pub view_at : List Entry → ℕ → RowView
+view_at rows k = view_of (slice_index_or rows k no_entry)
 
 -- the path of the row at a place
 abbrev pub path_at : List Entry → ℕ → List (List ℕ)
@@ -65,16 +69,14 @@ pub record IsSpent (at next : ℕ) (old new : ForestRoom) : Type 0 where
   pub kids_less : old.kids + at + 1 ≤ new.kids + next
   pub bytes_less : old.bytes + 255 * at ≤ new.bytes + 255 * next
 
--- memory of copies apart from that of their nodes: for how many more kids, and for how many bytes of a name
+-- memory of copies apart from that of their nodes: for how many more kids
 pub record CopyRoom : Type 0 where
   pub kids : ℕ
-  pub bytes : ℕ
 
 -- there is memory for copies of so many rows
 pub record FitsCopies (rows : ℕ) (room : ForestRoom) (buffer : CopyRoom) : Type 0 where
   pub nodes_fit : HasRoom rows rows (255 * rows) room
   pub kids_fit : rows ≤ buffer.kids
-  pub name_fits : 256 ≤ buffer.bytes
 
 -- the rows at and below a path are those from a place up to an end
 pub record IsBlock (rows : List Entry) (p : List (List ℕ)) (at end : ℕ) : Type 0 where

@@ -135,7 +135,7 @@ impl Forest {
         requires { n < length self.now.nodes }
         ensures { result ≡ (node_at self.now.nodes n).row }
     {
-        self.nodes[n as usize].row()
+        *self.nodes[n as usize].row()
     }
 
     /// Returns the name of a node, or no bytes if there is no such node.
@@ -237,7 +237,7 @@ impl Forest {
         if (n as usize) >= self.nodes.len() {
             return false;
         }
-        let same_row = is_same_row(&self.row(n), row);
+        let same_row = is_same_row(self.nodes[n as usize].row(), row);
         let same_name = are_same_bytes(self.name(n), name);
         let same_kids = are_same_numbers(self.kids(n), kids);
         same_row && same_name && same_kids

@@ -63,10 +63,10 @@ impl Model for Node {
 }
 
 impl Node {
-    pub fn row(&self) -> Row
-        ensures { result ≡ self.now.row }
+    pub fn row(&self) -> &Row
+        ensures { result.now ≡ self.now.row }
     {
-        self.row
+        &self.row
     }
 
     /// Returns the name, which is among the names of all nodes.

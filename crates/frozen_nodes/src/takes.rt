@@ -12,9 +12,6 @@ use name_calls::NPath;
 use std::alloc::Global;
 use std::marker::Model;
 
-/// The maximum number of bytes of a name, with the number of its bytes before it.
-const MOST_NAME: usize = 256;
-
 /// The maximum number of bytes of a name.
 const MOST_BYTES: usize = 255;
 
@@ -29,7 +26,6 @@ pub struct FrozenRows {
 #[derive(Drop)]
 pub struct CopyBuffer {
     kids: Vec<u32>,
-    name: Vec<u8>,
 }
 
 impl Model for CopyBuffer {
@@ -40,10 +36,7 @@ impl Model for CopyBuffer {
     ghost Value = { CopyRoom };
 
     ghost view = { λ buffer.
-        record {
-          kids = vec_capacity buffer.kids - vec_len buffer.kids;
-          bytes = vec_capacity buffer.name;
-        } };
+        record { kids = vec_capacity buffer.kids - vec_len buffer.kids } };
 }
 
 impl CopyBuffer {
@@ -51,18 +44,15 @@ impl CopyBuffer {
     pub fn new(alloc: Global) -> CopyBuffer {
         CopyBuffer {
             kids: Vec::new(alloc),
-            name: Vec::new(alloc),
         }
     }
 
     /// Reserves memory for copies of so many rows. Returns `NoMemory` if allocation fails.
     fn reserve(&mut self, rows: usize) -> Result<(), NoMemory>
-        ensures ok { OnOk result ((rows ≤ self.new.kids) × (256 ≤ self.new.bytes)) }
-        ensures room { rows ≤ self.old.kids → 256 ≤ self.old.bytes → IsOk result }
+        ensures ok { OnOk result (rows ≤ self.new.kids) }
+        ensures room { rows ≤ self.old.kids → IsOk result }
     {
         self.kids.reserve(rows)?;
-        self.name.clear();
-        self.name.reserve(MOST_NAME)?;
         Ok(())
     }
 
@@ -84,15 +74,8 @@ impl CopyBuffer {
         ensures others { KeepsNodes forest.old.nodes forest.new.nodes }
     {
         let _count = tree.rows();
-        let copied = forest.copy(
-            tree,
-            at,
-            end,
-            path.len(),
-            hint,
-            &mut self.kids,
-            &mut self.name,
-        );
+        let row = tree.placed_row(at, 0);
+        let copied = forest.copy(tree, at, end, row, hint, &mut self.kids);
         copied.node
     }
 }
