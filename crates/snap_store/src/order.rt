@@ -179,12 +179,27 @@ pub fn root_of(taken: &Vec<Taken>, roots: &Vec<u32>, dir: u64, name: &Text) -> O
     }
 }
 
+/// The directory and the root of the snapshot that was taken last.
+#[derive(Clone, Copy)]
+pub struct Last {
+    pub dir: u64,
+    pub root: u32,
+}
+
 /// Returns the root of the snapshot of a directory that was taken last, or the greatest number if it
-/// has none.
-pub fn newest_root(taken: &Vec<Taken>, roots: &Vec<u32>, dir: u64) -> u32
+/// has none. Takes as much time as the directory has snapshots, unless `last` is one of them.
+pub fn newest_root(taken: &Vec<Taken>, roots: &Vec<u32>, last: Option<Last>, dir: u64) -> u32
     requires rising { IsRisingBy snapshot_cmp taken.now.items }
     requires count { length roots.now.items ≡ length taken.now.items }
 {
+    match last {
+        Some(last) => {
+            if last.dir == dir {
+                return last.root;
+            }
+        }
+        None => {}
+    }
     let mut newest = u32::MAX;
     let mut number = 0;
     for at in first_of(taken, dir)..end_of(taken, dir) {

@@ -13,7 +13,8 @@ ghost use Rattle.snap_store.specs.Snapshots.{IsReady, IsSnapshots, Snapshot, all
 ghost use Rattle.snap_store.specs.Stored.{snapshots_of};
 
 use crate::order::{
-    Taken, end_of, find, first_of, holds, newest_root, put_reserved, remove, reserve_place, root_of,
+    Last, Taken, end_of, find, first_of, holds, newest_root, put_reserved, remove, reserve_place,
+    root_of,
 };
 use crate::reserved::Reserved;
 use frozen_nodes::Forest;
@@ -112,6 +113,12 @@ fn give_back(forest: &mut Forest, roots: &mut Vec<u32>, loose: usize) -> usize
     }
 }
 
+/// Returns the last snapshot as long as its root has the same number: until fewer nodes are loose than
+/// before.
+fn last_left(last: Option<Last>, before: usize, loose: usize) -> Option<Last> {
+    if loose < before { None } else { last }
+}
+
 fn copy_of(alloc: Global, name: &Text) -> Result<Text, NoMemory>
     ensures { IfOk result (λ copy. copy ≡ name.now) }
 {
@@ -155,6 +162,8 @@ pub struct Snaps {
     forest: Forest,
     /// How many snapshots were taken.
     takes: u64,
+    /// The last one of them, unless the nodes have got other numbers since.
+    last: Option<Last>,
     /// At most so many nodes belong to no snapshot: the rows of the snapshots that were removed since
     /// each node belonged to one.
     loose: usize,
@@ -189,6 +198,7 @@ impl Snaps {
             roots: Vec::new(alloc),
             forest: Forest::new(alloc),
             takes: 0,
+            last: None,
             loose: 0,
             reserved: Reserved::none(alloc),
             name: None,
@@ -255,11 +265,15 @@ impl Snaps {
         let kept = mem::replace(&mut self.name, None);
         let name = name_for(self.alloc, kept, name)?;
         reserve_place(&mut self.taken, &mut self.roots)?;
-        let near = newest_root(&self.taken, &self.roots, dir);
+        let near = newest_root(&self.taken, &self.roots, self.last, dir);
         let rows = self.reserved.take(&mut self.forest, tree, dir, near)?;
         self.takes = self.takes.saturating_add(1);
         let snapshot = Taken::new(dir, name, rows.count, self.takes);
         put_reserved(&mut self.taken, &mut self.roots, snapshot, rows.root);
+        self.last = Some(Last {
+            dir,
+            root: rows.root,
+        });
         Ok(())
     }
 
@@ -287,6 +301,7 @@ impl Snaps {
         let rows = remove(&mut self.taken, &mut self.roots, dir, name);
         let loose = self.loose.saturating_add(rows);
         self.loose = give_back(&mut self.forest, &mut self.roots, loose);
+        self.last = last_left(self.last, loose, self.loose);
     }
 
     /// Returns the row that a snapshot has at a path relative to its directory. Returns `None` if
