@@ -1,6 +1,6 @@
 -- The bytes of a number in reverse order.
-use Rattle.std.proofs.Common.{◌≡◌, ℕ, zero, suc, ◌+◌, ◌*◌, ◌/◌, ◌%◌, ◌^◌, ◌<◌, List, [], ◌∷◌, length, get_or, sym, ap, ◌∙◌, arith}
-use Rattle.std.specs.Int.{w128, from_be_bytes, swap_bytes, to_be_bytes, to_le_bytes}
+use Rattle.std.proofs.Common.{◌≡◌, ℕ, zero, suc, ◌+◌, ◌*◌, ◌/◌, ◌%◌, ◌^◌, ◌<◌, List, [], ◌∷◌, ◌++◌, length, get_or, sym, ap, ◌∙◌, arith}
+use Rattle.std.specs.Int.{w64, w128, from_be_bytes, swap_bytes, to_be_bytes, to_le_bytes}
 use Rattle.std.proofs.Math.Nat.{pow-succ', div-div-eq-div-mul}
 
 abbrev AreBytes : List ℕ → Type 0
@@ -22,12 +22,12 @@ byte_of-number (b ∷ bs) (suc i) small within =
     ap (λ (m : ℕ). m % 256) shifted ∙ byte_of-number bs i small.1 (omega arith)
 
 -- bytes read with the highest first and written with the lowest first are reversed
-read_and_written : (n0 n1 n2 n3 n4 n5 n6 n7 n8 n9 n10 n11 n12 n13 n14 n15 : ℕ) → AreBytes (n15 ∷ n14 ∷ n13 ∷ n12 ∷ n11 ∷ n10 ∷ n9 ∷ n8 ∷ n7 ∷ n6 ∷ n5 ∷ n4 ∷ n3 ∷ n2 ∷ n1 ∷ n0 ∷ [])
-    → to_le_bytes w128 (from_be_bytes w128 (n0 ∷ n1 ∷ n2 ∷ n3 ∷ n4 ∷ n5 ∷ n6 ∷ n7 ∷ n8 ∷ n9 ∷ n10 ∷ n11 ∷ n12 ∷ n13 ∷ n14 ∷ n15 ∷ [])) ≡ n15 ∷ n14 ∷ n13 ∷ n12 ∷ n11 ∷ n10 ∷ n9 ∷ n8 ∷ n7 ∷ n6 ∷ n5 ∷ n4 ∷ n3 ∷ n2 ∷ n1 ∷ n0 ∷ []
-read_and_written n0 n1 n2 n3 n4 n5 n6 n7 n8 n9 n10 n11 n12 n13 n14 n15 small =
-    let turned : List ℕ = n15 ∷ n14 ∷ n13 ∷ n12 ∷ n11 ∷ n10 ∷ n9 ∷ n8 ∷ n7 ∷ n6 ∷ n5 ∷ n4 ∷ n3 ∷ n2 ∷ n1 ∷ n0 ∷ [] in
-    let is : from_be_bytes w128 (n0 ∷ n1 ∷ n2 ∷ n3 ∷ n4 ∷ n5 ∷ n6 ∷ n7 ∷ n8 ∷ n9 ∷ n10 ∷ n11 ∷ n12 ∷ n13 ∷ n14 ∷ n15 ∷ []) ≡ number turned = omega arith in
-    let at_0 : number turned % 256 ≡ n15 = omega (arith, small.0) in
+read_and_written : (n0 n1 n2 n3 n4 n5 n6 n7 : ℕ) → AreBytes (n7 ∷ n6 ∷ n5 ∷ n4 ∷ n3 ∷ n2 ∷ n1 ∷ n0 ∷ [])
+    → to_le_bytes w64 (from_be_bytes w64 (n0 ∷ n1 ∷ n2 ∷ n3 ∷ n4 ∷ n5 ∷ n6 ∷ n7 ∷ [])) ≡ n7 ∷ n6 ∷ n5 ∷ n4 ∷ n3 ∷ n2 ∷ n1 ∷ n0 ∷ []
+read_and_written n0 n1 n2 n3 n4 n5 n6 n7 small =
+    let turned : List ℕ = n7 ∷ n6 ∷ n5 ∷ n4 ∷ n3 ∷ n2 ∷ n1 ∷ n0 ∷ [] in
+    let is : from_be_bytes w64 (n0 ∷ n1 ∷ n2 ∷ n3 ∷ n4 ∷ n5 ∷ n6 ∷ n7 ∷ []) ≡ number turned = omega arith in
+    let at_0 : number turned % 256 ≡ n7 = omega (arith, small.0) in
     let at_1 = byte_of-number turned 1 small (omega arith) in
     let at_2 = byte_of-number turned 2 small (omega arith) in
     let at_3 = byte_of-number turned 3 small (omega arith) in
@@ -35,18 +35,31 @@ read_and_written n0 n1 n2 n3 n4 n5 n6 n7 n8 n9 n10 n11 n12 n13 n14 n15 small =
     let at_5 = byte_of-number turned 5 small (omega arith) in
     let at_6 = byte_of-number turned 6 small (omega arith) in
     let at_7 = byte_of-number turned 7 small (omega arith) in
-    let at_8 = byte_of-number turned 8 small (omega arith) in
-    let at_9 = byte_of-number turned 9 small (omega arith) in
-    let at_10 = byte_of-number turned 10 small (omega arith) in
-    let at_11 = byte_of-number turned 11 small (omega arith) in
-    let at_12 = byte_of-number turned 12 small (omega arith) in
-    let at_13 = byte_of-number turned 13 small (omega arith) in
-    let at_14 = byte_of-number turned 14 small (omega arith) in
-    let at_15 = byte_of-number turned 15 small (omega arith) in
-    rw is (λ i. at_0 i ∷ at_1 i ∷ at_2 i ∷ at_3 i ∷ at_4 i ∷ at_5 i ∷ at_6 i ∷ at_7 i ∷ at_8 i ∷ at_9 i ∷ at_10 i ∷ at_11 i ∷ at_12 i ∷ at_13 i ∷ at_14 i ∷ at_15 i ∷ [])
+    rw is (λ i. at_0 i ∷ at_1 i ∷ at_2 i ∷ at_3 i ∷ at_4 i ∷ at_5 i ∷ at_6 i ∷ at_7 i ∷ [])
 
 -- a number whose bytes are swapped, written with its lowest byte first, has its own bytes with the highest first
-pub swapped_bytes : (n : ℕ) → to_le_bytes w128 (swap_bytes w128 n) ≡ to_be_bytes w128 n
+pub swapped_bytes : (n : ℕ) → to_le_bytes w64 (swap_bytes w64 n) ≡ to_be_bytes w64 n
 swapped_bytes n =
-    read_and_written (n % 256) (n / 256 ^ 1 % 256) (n / 256 ^ 2 % 256) (n / 256 ^ 3 % 256) (n / 256 ^ 4 % 256) (n / 256 ^ 5 % 256) (n / 256 ^ 6 % 256) (n / 256 ^ 7 % 256) (n / 256 ^ 8 % 256) (n / 256 ^ 9 % 256) (n / 256 ^ 10 % 256) (n / 256 ^ 11 % 256) (n / 256 ^ 12 % 256) (n / 256 ^ 13 % 256) (n / 256 ^ 14 % 256) (n / 256 ^ 15 % 256)
-    (omega arith, (omega arith, (omega arith, (omega arith, (omega arith, (omega arith, (omega arith, (omega arith, (omega arith, (omega arith, (omega arith, (omega arith, (omega arith, (omega arith, (omega arith, (omega arith, tt))))))))))))))))
+    read_and_written (n % 256) (n / 256 ^ 1 % 256) (n / 256 ^ 2 % 256) (n / 256 ^ 3 % 256) (n / 256 ^ 4 % 256) (n / 256 ^ 5 % 256) (n / 256 ^ 6 % 256) (n / 256 ^ 7 % 256)
+    (omega arith, (omega arith, (omega arith, (omega arith, (omega arith, (omega arith, (omega arith, (omega arith, tt))))))))
+
+-- the bytes of a number, highest first, are those of its high half and then those of its low half
+pub halves : (n : ℕ) → to_be_bytes w64 (n / 2 ^ 64) ++ to_be_bytes w64 (n % 2 ^ 64) ≡ to_be_bytes w128 n
+halves n =
+    let at_15 : (n / 2 ^ 64) / 256 ^ 7 % 256 ≡ n / 256 ^ 15 % 256 = omega arith in
+    let at_14 : (n / 2 ^ 64) / 256 ^ 6 % 256 ≡ n / 256 ^ 14 % 256 = omega arith in
+    let at_13 : (n / 2 ^ 64) / 256 ^ 5 % 256 ≡ n / 256 ^ 13 % 256 = omega arith in
+    let at_12 : (n / 2 ^ 64) / 256 ^ 4 % 256 ≡ n / 256 ^ 12 % 256 = omega arith in
+    let at_11 : (n / 2 ^ 64) / 256 ^ 3 % 256 ≡ n / 256 ^ 11 % 256 = omega arith in
+    let at_10 : (n / 2 ^ 64) / 256 ^ 2 % 256 ≡ n / 256 ^ 10 % 256 = omega arith in
+    let at_9 : (n / 2 ^ 64) / 256 ^ 1 % 256 ≡ n / 256 ^ 9 % 256 = omega arith in
+    let at_8 : (n / 2 ^ 64) % 256 ≡ n / 256 ^ 8 % 256 = omega arith in
+    let at_7 : (n % 2 ^ 64) / 256 ^ 7 % 256 ≡ n / 256 ^ 7 % 256 = omega arith in
+    let at_6 : (n % 2 ^ 64) / 256 ^ 6 % 256 ≡ n / 256 ^ 6 % 256 = omega arith in
+    let at_5 : (n % 2 ^ 64) / 256 ^ 5 % 256 ≡ n / 256 ^ 5 % 256 = omega arith in
+    let at_4 : (n % 2 ^ 64) / 256 ^ 4 % 256 ≡ n / 256 ^ 4 % 256 = omega arith in
+    let at_3 : (n % 2 ^ 64) / 256 ^ 3 % 256 ≡ n / 256 ^ 3 % 256 = omega arith in
+    let at_2 : (n % 2 ^ 64) / 256 ^ 2 % 256 ≡ n / 256 ^ 2 % 256 = omega arith in
+    let at_1 : (n % 2 ^ 64) / 256 ^ 1 % 256 ≡ n / 256 ^ 1 % 256 = omega arith in
+    let at_0 : (n % 2 ^ 64) % 256 ≡ n % 256 = omega arith in
+    λ i. at_15 i ∷ at_14 i ∷ at_13 i ∷ at_12 i ∷ at_11 i ∷ at_10 i ∷ at_9 i ∷ at_8 i ∷ at_7 i ∷ at_6 i ∷ at_5 i ∷ at_4 i ∷ at_3 i ∷ at_2 i ∷ at_1 i ∷ at_0 i ∷ []

@@ -1,20 +1,35 @@
 //! The key stream, block by block.
 ghost use Rattle.std.specs.Prelude.{◌≡◌, ◌+◌, ◌^◌, ◌<◌, [], ◌∷◌};
+ghost use Rattle.std.specs.Int.{w128, to_be_bytes};
 ghost use Rattle.aes_core.specs.Aes.{cipher};
 ghost use Rattle.aes_core.specs.AnyAes.{key_of};
 ghost use Rattle.aes_ctr.specs.Ctr.{counter_block};
 
 use aes_core::AnyAes;
 
+/// Returns the bytes of a number, the highest first.
+#[inline(always)]
+#[tactic(auto, using(crate::proofs::Counters::swapped_bytes, crate::proofs::Counters::halves))]
+fn be_bytes(n: u128) -> [u8; 16]
+    ensures { result ≡ to_be_bytes w128 n }
+{
+    // Each half compiles to one write. The other ways to write the number, as u128's own to_be_bytes,
+    // compile to a shift and more for each byte.
+    let [a0, a1, a2, a3, a4, a5, a6, a7] = ((n >> 64) as u64).swap_bytes().to_le_bytes();
+    let [b0, b1, b2, b3, b4, b5, b6, b7] = ((n % (1 << 64)) as u64).swap_bytes().to_le_bytes();
+    [
+        a0, a1, a2, a3, a4, a5, a6, a7, b0, b1, b2, b3, b4, b5, b6, b7,
+    ]
+}
+
 /// Returns the counter block `j` blocks after the first.
 #[inline(always)]
-#[tactic(auto, using(crate::proofs::Counters::swapped_bytes), unfolding(crate::specs::Ctr::counter_block))]
+#[tactic(auto, unfolding(crate::specs::Ctr::counter_block))]
 fn counter_block(counter: [u8; 16], j: u64) -> [u8; 16]
     ensures { result ≡ counter_block counter j }
 {
     let first = u128::from_be_bytes(counter);
-    // This compiles to writes of whole words; to_be_bytes would compile to a write for each byte.
-    first.wrapping_add(j as u128).swap_bytes().to_le_bytes()
+    be_bytes(first.wrapping_add(j as u128))
 }
 
 /// Returns the block of the key stream `j` blocks after the first.

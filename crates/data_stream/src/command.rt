@@ -117,8 +117,8 @@ fn obey<A: Source, S: Source, K: Sink, D: Disk, V: Vault, W: Words, C: Clock>(
 ///
 /// Help and version are printed with status 0, whatever other words there are. A mistake in the words
 /// gives status 2 and the line `usage refused`. If allocation fails while the words are read, the status
-/// is 6 and the line is `no memory`. All these use the output alone. The other statuses, for each of
-/// which the clause `reason` has the cause:
+/// is 6 and the line is `no memory`. All these use the output alone. The clause `reason` has the cause of
+/// each status but 0 and 6. The other statuses:
 ///
 /// - 0: the body was stored, or the range was written.
 /// - 3: the properties were refused.
@@ -173,7 +173,7 @@ pub fn hkfs<A: Source, S: Source, K: Sink, D: Disk, V: Vault, W: Words, C: Clock
         (TellsBodies (V.state vault.old) → HadBody (V.state vault.old)) }
     ensures long { result ≡ 13 → (all : List ℕ) → S.left input.old ≡ Some all →
         longest_body < length all }
-    // Every status has its cause.
+    // Every status but 0 and 6 has its cause.
     ensures reason { HasReason (record {
       mistake = IsMistake (line_fault words.now);
       puts = NamesPut words.now;
