@@ -1,9 +1,8 @@
 //! The key stream, block by block.
-ghost use Rattle.std.specs.Prelude.{◌≡◌, ◌+◌, ◌^◌, ◌<◌, [], ◌∷◌};
+ghost use Rattle.std.specs.Prelude.{◌≡◌, ◌+◌, ◌^◌, ◌<◌};
 ghost use Rattle.std.specs.Int.{w128, to_be_bytes};
-ghost use Rattle.aes_core.specs.Aes.{cipher};
 ghost use Rattle.aes_core.specs.AnyAes.{key_of};
-ghost use Rattle.aes_ctr.specs.Ctr.{counter_block};
+ghost use Rattle.aes_ctr.specs.Ctr.{counter_block, eight_stream_blocks, stream_block};
 
 use aes_core::AnyAes;
 
@@ -35,7 +34,7 @@ fn counter_block(counter: [u8; 16], j: u64) -> [u8; 16]
 /// Returns the block of the key stream `j` blocks after the first.
 #[inline(always)]
 pub(crate) fn stream_block(key: &AnyAes, counter: [u8; 16], j: u64) -> [u8; 16]
-    ensures { result ≡ cipher (key_of key.now) (counter_block counter j) }
+    ensures { result ≡ stream_block (key_of key.now) counter j }
 {
     key.encrypt_block(&counter_block(counter, j))
 }
@@ -44,15 +43,7 @@ pub(crate) fn stream_block(key: &AnyAes, counter: [u8; 16], j: u64) -> [u8; 16]
 #[inline(always)]
 pub(crate) fn eight_stream_blocks(key: &AnyAes, counter: [u8; 16], j: u64) -> [[u8; 16]; 8]
     requires { j + 7 < 2 ^ 64 }
-    ensures { result ≡
-        cipher (key_of key.now) (counter_block counter j)
-        ∷ cipher (key_of key.now) (counter_block counter (j + 1))
-        ∷ cipher (key_of key.now) (counter_block counter (j + 2))
-        ∷ cipher (key_of key.now) (counter_block counter (j + 3))
-        ∷ cipher (key_of key.now) (counter_block counter (j + 4))
-        ∷ cipher (key_of key.now) (counter_block counter (j + 5))
-        ∷ cipher (key_of key.now) (counter_block counter (j + 6))
-        ∷ cipher (key_of key.now) (counter_block counter (j + 7)) ∷ [] }
+    ensures { result ≡ eight_stream_blocks (key_of key.now) counter j }
 {
     [
         stream_block(key, counter, j),

@@ -32,7 +32,7 @@ impl Model for EditLog {
 }
 
 impl EditLog {
-    ghost use Rattle.std.specs.Prelude.{◌≡◌, ◌≢◌, ◌<◌, ◌+◌, ◌⊎◌, ◌++◌, [], ◌∷◌, ℕ, List, Option, Some, None, Ok, IsTrue, IsErr, IfOk, OnOk, OnErr, IsErrOf, is_some, slice_get, map};
+    ghost use Rattle.std.specs.Prelude.{◌≡◌, ◌<◌, ◌+◌, ◌⊎◌, ◌++◌, [], ◌∷◌, ℕ, List, Option, Some, None, Ok, IsTrue, IsErr, IfOk, OnOk, OnErr, IsErrOf, is_some, map};
     ghost use Rattle.hk_base.specs.Disk.{Tells, RunOn, LeavesOnly};
     ghost use Rattle.hk_base.specs.Faults.{Rose};
     ghost use Rattle.frame_log.specs.Format.{IsAsFound};
@@ -43,7 +43,7 @@ impl EditLog {
     ghost use Rattle.edit_ops.specs.declared.ops.EditOp.{EditOp};
     ghost use Rattle.edit_ops.specs.declared.ops.EditOp.TheVariants as op;
     ghost use Rattle.edit_log.specs.Reader.{IsOpened};
-    ghost use Rattle.edit_log.specs.Log.{IsEditLogOf, IsWithOrWithout};
+    ghost use Rattle.edit_log.specs.Log.{DropsUnlessGateSet, IsEditLogOf, IsWithOrWithout, KeepsIfGateSet};
 
     /// Recovers a disk's edit log. The reader returns its operations one after another. Nothing is
     /// committed: the file is unchanged, or its end gate is set to 0. Returns `Damaged` only if the file is
@@ -211,14 +211,11 @@ impl EditLog {
             (result ≡ Ok None) × (self.new ≡ self.old) × (disk.new ≡ disk.old) }
         ensures settled { OnOk result (self.new.pending ≡ None) }
         ensures answer { IfOk result (λ kept. (kept ≡ None) ⊎ (kept ≡ self.old.pending)) }
-        ensures kept { IfOk result (λ kept. Tells (D.state disk.old) → (ops : List EditOp) (op : EditOp) → IsEditLogOf (D.state disk.old) self.old ops → self.old.pending ≡ Some op
-            → slice_get ((D.state disk.old).reads 1) self.old.log.end ≡ Some 1
-            → (kept ≡ Some op) × IsEditLogOf (D.state disk.new) self.new (ops ++ op ∷ [])) }
+        ensures kept { IfOk result
+            (λ kept. KeepsIfGateSet (D.state disk.old) (D.state disk.new) self.old kept self.new) }
         ensures dropped { IfOk result
-            (λ kept. Tells (D.state disk.old) → (ops : List EditOp) →
-            IsEditLogOf (D.state disk.old) self.old ops
-            → slice_get ((D.state disk.old).reads 1) self.old.log.end ≢ Some 1
-            → (kept ≡ None) × IsEditLogOf (D.state disk.new) self.new ops) }
+            (λ kept.
+            DropsUnlessGateSet (D.state disk.old) (D.state disk.new) self.old kept self.new) }
         ensures still_pending { OnErr result (self.new ≡ self.old) }
         ensures refused { OnErr result
             (Tells (D.state disk.old) → (ops : List EditOp) →

@@ -1,5 +1,7 @@
 -- Frozen nodes in memory: the names of all nodes lie in one list, and their kids in another.
-use Rattle.std.specs.Prelude.{ℕ, ◌+◌, ◌≤◌, List, [], ◌∷◌, map, take, drop, ⊤}
+use Rattle.std.specs.Prelude.{ℕ, ◌+◌, ◌-◌, ◌≤◌, List, [], ◌∷◌, map, take, drop, ⊤}
+use Rattle.std.specs.Vec.{vec_capacity, vec_len}
+use Rattle.std.specs.Global.{Vec}
 use Rattle.frozen_nodes.specs.Forest.{FrozenNode}
 use Rattle.inode_tree.specs.declared.rows.Row.{Row}
 
@@ -10,6 +12,10 @@ pub record PlacedNode : Type 0 where
   pub name_len : ℕ
   pub kids : ℕ
   pub kid_count : ℕ
+
+-- for how many more elements a list has memory
+abbrev pub spare : {X : Type 0} → Vec X → ℕ
+spare xs = vec_capacity xs - vec_len xs
 
 -- count elements from a place on, or as many as there are
 abbrev pub part : {X : Type 0} → ℕ → ℕ → List X → List X

@@ -30,13 +30,21 @@ pub struct Forest {
 
 impl Model for Forest {
     ghost use Rattle.std.specs.Prelude.{◌≤◌, ◌-◌, length, min};
-    ghost use Rattle.std.specs.Vec.{vec_len, vec_capacity};
+    ghost use Rattle.std.specs.Vec.{vec_len};
     ghost use Rattle.frozen_nodes.specs.Forest.{IsForest};
-    ghost use Rattle.frozen_nodes.specs.Packed.{AllInside, ForestState, nodes_in};
+    ghost use Rattle.frozen_nodes.specs.Packed.{AllInside, ForestState, nodes_in, spare};
 
     ghost Value = { ForestState };
 
-    ghost view = { λ forest. record { nodes = nodes_in forest.names.items forest.kids.items forest.nodes.items; room = record { nodes = min (vec_capacity forest.nodes - vec_len forest.nodes) (4294967295 - vec_len forest.nodes); kids = vec_capacity forest.kids - vec_len forest.kids; bytes = vec_capacity forest.names - vec_len forest.names } } };
+    ghost view = { λ forest.
+        record {
+          nodes = nodes_in forest.names.items forest.kids.items forest.nodes.items;
+          room = record {
+            nodes = min (spare forest.nodes) (4294967295 - vec_len forest.nodes);
+            kids = spare forest.kids;
+            bytes = spare forest.names;
+          };
+        } };
 
     ghost invariant = { λ forest.
         IsForest (nodes_in forest.names.items forest.kids.items forest.nodes.items) ×

@@ -12,12 +12,11 @@ use Rattle.key_rows.specs.Sound.{IsTable, Rising}
 use Rattle.key_rows.proofs.Births.{both, by_birth, each_more}
 use Rattle.kms_core.specs.declared.drawing.CurrentVersion.{CurrentVersion}
 use Rattle.eek_seal.specs.declared.deposit.Deposit.TheVariants.{Full, Kept}
-use Rattle.kms_core.specs.State.{AllReady, KmsState, ServiceState, emptied}
+use Rattle.kms_core.specs.State.{AllReady, Keeps, KmsState, ServiceState, emptied}
 use Rattle.kms_core.specs.Calls.{current_version, row_of}
 use Rattle.kms_core.specs.Ready.{deposit_answer, edek_of_sealed, is_filled, is_of_key, is_present, low_birth, newest_material, stale_for, ticket_for, ticket_of, with_sealed}
 use Rattle.kms_core.specs.Steps.{DrewSome, HandsOut, IsCurrent, IsNewest, IsOfNewest}
 use Rattle.kms_core.proofs.KeyLemmas.{named}
-use Rattle.kms_core.proofs.KeepLemmas.{Keeps}
 use Rattle.kms_core.proofs.QueueLemmas.{all_handed_out, all_set, ready_are}
 
 -- the keys of other queues

@@ -5,15 +5,8 @@ use Rattle.key_rows.specs.declared.rows.KeyCommand.TheVariants.{Create, Roll, De
 use Rattle.key_rows.specs.Table.{after}
 use Rattle.std.proofs.lemmas.Bool.Decides.{nat_tests}
 use Rattle.kms_core.specs.Calls.{is_full}
-use Rattle.kms_core.specs.State.{AllReady, KmsState, ServiceState, emptied, settled, without}
+use Rattle.kms_core.specs.State.{AllReady, Keeps, KmsState, ServiceState, emptied, settled, without}
 use Rattle.kms_core.proofs.QueueLemmas.{all_created, all_deleted, all_rolled, ready_settled}
-
--- the invariant of the fields of a service
-abbrev pub Keeps : ServiceState → Type 0
-Keeps s =
-    (0 < s.keys.table.opening) × (s.keys.table.opening < 2 ^ 32) × (s.keys.table.greatest < s.keys.table.opening * 2 ^ 32 + s.keys.next) × (s.keys.next ≤ 2 ^ 32)
-    × IfSome s.pending (λ command. ((after s.keys.table command).opening ≡ s.keys.table.opening) × ((after s.keys.table command).greatest < s.keys.table.opening * 2 ^ 32 + s.keys.next))
-    × AllReady s.keys.table.rows s.keys.ready.queues
 
 -- the same of a service that is equal
 pub keeps_is : (s t : ServiceState) → t ≡ s → Keeps s → Keeps t

@@ -90,6 +90,14 @@ pub record IsService (s : ServiceState) : Type 0 where
   pub waits : IfSome s.pending (IsPending s.keys)
   pub ready : AllReady s.keys.table.rows s.keys.ready.queues
 
+-- What the fields of a service keep: births in use are below the next one, also once the pending command took effect, and each queue
+-- holds ready keys of the current version of its key.
+abbrev pub Keeps : ServiceState → Type 0
+Keeps s =
+    (0 < s.keys.table.opening) × (s.keys.table.opening < 2 ^ 32) × (s.keys.table.greatest < s.keys.table.opening * 2 ^ 32 + s.keys.next) × (s.keys.next ≤ 2 ^ 32)
+    × IfSome s.pending (λ command. ((after s.keys.table command).opening ≡ s.keys.table.opening) × ((after s.keys.table command).greatest < s.keys.table.opening * 2 ^ 32 + s.keys.next))
+    × AllReady s.keys.table.rows s.keys.ready.queues
+
 -- A running service: its store, the counter of the next birth, and the queues of ready keys.
 pub record Running : Type 0 where
   pub store : StoreState

@@ -58,15 +58,14 @@ pub struct Service {
 }
 
 impl Model for Service {
-    ghost use Rattle.std.specs.Prelude.{◌≡◌, ◌+◌, ◌*◌, ◌^◌, ◌<◌, ◌≤◌, IfSome};
-    ghost use Rattle.key_rows.specs.Table.{after};
-    ghost use Rattle.kms_core.specs.State.{AllReady, Running};
+    ghost use Rattle.kms_core.specs.State.{Keeps, Running, service_of};
 
     ghost Value = { Running };
 
     ghost view = { λ a. record { store = a.store; next = a.next; ready = a.queues } };
 
-    ghost invariant = { λ a. (0 < a.store.table.keys.opening) × (a.store.table.keys.opening < 2 ^ 32) × (a.store.table.keys.greatest < a.store.table.keys.opening * 2 ^ 32 + a.next) × (a.next ≤ 2 ^ 32) × IfSome a.store.pending (λ command. ((after a.store.table.keys command).opening ≡ a.store.table.keys.opening) × ((after a.store.table.keys command).greatest < a.store.table.keys.opening * 2 ^ 32 + a.next)) × AllReady a.store.table.keys.rows a.queues.queues };
+    ghost invariant = { λ a.
+        Keeps (service_of (record { store = a.store; next = a.next; ready = a.queues })) };
 }
 
 fn is_length(bits: u64) -> bool

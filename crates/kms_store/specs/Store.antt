@@ -1,5 +1,5 @@
 -- A store over a key log, and the commands that it holds.
-use Rattle.std.specs.Prelude.{◌≡◌, ◌⊎◌, ℕ, ◌+◌, Bool, true, false, List, [], ◌∷◌, ◌++◌, map, Option, Some, None, option_map, IfSome}
+use Rattle.std.specs.Prelude.{◌≡◌, ◌⊎◌, ℕ, ◌+◌, Bool, true, false, List, [], ◌∷◌, ◌++◌, map, Option, Some, None, option_map, IfSome, slice_get}
 use Rattle.std.specs.List.{AllByRecursion}
 use Rattle.hk_base.specs.Disk.{DiskState, Tells}
 use Rattle.frame_log.specs.Format.{log_of, Found, NoLog, end_of, IsAtRest, IsBeforeOrAfter, IsRecovered}
@@ -49,6 +49,20 @@ pub record SettlesKeys (old new : DiskState) (store store' : StoreState) (kept :
   pub none : store'.pending ≡ None
   pub table : store'.table.keys ≡ settled_table kept store.pending store.table.keys
   pub log : Tells old → (commands : List KeyCommand) → IsKeyStoreOf old store commands → IsKeyStoreOf new store' (commands ++ settled_commands kept store.pending)
+
+-- the gate byte before the pending record reads 1, so that the record counts
+abbrev pub IsGateSet : DiskState → StoreState → Type 0
+IsGateSet disk store = slice_get (disk.reads 0) store.log.end ≡ Some 1
+
+-- if that gate byte is set, the pending command is acknowledged
+abbrev pub KeepsIfGateSet : DiskState → DiskState → StoreState → StoreState → Type 0
+KeepsIfGateSet old new store store' =
+    Tells old → (commands : List KeyCommand) (command : KeyCommand) → IsKeyStoreOf old store commands → store.pending ≡ Some command → IsGateSet old store → IsKeyStoreOf new store' (commands ++ command ∷ [])
+
+-- if it is not set, no command is added
+abbrev pub DropsUnlessGateSet : DiskState → DiskState → StoreState → StoreState → Type 0
+DropsUnlessGateSet old new store store' =
+    Tells old → (commands : List KeyCommand) → IsKeyStoreOf old store commands → ¬ IsGateSet old store → IsKeyStoreOf new store' commands
 
 -- a key log of these commands, with or without one more, both now and once its end gate byte is set to 1
 abbrev pub IsWithOrWithout : List KeyCommand → KeyCommand → List ℕ → Type 0

@@ -35,7 +35,7 @@ impl Model for Store {
 }
 
 impl Store {
-    ghost use Rattle.std.specs.Prelude.{◌≡◌, ◌≢◌, ◌≤◌, ◌<◌, ◌+◌, ◌*◌, ◌^◌, ◌⊎◌, ◌++◌, [], ◌∷◌, ℕ, List, Option, Some, None, Ok, IsTrue, false, IsSome, IsOk, IsErr, IfOk, OnOk, OnErr, IsErrOf, slice_get, map};
+    ghost use Rattle.std.specs.Prelude.{◌≡◌, ◌≤◌, ◌<◌, ◌+◌, ◌*◌, ◌^◌, ◌⊎◌, ◌++◌, [], ◌∷◌, ℕ, List, Option, Some, None, Ok, IsTrue, false, IsSome, IsOk, IsErr, IfOk, OnOk, OnErr, IsErrOf, map};
     ghost use Rattle.std.specs.Option.{option_copied};
     ghost use Rattle.hk_base.specs.Disk.{Tells, RunOn, LeavesOnly};
     ghost use Rattle.hk_base.specs.Faults.{Rose};
@@ -46,7 +46,7 @@ impl Store {
     ghost use Rattle.key_rows.specs.Table.{Table, applies, after, material_of};
     ghost use Rattle.key_rows.specs.declared.rows.KeyCommand.{KeyCommand};
     ghost use Rattle.kms_store.specs.Replay.{IsReplayed, IsStuck, payloads};
-    ghost use Rattle.kms_store.specs.Store.{Applies, IsKeyStoreOf, IsWithOrWithout, IsWritten, IsKeyLog, IsOpening, OpensKeys, SettlesKeys, next_opening};
+    ghost use Rattle.kms_store.specs.Store.{Applies, DropsUnlessGateSet, IsKeyStoreOf, IsWithOrWithout, IsWritten, IsKeyLog, IsOpening, KeepsIfGateSet, OpensKeys, SettlesKeys, next_opening};
 
     /// Opens the key log of a disk, builds the table from its commands, and commits the record of a
     /// new opening. A crash may stop it at any moment; a later start then works as usual.
@@ -201,14 +201,10 @@ impl Store {
         ensures table { OnOk result ((self.new.table.keys ≡ self.old.table.keys)
             ⊎ ((command : KeyCommand) × (self.old.pending ≡ Some command) ×
             (self.new.table.keys ≡ after self.old.table.keys command))) }
-        ensures kept { OnOk result (Tells (D.state disk.old) → (commands : List KeyCommand) (command : KeyCommand) → IsKeyStoreOf (D.state disk.old) self.old commands → self.old.pending ≡ Some command
-            → slice_get ((D.state disk.old).reads 0) self.old.log.end ≡ Some 1
-            → IsKeyStoreOf (D.state disk.new) self.new (commands ++ command ∷ [])) }
+        ensures kept { OnOk result
+            (KeepsIfGateSet (D.state disk.old) (D.state disk.new) self.old self.new) }
         ensures dropped { OnOk result
-            (Tells (D.state disk.old) → (commands : List KeyCommand) →
-            IsKeyStoreOf (D.state disk.old) self.old commands
-            → slice_get ((D.state disk.old).reads 0) self.old.log.end ≢ Some 1
-            → IsKeyStoreOf (D.state disk.new) self.new commands) }
+            (DropsUnlessGateSet (D.state disk.old) (D.state disk.new) self.old self.new) }
         ensures still_pending { OnErr result (self.new ≡ self.old) }
         ensures refused { OnErr result
             (Tells (D.state disk.old) → (commands : List KeyCommand) →

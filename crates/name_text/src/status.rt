@@ -24,7 +24,8 @@ pub(crate) fn write_status(
 }
 
 fn write_fields(alloc: Global, status: &ZoneStatus, out: &mut String) -> Result<(), NoMemory>
-    ensures { OnOk result (string_bytes out.new ≡ string_bytes out.old ++ codes "status " ++ state_text status.now.state ++ codes " " ++ version_text status.now.noted.key status.now.noted.number ++ codes " " ++ counts_text status.now ++ codes " " ++ yes_or_no status.now.cancelled ++ codes " " ++ mark_text status.now.mark) }
+    ensures { OnOk result
+        (string_bytes out.new ≡ string_bytes out.old ++ status_text (Some status.now)) }
 {
     write_text("status ", out)?;
     write_text(state_name(status.state), out)?;

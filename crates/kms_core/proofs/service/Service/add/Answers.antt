@@ -2,10 +2,10 @@ use Rattle.std.proofs.Common.{rules, ◌≡◌, ◌*◌, ◌^◌, ◌+◌, ℕ, 
 use Rattle.key_rows.specs.declared.rows.KeyCommand.{KeyCommand}
 use Rattle.key_rows.specs.declared.rows.KeyCommand.TheVariants.{Create}
 use Rattle.key_rows.specs.Table.{applies}
-use Rattle.kms_core.specs.State.{Running, keys_of, service_of}
+use Rattle.kms_core.specs.State.{Keeps, Running, keys_of, service_of}
 use Rattle.kms_core.specs.Calls.{created, is_full}
 use Rattle.kms_core.specs.Steps.{Commits}
-use Rattle.kms_core.proofs.KeepLemmas.{Keeps, keeps_created, keeps_is, keeps_lost, room_for}
+use Rattle.kms_core.proofs.KeepLemmas.{keeps_created, keeps_is, keeps_lost, room_for}
 use Rattle.kms_core.proofs.ServiceLemmas.{Committed, IsDeedOf, commit_done, commit_failed, commit_wanting}
 use Rattle.kms_core.proofs.service.Service.add.Goals as goal
 

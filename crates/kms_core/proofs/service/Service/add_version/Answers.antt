@@ -2,11 +2,11 @@ use Rattle.std.proofs.Common.{◌≡◌, ℕ, true, Option, None, Some, Err, ref
 use Rattle.key_rows.specs.declared.rows.KeyCommand.{KeyCommand}
 use Rattle.key_rows.specs.declared.rows.KeyCommand.TheVariants.{Roll}
 use Rattle.key_rows.specs.Table.{applies}
-use Rattle.kms_core.specs.State.{Running, keys_of, service_of}
+use Rattle.kms_core.specs.State.{Keeps, Running, keys_of, service_of}
 use Rattle.kms_core.specs.Calls.{rolled, row_of, version_with_material, versions_of}
 use Rattle.kms_core.specs.Steps.{Commits, StandsSo}
 use Rattle.kms_core.proofs.StepLemmas.{can_roll}
-use Rattle.kms_core.proofs.KeepLemmas.{Keeps, keeps_is, keeps_rolled, keeps_unrolled}
+use Rattle.kms_core.proofs.KeepLemmas.{keeps_is, keeps_rolled, keeps_unrolled}
 use Rattle.kms_core.proofs.ServiceLemmas.{Committed, IsDeedOf, commit_done, commit_failed, commit_wanting}
 use Rattle.kms_core.proofs.service.Service.add_version.Goals as goal
 

@@ -2,10 +2,10 @@ use Rattle.std.proofs.Common.{rules, ◌≡◌, true, Option, None, Err, refl, a
 use Rattle.key_rows.specs.declared.rows.KeyCommand.{KeyCommand}
 use Rattle.key_rows.specs.declared.rows.KeyCommand.TheVariants.{Delete}
 use Rattle.key_rows.specs.Table.{applies}
-use Rattle.kms_core.specs.State.{Running, keys_of, service_of}
+use Rattle.kms_core.specs.State.{Keeps, Running, keys_of, service_of}
 use Rattle.kms_core.specs.Calls.{deleted}
 use Rattle.kms_core.specs.Steps.{Commits}
-use Rattle.kms_core.proofs.KeepLemmas.{Keeps, keeps_deleted, keeps_is, keeps_undeleted}
+use Rattle.kms_core.proofs.KeepLemmas.{keeps_deleted, keeps_is, keeps_undeleted}
 use Rattle.kms_core.proofs.ServiceLemmas.{Committed, IsDeedOf, commit_done, commit_failed, commit_wanting}
 use Rattle.kms_core.proofs.service.Service.remove.Goals as goal
 
