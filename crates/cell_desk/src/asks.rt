@@ -13,10 +13,11 @@ ghost use Rattle.cell_desk.specs.Orders.{CallsOnce, finish_reply};
 use hk_base::{NoMemory, Text};
 use kms_calls::{KmsCall, KmsReply};
 use name_calls::{Answered, Ask, AskNote, NPath, NameRefusal, NameReply, Want};
+use name_core::superuser;
 use name_rest::NameOrder;
 use std::alloc::Global;
 use std::sync::Wait;
-use turns::{Turns, superuser};
+use turns::Turns;
 
 /// Returns the zone of a submission, or `None` of another ask.
 fn zone_of(alloc: Global, ask: &Ask) -> Result<Option<NPath>, NoMemory> {

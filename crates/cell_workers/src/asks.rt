@@ -7,9 +7,10 @@ ghost use Rattle.turns.specs.Entries.{NamesMake};
 
 use hk_base::{Listing, NoMemory};
 use name_calls::{NPath, NameCall, NameRefusal, NameReply, State, ZoneList, ZonePath};
+use name_core::superuser;
 use std::alloc::Global;
 use std::sync::Wait;
-use turns::{Turns, superuser};
+use turns::Turns;
 
 /// Returns the zones that a reply lists.
 fn zones_in(alloc: Global, reply: NameReply) -> Result<ZoneList, NoMemory>

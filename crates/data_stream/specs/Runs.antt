@@ -14,7 +14,7 @@ use Rattle.world_run.specs.Ledger.{Hidden}
 use Rattle.world_run.specs.Linked.{WordsApart}
 use Rattle.world_run.specs.World.{WorldState, first_world}
 use Rattle.hk_runs.specs.Logs.{HiddenBefore, NoRestart, OnDisk, ReadsAs, opened_logs}
-use Rattle.hk_runs.specs.Run.{FilesOpen, Happened, History, Runs, StayApart, behind, drawn_in, faults_after, logged_in, world_after}
+use Rattle.hk_runs.specs.Run.{FilesOpenThroughout, Happened, History, Runs, StayApart, behind, drawn_in, faults_after, logged_in, world_after}
 
 -- under any lines that have the lists of the services, an event happens at this moment, with this answer
 abbrev pub LeadsAt : {D W : Type 0} → (D → DiskState) → (W → ℕ → ℕ) → ℕ → Standing D W → Event → Line → Standing D W → Type 0
@@ -42,7 +42,7 @@ pub record Worked (props : Props) (old new : DiskState) (words words' : ℕ → 
   pub began : old.faults ≤ before
   pub ended : faults_after before history ≤ new.faults
   pub on_disk : Tells old → OnDisk old new words props.sizes table names history NoRestart
-  pub promise : Tells old → (h : Hidden) → HiddenBefore old h → FilesOpen h (first_world props.sizes table names) words history
+  pub promise : Tells old → (h : Hidden) → HiddenBefore old h → FilesOpenThroughout h (first_world props.sizes table names) words history
   pub apart : Tells old → (h : Hidden) → HiddenBefore old h → WordsApart h → StayApart h (first_world props.sizes table names) words history
   pub reads : (tells : Tells old) → let found = on_disk tells in ReadsAs new (also (opened_logs found.commands table found.ops names) (logged_in history)) (world_after (first_world props.sizes table names) history)
 

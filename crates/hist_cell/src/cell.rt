@@ -8,7 +8,7 @@ use crate::locked::Locked;
 use crate::naming::Naming;
 use crate::pass::Pass;
 use crate::rule::HistoryRule;
-use crate::seats::{ViewOf, learn, unite};
+use crate::seats::{ViewOf, join_view, learn};
 use atomic_table::Table;
 use std::alloc::{AllocError, Global};
 use std::snapshot::Snapshot;
@@ -103,7 +103,7 @@ impl<C: Core, N: Naming> Cell<C, N> {
         ensures legal { LegalOf C.step C.allows into.new.start into.new.seen }
     {
         let Pass { seat, count, of: _ } = from;
-        unite(&self.table.shared, &mut into.seat, seat);
+        join_view(&self.table.shared, &mut into.seat, seat);
         learn(&self.table.shared, &mut into.seat);
         into.count = larger(into.count, count);
     }

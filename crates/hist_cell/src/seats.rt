@@ -71,7 +71,7 @@ pub fn take_turn<C: Core>(word: &Word<C>, seat: &mut Place<C>, turn: Place<C>)
 }
 
 /// Joins the view of another pass to one's own.
-pub fn unite<C: Core>(word: &Word<C>, seat: &mut Place<C>, other: Place<C>)
+pub fn join_view<C: Core>(word: &Word<C>, seat: &mut Place<C>, other: Place<C>)
     requires seat { (seat.old.table_id ≡ word.now.table_id) × (0 < word.now.table_id.words) }
     requires other { (other.table_id ≡ word.now.table_id) × (other.me.1 ≡ []) }
     requires alive { (seat.old.me.0.spent ≡ false) × (other.me.0.spent ≡ false) }

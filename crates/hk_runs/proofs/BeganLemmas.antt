@@ -19,7 +19,7 @@ use Rattle.world_run.proofs.StartLemmas.{both-for, fails-at, fails-so}
 use Rattle.command_io.specs.declared.ends.ReplayEnd.TheVariants as ended
 use Rattle.command_io.specs.Ends.{ended_by}
 use Rattle.hk_runs.specs.Logs.{HiddenBefore, LeftByStop, SurvivesLast, SurvivesUntil}
-use Rattle.hk_runs.specs.Run.{FilesOpen, History, IsHidden, RestsAfter, StayApart, SurvivesIn}
+use Rattle.hk_runs.specs.Run.{FilesOpenThroughout, History, IsHidden, RestsAfter, StayApart, SurvivesIn}
 use Rattle.hk_runs.proofs.LivedLemmas.{leaves_on, weaker}
 
 -- what may be hidden before a run is hidden beside the first world, which is linked, and whose zone files open
@@ -67,8 +67,8 @@ module _ (sizes : SizeValues) (old mid new : DiskState) (r : RunningWorld) (b : 
       go (inr end) = inr (stop_weaker (LinkedWorld (world_of r)) (HiddenBefore old) linked Cut done (world_of r) words h image end)
 
   -- the promise on zone files, with a ledger that the files at the start allow
-  pub promise_kept : ((x : Hidden) → IsHidden (world_of r) x → FilesOpen x (world_of r) words h) → (x : Hidden) → HiddenBefore old x → FilesOpen x (first_world sizes b.table b.names) words h
-  promise_kept opens x before = subst (λ (w : WorldState). FilesOpen x w words h) b.first (opens x (first_hidden sizes old mid r b tells x before))
+  pub promise_kept : ((x : Hidden) → IsHidden (world_of r) x → FilesOpenThroughout x (world_of r) words h) → (x : Hidden) → HiddenBefore old x → FilesOpenThroughout x (first_world sizes b.table b.names) words h
+  promise_kept opens x before = subst (λ (w : WorldState). FilesOpenThroughout x w words h) b.first (opens x (first_hidden sizes old mid r b tells x before))
 
   -- and its draws stay apart
   pub apart_kept : ((x : Hidden) → LinkedWorld (world_of r) x → DrawsApart x → StayApart x (world_of r) words h) → (x : Hidden) → HiddenBefore old x → WordsApart x → StayApart x (first_world sizes b.table b.names) words h

@@ -25,7 +25,7 @@ use Rattle.command_io.specs.declared.lines.LineEnd.TheVariants as line_end
 use Rattle.command_io.specs.declared.ends.ReplayEnd.{ReplayEnd}
 use Rattle.command_io.specs.declared.ends.ReplayEnd.TheVariants as ended
 use Rattle.hk_runs.specs.declared.stage.LineOutcome.{LineOutcome}
-use Rattle.hk_runs.specs.declared.stage.LineOutcome.TheVariants.{Played, BadLine, Unread, Untold, Unwritten, Unopened}
+use Rattle.hk_runs.specs.declared.stage.LineOutcome.TheVariants.{Played, BadLine, Unread, Unanswered, Unwritten, Unopened}
 use Rattle.command_io.specs.Lines.{is_line, is_lf, line_used, lines_of, text_of}
 use Rattle.hk_runs.specs.Logs.{LeftByStop, ReadsAs, SurvivesStop}
 use Rattle.hk_runs.specs.PlayedLines.{PlayedLine, events_of_lines, lines_in, transcript}
@@ -419,12 +419,12 @@ line_stops props old mid new b s line last v count stop so p is next whole withi
         no_end : (l : Bool) → end_of_play l Unread ≡ Some ended.NoMemory
         no_end true = refl
         no_end false = refl
-    go Untold last (plays, wrote) is_end n whole =
+    go Unanswered last (plays, wrote) is_end n whole =
         subst (λ (e : ReplayEnd). Goal count e) (sym (the_end stop ended.NoMemory (is_end ∙ no_end last))) (subst (λ (k : ℕ). Goal k ended.NoMemory) (sym n)
         (stops_behind props old mid new b s ended.NoMemory line v [] so plays is ((λ left lines w. tt), tt) wrote
         (line_text (s.view.events + 1) plays.reply, ap (λ (t : List ℕ). t ++ line_text (s.view.events + 1) plays.reply) (append-nil before)) (λ all reply. begins b.left lines line next all reply)))
       where
-        no_end : (l : Bool) → end_of_play l Untold ≡ Some ended.NoMemory
+        no_end : (l : Bool) → end_of_play l Unanswered ≡ Some ended.NoMemory
         no_end true = refl
         no_end false = refl
     go Unwritten last (plays, wrote) is_end n whole =
@@ -509,7 +509,7 @@ next_goes_on props old mid new b s s' so n = go n.how n.read n.next
         }
     played BadLine p is_end count read = absurd cc
     played Unread p is_end count read = absurd cc
-    played Untold p is_end count read = absurd cc
+    played Unanswered p is_end count read = absurd cc
     played Unwritten p is_end count read = absurd cc
     played (Unopened fault) p is_end count read = absurd cc
 
@@ -517,7 +517,7 @@ next_goes_on props old mid new b s s' so n = go n.how n.read n.next
     not_last Played e = absurd cc
     not_last BadLine e = absurd cc
     not_last Unread e = absurd cc
-    not_last Untold e = absurd cc
+    not_last Unanswered e = absurd cc
     not_last Unwritten e = absurd cc
     not_last (Unopened fault) e = absurd cc
 
@@ -580,7 +580,7 @@ disk_later props old new v v' line Played (inl stays) = stays.untouched.run.faul
 disk_later props old new v v' line Played (inr (plays, wrote)) = plays.steps.run.faults
 disk_later props old new v v' line BadLine (bad, u) = u.run.faults
 disk_later props old new v v' line Unread u = u.run.faults
-disk_later props old new v v' line Untold (plays, wrote) = plays.steps.run.faults
+disk_later props old new v v' line Unanswered (plays, wrote) = plays.steps.run.faults
 disk_later props old new v v' line Unwritten (plays, wrote) = plays.steps.run.faults
 disk_later props old new v v' line (Unopened fault) (at, wrote) = at.fails.run.faults
 
@@ -606,8 +606,8 @@ never_read true BadLine e = absurd cc
 never_read false BadLine e = absurd cc
 never_read true Unread e = absurd cc
 never_read false Unread e = absurd cc
-never_read true Untold e = absurd cc
-never_read false Untold e = absurd cc
+never_read true Unanswered e = absurd cc
+never_read false Unanswered e = absurd cc
 never_read true Unwritten e = absurd cc
 never_read false Unwritten e = absurd cc
 never_read true (Unopened fault) e = never_opened fault.file fault.fault e
@@ -622,8 +622,8 @@ store_rose props old new v v' line true BadLine p e = absurd cc
 store_rose props old new v v' line false BadLine p e = absurd cc
 store_rose props old new v v' line true Unread p e = absurd cc
 store_rose props old new v v' line false Unread p e = absurd cc
-store_rose props old new v v' line true Untold p e = absurd cc
-store_rose props old new v v' line false Untold p e = absurd cc
+store_rose props old new v v' line true Unanswered p e = absurd cc
+store_rose props old new v v' line false Unanswered p e = absurd cc
 store_rose props old new v v' line true Unwritten p e = absurd cc
 store_rose props old new v v' line false Unwritten p e = absurd cc
 store_rose props old new v v' line true (Unopened fault) (at, wrote) e = at.fails.cause (is_store_fault fault.file fault.fault e)

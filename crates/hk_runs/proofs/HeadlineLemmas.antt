@@ -25,7 +25,7 @@ use Rattle.hk_runs.specs.Pipe.{Converses, Pipe, PipeUnder}
 use Rattle.hk_runs.specs.PlayedLines.{PlayedLine, events_of_lines, lines_in}
 use Rattle.command_io.specs.Ends.{status_of}
 use Rattle.hk_runs.specs.Replay.{CutAt, Played, Replay, ReplayUnder}
-use Rattle.hk_runs.specs.Run.{EventRuns, FilesOpen, Happened, History, IsHidden, Runs, StayApart, SurvivesIn, behind, drawn_in, faults_after, hidden_in, world_after}
+use Rattle.hk_runs.specs.Run.{EventRuns, FilesOpenThroughout, Happened, History, IsHidden, Runs, StayApart, SurvivesIn, behind, drawn_in, faults_after, hidden_in, world_after}
 use Rattle.hk_runs.proofs.VerdictLemmas.{step_judged}
 
 -- what is known after an event
@@ -91,7 +91,7 @@ module _ (before : Hidden) (first : WorldState) (words : ℕ → ℕ) where
       later_on _ (past_of (hidden_in before first words (more ++ part))) _ (grows_to part more)
       (known_step (world_after first (more ++ part)) (behind (drawn_in (more ++ part)) words) x.reply x.drawn x.world (hidden_in before first words (more ++ part)) x.event)
 
-  hidden_at : (part more : History) → FilesOpen before first words (more ++ part) → IsHidden (world_after first part) (hidden_in before first words part)
+  hidden_at : (part more : History) → FilesOpenThroughout before first words (more ++ part) → IsHidden (world_after first part) (hidden_in before first words part)
   hidden_at [] [] opens = opens
   hidden_at (x ∷ part) [] opens = opens.0
   hidden_at part (x ∷ more) opens = hidden_at part more opens.1
@@ -162,7 +162,7 @@ pub record Kept (props : Props) (old new : DiskState) (words : ℕ → ℕ) (tab
   pub before : ℕ
   pub runs : Runs props.lines (Tells old) (first_world props.sizes table names) words before history
   pub on_disk : Tells old → OnDisk old new words props.sizes table names history Cut
-  pub promise : Tells old → (h : Hidden) → HiddenBefore old h → FilesOpen h (first_world props.sizes table names) words history
+  pub promise : Tells old → (h : Hidden) → HiddenBefore old h → FilesOpenThroughout h (first_world props.sizes table names) words history
   pub apart : Tells old → (h : Hidden) → HiddenBefore old h → WordsApart h → StayApart h (first_world props.sizes table names) words history
 
 module _ (past : Past) (props : Props) (old new : DiskState) (words : ℕ → ℕ) (table : Table) (names : NameTable) (history : History) (Cut : Event → Type 0)
@@ -182,7 +182,7 @@ module _ (past : Past) (props : Props) (old new : DiskState) (words : ℕ → �
   worlds : (part : History) → IsPart part history → WorldKept (known_after past first words part) (world_after first part)
   worlds part is =
       world_kept (world_after first part) (hidden_in (drawn_before past) first words part)
-      (hidden_at (drawn_before past) first words part is.0 (subst (FilesOpen (drawn_before past) first words) is.1 (k.promise tells (drawn_before past) before)))
+      (hidden_at (drawn_before past) first words part is.0 (subst (FilesOpenThroughout (drawn_before past) first words) is.1 (k.promise tells (drawn_before past) before)))
 
   sound_since : (c : Image) → new.left_since old.moment c → SoundIn past first words history c
   sound_since c since = ⊎_elim

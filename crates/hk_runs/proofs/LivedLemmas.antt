@@ -15,7 +15,7 @@ use Rattle.world_run.specs.Keeps.{KnowsWorld, LinkedStep, RestsNow, Steps}
 use Rattle.world_run.specs.Linked.{DrawsApart, LinkedWorld, SoundFiles}
 use Rattle.world_run.specs.Own.{SurvivesAtRest, SurvivesEvent}
 use Rattle.world_run.specs.Promise.{ZoneFilesOpen}
-use Rattle.hk_runs.specs.Run.{FilesOpen, Happened, History, IsHidden, RestsAfter, Runs, StayApart, SurvivesIn, behind, drawn_in, faults_after, hidden_in, logged_in, world_after}
+use Rattle.hk_runs.specs.Run.{FilesOpenThroughout, Happened, History, IsHidden, RestsAfter, Runs, StayApart, SurvivesIn, behind, drawn_in, faults_after, hidden_in, logged_in, world_after}
 use Rattle.hk_runs.specs.Steps.{HasLists, SameLists, Untouched, View}
 
 -- runs of calls on both files
@@ -71,7 +71,7 @@ apart_last before first words (x ∷ earlier) apart = apart.0
 pub record Lived (props : List PropLine) (old new : DiskState) (first : RunningWorld) (words : ℕ → ℕ) (r : RunningWorld) (words' : ℕ → ℕ) (history : History) : Type 0 where
   pub runs : Runs props (Tells old) (world_of first) words old.faults history
   pub linked : Tells old → (h : Hidden) → LinkedWorld (world_of first) h → LinkedWorld (world_of r) (hidden_in h (world_of first) words history)
-  pub files_open : Tells old → (h : Hidden) → IsHidden (world_of first) h → FilesOpen h (world_of first) words history
+  pub files_open : Tells old → (h : Hidden) → IsHidden (world_of first) h → FilesOpenThroughout h (world_of first) words history
   pub draws_apart : Tells old → (h : Hidden) → LinkedWorld (world_of first) h → DrawsApart h → StayApart h (world_of first) words history
   pub stands : Tells old → (done : Acknowledged) → HoldsLogs old first done → HoldsLogs new r (also done (logged_in history))
   pub survives : Tells old → (done : Acknowledged) → HoldsLogs old first done → LeavesBoth old new (SurvivesIn done (LinkedWorld (world_of first)) (world_of first) words history)

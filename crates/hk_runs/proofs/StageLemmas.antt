@@ -8,7 +8,7 @@ use Rattle.hk_events.specs.declared.event.Line.{Line}
 use Rattle.world_run.specs.World.{RunningWorld}
 use Rattle.world_run.specs.Keeps.{Steps}
 use Rattle.hk_runs.specs.declared.stage.LineOutcome.{LineOutcome}
-use Rattle.hk_runs.specs.declared.stage.LineOutcome.TheVariants.{Played, BadLine, Unread, Untold, Unwritten, Unopened}
+use Rattle.hk_runs.specs.declared.stage.LineOutcome.TheVariants.{Played, BadLine, Unread, Unanswered, Unwritten, Unopened}
 use Rattle.hk_runs.specs.Steps.{PlaysEvent, PlaysSo, TellsSo, Untouched, View}
 use Rattle.hk_runs.proofs.LivedLemmas.{no_run, nothing_left}
 
@@ -24,7 +24,7 @@ unfolding event_played
 line_played props old new r r' words words' events written now event answer Played s wrote line spells = inr (event_played props old new r r' words words' events written now event answer line s spells, wrote)
 line_played props old new r r' words words' events written now event answer BadLine s wrote line spells = absurd wrote
 line_played props old new r r' words words' events written now event answer Unread s wrote line spells = absurd wrote
-line_played props old new r r' words words' events written now event answer Untold s wrote line spells = (event_played props old new r r' words words' events written now event answer line s spells, wrote)
+line_played props old new r r' words words' events written now event answer Unanswered s wrote line spells = (event_played props old new r r' words words' events written now event answer line s spells, wrote)
 line_played props old new r r' words words' events written now event answer Unwritten s wrote line spells = (event_played props old new r r' words words' events written now event answer line s spells, wrote)
 line_played props old new r r' words words' events written now event answer (Unopened fault) s wrote line spells = absurd wrote
 

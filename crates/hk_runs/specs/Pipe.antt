@@ -21,7 +21,7 @@ use Rattle.command_io.specs.declared.props.PropsFault.{PropsFault}
 use Rattle.command_io.specs.Properties.{HasPropsFault, ReadsProperties}
 use Rattle.hk_runs.specs.Logs.{HiddenBefore, NoRestart, OnDisk, ReadsAs, opened_logs}
 use Rattle.command_io.specs.Ends.{ended_by, ended_by_props, status_of}
-use Rattle.hk_runs.specs.Run.{FilesOpen, Happened, History, Runs, StayApart, behind, drawn_in, faults_after, logged_in, world_after}
+use Rattle.hk_runs.specs.Run.{FilesOpenThroughout, Happened, History, Runs, StayApart, behind, drawn_in, faults_after, logged_in, world_after}
 
 -- the events of a history with their answers
 abbrev pub answered_in : History → List AnsweredEvent
@@ -53,7 +53,7 @@ pub record Converses (props : Props) (old new : DiskState) (words words' : ℕ �
   pub began : old.faults ≤ before
   pub ended : faults_after before history ≤ new.faults
   pub on_disk : Tells old → OnDisk old new words props.sizes table names history NoRestart
-  pub promise : Tells old → (h : Hidden) → HiddenBefore old h → FilesOpen h (first_world props.sizes table names) words history
+  pub promise : Tells old → (h : Hidden) → HiddenBefore old h → FilesOpenThroughout h (first_world props.sizes table names) words history
   pub apart : Tells old → (h : Hidden) → HiddenBefore old h → WordsApart h → StayApart h (first_world props.sizes table names) words history
   pub reads : (tells : Tells old) → let found = on_disk tells in ReadsAs new (also (opened_logs found.commands table found.ops names) (logged_in history)) (world_after (first_world props.sizes table names) history)
 

@@ -24,7 +24,7 @@ use Rattle.command_io.specs.Lines.{is_lf, lines_of, text_of}
 use Rattle.command_io.specs.Properties.{HasPropsFault, ReadsProperties}
 use Rattle.hk_runs.specs.Logs.{HiddenBefore, OnDisk, ReadsAs, opened_logs}
 use Rattle.hk_runs.specs.PlayedLines.{AreSpelled, PlayedLine, events_of_lines, lines_in, transcript}
-use Rattle.hk_runs.specs.Run.{FilesOpen, Runs, StayApart, behind, drawn_in, faults_after, logged_in, world_after}
+use Rattle.hk_runs.specs.Run.{FilesOpenThroughout, Runs, StayApart, behind, drawn_in, faults_after, logged_in, world_after}
 
 -- an input has at most 2^40 bytes
 abbrev pub longest_input : ℕ
@@ -170,7 +170,7 @@ pub record Played (props : Props) (old new : DiskState) (words : ℕ → ℕ) (l
   pub ended : faults_after before (events_of_lines played) ≤ new.faults
   pub on_disk : Tells old → OnDisk old new words props.sizes table names (events_of_lines played) (CutAt stop left (lines_in played))
   -- with a ledger of draws that the files at the start allow, each world on the way is linked, and its zone files open
-  pub promise : Tells old → (h : Hidden) → HiddenBefore old h → FilesOpen h (first_world props.sizes table names) words (events_of_lines played)
+  pub promise : Tells old → (h : Hidden) → HiddenBefore old h → FilesOpenThroughout h (first_world props.sizes table names) words (events_of_lines played)
   -- and if the draws before are apart, they stay so
   pub apart : Tells old → (h : Hidden) → HiddenBefore old h → WordsApart h → StayApart h (first_world props.sizes table names) words (events_of_lines played)
   pub reads : (telling : Tells old) → let found = on_disk telling in

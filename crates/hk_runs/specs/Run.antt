@@ -77,9 +77,9 @@ pub record IsHidden (w : WorldState) (h : Hidden) : Type 0 where
   pub files_open : ZoneFilesOpen w h
 
 -- Each world on the way is linked with what is hidden by then, and its zone files open.
-abbrev pub FilesOpen : Hidden → WorldState → (ℕ → ℕ) → History → Type 0
-FilesOpen before first words [] = IsHidden first before
-FilesOpen before first words (h ∷ earlier) = IsHidden h.world (hidden_in before first words (h ∷ earlier)) × FilesOpen before first words earlier
+abbrev pub FilesOpenThroughout : Hidden → WorldState → (ℕ → ℕ) → History → Type 0
+FilesOpenThroughout before first words [] = IsHidden first before
+FilesOpenThroughout before first words (h ∷ earlier) = IsHidden h.world (hidden_in before first words (h ∷ earlier)) × FilesOpenThroughout before first words earlier
 
 -- In each world on the way the draws by then are apart.
 abbrev pub StayApart : Hidden → WorldState → (ℕ → ℕ) → History → Type 0

@@ -22,13 +22,13 @@ use Rattle.command_io.specs.declared.lines.LineEnd.TheVariants as line_end
 use Rattle.command_io.specs.declared.ends.ReplayEnd.{ReplayEnd}
 use Rattle.command_io.specs.declared.ends.ReplayEnd.TheVariants as ended
 use Rattle.hk_runs.specs.declared.stage.LineOutcome.{LineOutcome}
-use Rattle.hk_runs.specs.declared.stage.LineOutcome.TheVariants.{Played, BadLine, Unread, Untold, Unwritten, Unopened}
+use Rattle.hk_runs.specs.declared.stage.LineOutcome.TheVariants.{Played, BadLine, Unread, Unanswered, Unwritten, Unopened}
 use Rattle.command_io.specs.Lines.{is_line, line_used}
 use Rattle.hk_runs.specs.Logs.{SurvivesLast, SurvivesUntil}
 use Rattle.hk_runs.specs.PlayedLines.{AreSpelled, PlayedLine, events_of_lines, lines_in, transcript}
 use Rattle.command_io.specs.Ends.{Closes, ended_by}
 use Rattle.hk_runs.specs.Replay.{CutAt, HasProperties, IsPrinted, ReadsAt, RestartStops, Stops}
-use Rattle.hk_runs.specs.Run.{FilesOpen, IsHidden, Runs, StayApart, behind, drawn_in, faults_after, logged_in, world_after}
+use Rattle.hk_runs.specs.Run.{FilesOpenThroughout, IsHidden, Runs, StayApart, behind, drawn_in, faults_after, logged_in, world_after}
 
 -- the access control lists of the world stand for these lines
 abbrev pub HasLists : RunningWorld → List PropLine → Type 0
@@ -80,7 +80,7 @@ PlaysSo lines old new v line Played v' =
     StaysQuiet old new v line v' ⊎ ((plays : PlaysEvent lines old new v line v') × Appends v.written v'.written (line_text (v.events + 1) plays.reply))
 PlaysSo lines old new v line BadLine v' = IsBad line × Untouched old new v v'
 PlaysSo lines old new v line Unread v' = Untouched old new v v'
-PlaysSo lines old new v line Untold v' = PlaysEvent lines old new v line v' × Appends v.written v'.written []
+PlaysSo lines old new v line Unanswered v' = PlaysEvent lines old new v line v' × Appends v.written v'.written []
 PlaysSo lines old new v line Unwritten v' = (plays : PlaysEvent lines old new v line v') × WroteFront v.written v'.written (line_text (v.events + 1) plays.reply)
 PlaysSo lines old new v line (Unopened fault) v' = StopsAtRestart old new v line fault v' × Appends v.written v'.written []
 
@@ -90,7 +90,7 @@ end_of_play true Played = Some ended.Done
 end_of_play false Played = None
 end_of_play last BadLine = Some ended.BadLine
 end_of_play last Unread = Some ended.NoMemory
-end_of_play last Untold = Some ended.NoMemory
+end_of_play last Unanswered = Some ended.NoMemory
 end_of_play last Unwritten = Some ended.WriteFault
 end_of_play last (Unopened fault) = Some (ended_by fault.file fault.fault)
 
@@ -99,7 +99,7 @@ abbrev pub counts : LineOutcome → ℕ
 counts Played = 1
 counts BadLine = 0
 counts Unread = 0
-counts Untold = 1
+counts Unanswered = 1
 counts Unwritten = 1
 counts (Unopened fault) = 0
 
@@ -151,7 +151,7 @@ pub record Next (lines : List PropLine) (old new : DiskState) (s : Stand) (resul
 -- the answer of an event was written, or there was no memory for it, or a prefix of it was written and the output failed
 abbrev pub TellsSo : ℕ → Line → Option (List ℕ) → Option (List ℕ) → LineOutcome → Type 0
 TellsSo number tells written now Played = Appends written now (line_text number tells)
-TellsSo number tells written now Untold = Appends written now []
+TellsSo number tells written now Unanswered = Appends written now []
 TellsSo number tells written now Unwritten = WroteFront written now (line_text number tells)
 TellsSo number tells written now BadLine = ⊥
 TellsSo number tells written now Unread = ⊥
@@ -180,7 +180,7 @@ pub record Ran (lines : List PropLine) (old new : DiskState) (r : RunningWorld) 
   -- the words to come are those after the words that its events drew
   pub rest : (k : ℕ) → words' k ≡ behind (drawn_in (events_of_lines played)) words k
   pub kept : Tells old → RestsNow old r → (done : Acknowledged) → HoldsLogs old r done → Kept old new (world_of r) words left played stop done
-  pub promise : Tells old → (before : Hidden) → IsHidden (world_of r) before → FilesOpen before (world_of r) words (events_of_lines played)
+  pub promise : Tells old → (before : Hidden) → IsHidden (world_of r) before → FilesOpenThroughout before (world_of r) words (events_of_lines played)
   pub apart : Tells old → (before : Hidden) → LinkedWorld (world_of r) before → DrawsApart before → StayApart before (world_of r) words (events_of_lines played)
   pub run : RunBoth old new
   -- the disk counts each fault of the history

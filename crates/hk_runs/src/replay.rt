@@ -150,7 +150,7 @@ impl ReplayRun {
             }
             LineOutcome::BadLine => Some(ReplayEnd::BadLine),
             LineOutcome::Unread => Some(ReplayEnd::NoMemory),
-            LineOutcome::Untold => {
+            LineOutcome::Unanswered => {
                 self.count += 1;
                 Some(ReplayEnd::NoMemory)
             }

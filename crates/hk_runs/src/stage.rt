@@ -23,7 +23,7 @@ pub enum LineOutcome {
     /// Allocation failed while it was read.
     Unread,
     /// Its event happened, and allocation failed for the answer.
-    Untold,
+    Unanswered,
     /// Its event happened, and the answer could not be written.
     Unwritten,
     /// It is a restart, and the log could not be opened.
@@ -132,7 +132,7 @@ impl Session {
         self.events += 1;
         self.answer.clear();
         match write_line(self.alloc, self.events, reply, &mut self.answer) {
-            Err(_) => LineOutcome::Untold,
+            Err(_) => LineOutcome::Unanswered,
             Ok(()) => match write_all(out, self.answer.as_slice()) {
                 Ok(()) => LineOutcome::Played,
                 Err(_) => LineOutcome::Unwritten,

@@ -99,12 +99,12 @@ turned answers bytes bytes' old new request (Some how) takes answered = inl (rec
   ends = answered.response;
 })
 
-nothing_ahead : (scratch : List ℕ) (left : Option (List ℕ)) → scratch ≡ [] → ahead scratch left ≡ left
-nothing_ahead scratch None none = refl
-nothing_ahead scratch (Some bytes) none = ap (λ (s : List ℕ). Some (s ++ bytes)) none
+nothing_ahead : (buffer : List ℕ) (left : Option (List ℕ)) → buffer ≡ [] → ahead buffer left ≡ left
+nothing_ahead buffer None none = refl
+nothing_ahead buffer (Some bytes) none = ap (λ (s : List ℕ). Some (s ++ bytes)) none
 
 -- nothing was read before
-pub from_start : {D : Type 0} (answers : Answering D) (scratch : List ℕ) (left written : Option (List ℕ)) (desk : D) (new : Stand D) (how : Ended) → scratch ≡ []
-    → Served answers (record { ahead = ahead scratch left; desk = desk; written = written }) new how → Served answers (record { ahead = left; desk = desk; written = written }) new how
-from_start {D} answers scratch left written desk new how none served =
-    subst (λ (o : Option (List ℕ)). Served {D = D} answers (record { ahead = o; desk = desk; written = written }) new how) (nothing_ahead scratch left none) served
+pub from_start : {D : Type 0} (answers : Answering D) (buffer : List ℕ) (left written : Option (List ℕ)) (desk : D) (new : Stand D) (how : Ended) → buffer ≡ []
+    → Served answers (record { ahead = ahead buffer left; desk = desk; written = written }) new how → Served answers (record { ahead = left; desk = desk; written = written }) new how
+from_start {D} answers buffer left written desk new how none served =
+    subst (λ (o : Option (List ℕ)). Served {D = D} answers (record { ahead = o; desk = desk; written = written }) new how) (nothing_ahead buffer left none) served

@@ -14,7 +14,9 @@ use crate::asks::{ask_keys, ask_names};
 use crate::desk::Desk;
 use crate::refusals::{ended_by, stop};
 use hk_base::{Ended, NoMemory, Sink, Source};
-use http_wire::{Request, Response, Scratch, SendFault, read_request, write_head, write_response};
+use http_wire::{
+    ReadBuffer, Request, Response, SendFault, read_request, write_head, write_response,
+};
 use kms_rest::{LazyRouter as KeysRouter, RestFault, respond_fault, to_call_with};
 use name_rest::{LazyRouter as NamesRouter, respond_name_fault, to_name_with};
 use std::alloc::Global;
@@ -26,7 +28,7 @@ const LONGEST_CONNECTION: u64 = 1 << 40;
 #[derive(Drop)]
 struct Connection {
     alloc: Global,
-    scratch: Scratch,
+    buffer: ReadBuffer,
     keys: KeysRouter,
     names: NamesRouter,
     /// The length of its requests so far.
@@ -68,12 +70,12 @@ fn send<K: Sink>(
 
 impl Connection {
     fn new(alloc: Global) -> Connection
-        ensures scratch { result.scratch ≡ [] }
+        ensures buffer { result.buffer ≡ [] }
         ensures bytes { result.bytes ≡ 0 }
     {
         Connection {
             alloc,
-            scratch: Scratch::new(),
+            buffer: ReadBuffer::new(),
             keys: KeysRouter::new(alloc),
             names: NamesRouter::new(alloc),
             bytes: 0,
@@ -92,7 +94,7 @@ impl Connection {
             (ComesOf request.now outcome ×
             (Leaves E.answers desk.old outcome desk.new × IfOk result (Responds outcome))) }
         ensures ready { E.ready desk.new }
-        ensures same { (self.new.scratch ≡ self.old.scratch) × (self.new.bytes ≡ self.old.bytes) }
+        ensures same { (self.new.buffer ≡ self.old.buffer) × (self.new.bytes ≡ self.old.bytes) }
     {
         match to_call_with(self.alloc, &mut self.keys, request) {
             Ok((user, call)) => ask_keys(self.alloc, desk, user, call),
@@ -113,7 +115,7 @@ impl Connection {
             (ComesOf request.now outcome ×
             (Leaves E.answers desk.old outcome desk.new × IfOk result (Responds outcome))) }
         ensures ready { E.ready desk.new }
-        ensures same { (self.new.scratch ≡ self.old.scratch) × (self.new.bytes ≡ self.old.bytes) }
+        ensures same { (self.new.buffer ≡ self.old.buffer) × (self.new.bytes ≡ self.old.bytes) }
     {
         if is_no_route(fault) {
             return self.names_response_to(request, desk);
@@ -133,7 +135,7 @@ impl Connection {
             (ComesOf request.now outcome ×
             (Leaves E.answers desk.old outcome desk.new × IfOk result (Responds outcome))) }
         ensures ready { E.ready desk.new }
-        ensures same { (self.new.scratch ≡ self.old.scratch) × (self.new.bytes ≡ self.old.bytes) }
+        ensures same { (self.new.buffer ≡ self.old.buffer) × (self.new.bytes ≡ self.old.bytes) }
     {
         match to_name_with(self.alloc, &mut self.names, request) {
             Ok((user, order)) => ask_names(self.alloc, desk, user, order),
@@ -145,7 +147,7 @@ impl Connection {
     fn after(&mut self, request: &Request) -> Option<Ended>
         requires { self.old.bytes < 2 ^ 40 }
         ensures goes_on { GoesOnAfter request.now self.old.bytes self.new.bytes result }
-        ensures same { self.new.scratch ≡ self.old.scratch }
+        ensures same { self.new.buffer ≡ self.old.buffer }
     {
         self.bytes = self.bytes.saturating_add(request.size);
         if !request.keep {
@@ -169,7 +171,7 @@ impl Connection {
         ensures answered { Answered E.answers request.now self.old.bytes self.new.bytes desk.old
             desk.new (K.written sink.old) (K.written sink.new) result }
         ensures ready { E.ready desk.new }
-        ensures same { self.new.scratch ≡ self.old.scratch }
+        ensures same { self.new.buffer ≡ self.old.buffer }
         ensures later { K.faults sink.old ≤ K.faults sink.new }
         ensures write_fault { result ≡ Some Ended.WriteFault →
             Rose (K.faults sink.old) (K.faults sink.new) }
@@ -197,12 +199,12 @@ impl Connection {
         requires few { self.old.bytes < 2 ^ 40 }
         ensures turns { Turns E.answers self.old.bytes self.new.bytes
             (record {
-              ahead = ahead self.old.scratch (S.left source.old);
+              ahead = ahead self.old.buffer (S.left source.old);
               desk = desk.old;
               written = K.written sink.old;
             }) result
             (record {
-              ahead = ahead self.new.scratch (S.left source.new);
+              ahead = ahead self.new.buffer (S.left source.new);
               desk = desk.new;
               written = K.written sink.new;
             }) }
@@ -214,7 +216,7 @@ impl Connection {
         ensures write_fault { result ≡ Some Ended.WriteFault →
             Rose (K.faults sink.old) (K.faults sink.new) }
     {
-        match read_request(self.alloc, source, &mut self.scratch) {
+        match read_request(self.alloc, source, &mut self.buffer) {
             Ok(request) => self.answer(&request, sink, desk),
             Err(fault) => Some(stop(self.alloc, sink, fault)),
         }
@@ -231,12 +233,12 @@ impl Connection {
         requires fresh { self.old.bytes ≡ 0 }
         ensures served { Served E.answers
             (record {
-              ahead = ahead self.old.scratch (S.left source.old);
+              ahead = ahead self.old.buffer (S.left source.old);
               desk = desk.old;
               written = K.written sink.old;
             })
             (record {
-              ahead = ahead self.new.scratch (S.left source.new);
+              ahead = ahead self.new.buffer (S.left source.new);
               desk = desk.new;
               written = K.written sink.new;
             }) result }

@@ -7,11 +7,11 @@ ghost use Rattle.turns.specs.Turns.{ServesTurn};
 use crate::keys::KeyService;
 use batch_calls::{BatchCall, reply_for};
 use hk_base::{NoMemory, Text};
+use name_core::superuser;
 use reenc_update::{BatchReply, BatchResult};
 use reenc_walk::BatchNote;
 use std::alloc::Global;
 use std::sync::Wait;
-use turns::superuser;
 
 /// Makes what the call for a batch takes: the user who makes it, and the call.
 fn prepare(alloc: Global, batch: &BatchNote) -> Result<(Text, BatchCall), NoMemory>

@@ -1,8 +1,8 @@
 -- Bytes of a source that were read and are not used yet.
 use Rattle.std.specs.Prelude.{List, ℕ, [], ◌∷◌, Option}
 use Rattle.std.specs.Io.KnownBytes.{prepend_known}
-use Rattle.http_wire.specs.declared.scratch.Next.{Next}
-use Rattle.http_wire.specs.declared.scratch.Next.TheVariants.{Byte, End, Fault}
+use Rattle.http_wire.specs.declared.buffer.Next.{Next}
+use Rattle.http_wire.specs.declared.buffer.Next.TheVariants.{Byte, End, Fault}
 
 -- all bytes to come, if the source's are known
 abbrev pub ahead : List ℕ → Option (List ℕ) → Option (List ℕ)

@@ -4,8 +4,8 @@ ghost use Rattle.hk_base.specs.Faults.{Rose};
 ghost use Rattle.http_wire.specs.Reading.{ahead};
 ghost use Rattle.http_wire.specs.Requests.{TakesBody, StopsInBody};
 
+use crate::buffer::{Filled, ReadBuffer};
 use crate::faults::WireFault;
-use crate::scratch::{Filled, Scratch};
 use hk_base::{ByteList, Source};
 use std::alloc::Global;
 
@@ -13,14 +13,14 @@ use std::alloc::Global;
 pub(crate) fn read_body<S: Source>(
     alloc: Global,
     source: &mut S,
-    scratch: &mut Scratch,
+    buffer: &mut ReadBuffer,
     size: usize,
 ) -> Result<ByteList, WireFault>
     ensures ok { IfOk result
-        (TakesBody (ahead scratch.old (S.left source.old)) (ahead scratch.new (S.left source.new))
+        (TakesBody (ahead buffer.old (S.left source.old)) (ahead buffer.new (S.left source.new))
         size) }
     ensures err { IfErr result
-        (StopsInBody (ahead scratch.old (S.left source.old)) (ahead scratch.new (S.left source.new))
+        (StopsInBody (ahead buffer.old (S.left source.old)) (ahead buffer.new (S.left source.new))
         size) }
     ensures later { S.faults source.old ≤ S.faults source.new }
     ensures read_fault { result ≡ Err WireFault.ReadFault →
@@ -29,10 +29,10 @@ pub(crate) fn read_body<S: Source>(
     let mut body = ByteList::new(alloc);
     'bytes: while body.len() < size {
         let missing = size - body.len();
-        match scratch.fill(source) {
+        match buffer.fill(source) {
             Filled::Fault => return Err(WireFault::ReadFault),
             Filled::End => return Err(WireFault::EndedEarly),
-            Filled::More => scratch.give(missing, &mut body)?,
+            Filled::More => buffer.give(missing, &mut body)?,
         }
     }
     Ok(body)

@@ -5,8 +5,8 @@ ghost use Rattle.http_wire.specs.Reading.{ahead};
 ghost use Rattle.http_wire.specs.Heads.{EndsHead, EndsIn};
 ghost use Rattle.http_wire.specs.Requests.{TakesHead, Stops};
 
+use crate::buffer::{Next, ReadBuffer};
 use crate::faults::WireFault;
-use crate::scratch::{Next, Scratch};
 use hk_base::{ByteList, Source};
 use std::alloc::Global;
 
@@ -31,20 +31,20 @@ fn ends_head(bytes: &[u8]) -> bool
 pub(crate) fn read_head<S: Source>(
     alloc: Global,
     source: &mut S,
-    scratch: &mut Scratch,
+    buffer: &mut ReadBuffer,
 ) -> Result<ByteList, WireFault>
     ensures ok { IfOk result
-        (TakesHead (ahead scratch.old (S.left source.old))
-        (ahead scratch.new (S.left source.new))) }
+        (TakesHead (ahead buffer.old (S.left source.old))
+        (ahead buffer.new (S.left source.new))) }
     ensures err { IfErr result
-        (Stops (ahead scratch.old (S.left source.old)) (ahead scratch.new (S.left source.new))) }
+        (Stops (ahead buffer.old (S.left source.old)) (ahead buffer.new (S.left source.new))) }
     ensures later { S.faults source.old ≤ S.faults source.new }
     ensures read_fault { result ≡ Err WireFault.ReadFault →
         Rose (S.faults source.old) (S.faults source.new) }
 {
     let mut head = ByteList::new(alloc);
     'bytes: while head.len() < LONGEST_HEAD {
-        match scratch.next(source) {
+        match buffer.next(source) {
             Next::Fault => return Err(WireFault::ReadFault),
             Next::End if head.is_empty() => return Err(WireFault::End),
             Next::End => return Err(WireFault::EndedEarly),

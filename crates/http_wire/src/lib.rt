@@ -3,6 +3,7 @@
 #![tactic(auto)]
 
 mod bodies;
+mod buffer;
 mod faults;
 mod fields;
 mod heads;
@@ -11,11 +12,10 @@ mod parsing;
 mod request;
 mod requests;
 mod responses;
-mod scratch;
 
+pub use buffer::ReadBuffer;
 pub use faults::{SendFault, WireFault};
 pub use laws::requests_are_those_of_the_bytes;
 pub use request::Request;
 pub use requests::read_request;
 pub use responses::{Response, write_head, write_response};
-pub use scratch::Scratch;

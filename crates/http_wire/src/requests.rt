@@ -9,11 +9,11 @@ ghost use Rattle.http_wire.specs.Reading.{ahead};
 ghost use Rattle.http_wire.specs.Requests.{Takes, Stops, IsExact};
 
 use crate::bodies::read_body;
+use crate::buffer::ReadBuffer;
 use crate::faults::WireFault;
 use crate::heads::read_head;
 use crate::parsing::{Parts, parse_head};
 use crate::request::Request;
-use crate::scratch::Scratch;
 use hk_base::{ByteList, NoMemory, Source};
 use std::alloc::Global;
 
@@ -45,27 +45,27 @@ fn assemble(alloc: Global, head: &[u8], parts: Parts, body: ByteList) -> Result<
 fn read_message<S: Source>(
     alloc: Global,
     source: &mut S,
-    scratch: &mut Scratch,
+    buffer: &mut ReadBuffer,
 ) -> Result<Request, WireFault>
     ensures request { IfOk result
-        (Takes (ahead scratch.old (S.left source.old)) (ahead scratch.new (S.left source.new))) }
+        (Takes (ahead buffer.old (S.left source.old)) (ahead buffer.new (S.left source.new))) }
     ensures fault { IfErr result
-        (Stops (ahead scratch.old (S.left source.old)) (ahead scratch.new (S.left source.new))) }
+        (Stops (ahead buffer.old (S.left source.old)) (ahead buffer.new (S.left source.new))) }
     ensures later { S.faults source.old ≤ S.faults source.new }
     ensures read_fault { result ≡ Err WireFault.ReadFault →
         Rose (S.faults source.old) (S.faults source.new) }
 {
-    let head = read_head(alloc, source, scratch)?;
+    let head = read_head(alloc, source, buffer)?;
     let bytes = head.as_slice();
     let parts = parse_head(bytes)?;
-    let body = read_body(alloc, source, scratch, parts.size)?;
+    let body = read_body(alloc, source, buffer, parts.size)?;
     let request = assemble(alloc, bytes, parts, body)?;
     Ok(request)
 }
 
-/// Reads one request (RFC 9112), first from the scratch and then from the source. It uses exactly the
+/// Reads one request (RFC 9112), first from the buffer and then from the source. It uses exactly the
 /// bytes of the request, in whatever pieces the source gives them. Bytes that were read past the
-/// request stay in the scratch. A head has at most 16,384 bytes and 64 fields, a body at most
+/// request stay in the buffer. A head has at most 16,384 bytes and 64 fields, a body at most
 /// 4,194,304 bytes. No byte of a body is used before its length is accepted. Memory is allocated as
 /// bytes arrive.
 ///
@@ -75,18 +75,18 @@ fn read_message<S: Source>(
 pub fn read_request<S: Source>(
     alloc: Global,
     source: &mut S,
-    scratch: &mut Scratch,
+    buffer: &mut ReadBuffer,
 ) -> Result<Request, WireFault>
     ensures request { IfOk result
-        (Takes (ahead scratch.old (S.left source.old)) (ahead scratch.new (S.left source.new))) }
+        (Takes (ahead buffer.old (S.left source.old)) (ahead buffer.new (S.left source.new))) }
     ensures fault { IfErr result
-        (Stops (ahead scratch.old (S.left source.old)) (ahead scratch.new (S.left source.new))) }
-    ensures exact { IsExact (ahead scratch.old (S.left source.old))
-        (ahead scratch.new (S.left source.new)) result }
+        (Stops (ahead buffer.old (S.left source.old)) (ahead buffer.new (S.left source.new))) }
+    ensures exact { IsExact (ahead buffer.old (S.left source.old))
+        (ahead buffer.new (S.left source.new)) result }
 
     ensures later { S.faults source.old ≤ S.faults source.new }
     ensures read_fault { result ≡ Err WireFault.ReadFault →
         Rose (S.faults source.old) (S.faults source.new) }
 {
-    read_message(alloc, source, scratch)
+    read_message(alloc, source, buffer)
 }

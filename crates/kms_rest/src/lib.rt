@@ -4,8 +4,8 @@
 
 mod calls;
 mod faults;
-mod kept;
 mod laws;
+mod lazy_router;
 mod operation;
 mod place;
 mod query;
@@ -15,8 +15,8 @@ mod routes;
 
 pub use faults::RestFault;
 pub use http_wire::Response;
-pub use kept::LazyRouter;
 pub use laws::requests_have_one_answer;
+pub use lazy_router::LazyRouter;
 pub use operation::Operation;
 pub use requests::{to_call, to_call_with};
 pub use responses::{refusal_status, respond, respond_fault};

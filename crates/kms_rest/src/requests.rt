@@ -6,7 +6,7 @@ ghost use Rattle.path_routes.specs.Queries.{parameters, path_of, query_of};
 
 use crate::calls::read_call;
 use crate::faults::RestFault;
-use crate::kept::LazyRouter;
+use crate::lazy_router::LazyRouter;
 use crate::operation::Operation;
 use crate::query::is_single;
 use crate::routes::route;

@@ -13,6 +13,7 @@ use hk_base::{ByteList, KeyName, NoMemory, Text};
 use hk_events::{Event, Line};
 use itoa::Buffer;
 use kms_calls::{Description, KmsCall};
+use name_core::superuser;
 use std::alloc::Global;
 
 /// Appends a text and a number.
@@ -56,13 +57,6 @@ fn file_path(alloc: Global, zone: u32, file: u32) -> Result<ByteList, NoMemory>
     let mut path = zone_path(alloc, zone)?;
     append_numbered(&mut path, b"/f", file)?;
     Ok(path)
-}
-
-/// Returns the user who makes all calls.
-fn superuser(alloc: Global) -> Result<Text, NoMemory>
-    ensures { IfOk result (λ user. user ≡ superuser) }
-{
-    Ok(Text::of(String::from_str(alloc, "hdfs")?))
 }
 
 /// Returns the event of a call of the key management service.

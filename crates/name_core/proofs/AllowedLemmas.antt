@@ -14,7 +14,7 @@ use Rattle.name_store.specs.Replay.{AllBelow}
 use Rattle.name_store.specs.Store.{is_opening}
 use Rattle.zone_table.specs.declared.statuses.StatusRow.{StatusRow}
 use Rattle.zone_table.specs.Statuses.{zone_goes_on}
-use Rattle.name_store.specs.Causes.{first_cause, going_causes, has_most_rows, id_at, kept_causes, removal_causes, row_causes, to_be_made, zone_causes, zone_root_causes}
+use Rattle.name_store.specs.Causes.{first_cause, going_causes, has_most_rows, id_at, kept_causes, make_causes, removal_causes, row_causes, zone_causes, zone_root_causes}
 use Rattle.name_store.specs.Table.{NameTable, allows, fits_key, fits_noted, fits_zone, is_among, is_fresh, is_of_opening, key_of_zone, may_use, may_use_all, op_causes, uses}
 use Rattle.name_store.proofs.CauseLemmas.{IsZoneRoot, allows-it, clear, join, none-of-both, none-of-join, zone-root}
 use Rattle.name_store.proofs.StatusLemmas.{key-at-root}
@@ -70,11 +70,11 @@ either-not true b h = absurd cc
 either-not false b h = refl
 
 -- if nothing refuses a mkdir, the table does not refuse its operation
-pub addable : (s : NameState) (p : List (List ℕ)) → first_cause (mkdir_causes s p) ≡ None → first_cause (to_be_made s.table.rows p ++ row_causes s.table.rows) ≡ None
+pub addable : (s : NameState) (p : List (List ℕ)) → first_cause (mkdir_causes s p) ≡ None → first_cause (make_causes s.table.rows p ++ row_causes s.table.rows) ≡ None
 addable s p h =
-    let m = none-of-both (to_be_made s.table.rows p) ((is_full s, refusal.TooManyInodes) ∷ []) h in
+    let m = none-of-both (make_causes s.table.rows p) ((is_full s, refusal.TooManyInodes) ∷ []) h in
     let room = either-not (has_most_rows s.table.rows) (is_spent s) (clear (is_full s) refusal.TooManyInodes _ m.1).0 in
-    none-of-join (to_be_made s.table.rows p) (row_causes s.table.rows) m.0 (ap (λ (b : Bool). cond b (Some refusal.TooManyInodes) None) room)
+    none-of-join (make_causes s.table.rows p) (row_causes s.table.rows) m.0 (ap (λ (b : Bool). cond b (Some refusal.TooManyInodes) None) room)
 
 pub allowed-mkdir : (s : NameState) (p : List (List ℕ)) → 0 < s.table.opening → IdsFit s.table.rows s.asks (next_id s) → first_cause (mkdir_causes s p) ≡ None
     → allows s.table (op.Mkdir (next_id s) p) ≡ true
@@ -107,7 +107,7 @@ complete-free t p h = cancel-free t p h
 -- a finish that nothing stops
 
 pub record MayFinish (rows : List Entry) (a : OpenAsk) (edek : Option Edek) (p : List (List ℕ)) : Type 0 where
-  pub made : first_cause (to_be_made rows p) ≡ None
+  pub made : first_cause (make_causes rows p) ≡ None
   pub same_zone : is_other_zone rows a ≡ false
   pub same_key : is_other_key rows p edek ≡ false
   pub room : first_cause (row_causes rows) ≡ None
@@ -116,7 +116,7 @@ pub may-make-file : (rows : List Entry) (statuses : List StatusRow) (a : OpenAsk
     → MayFinish rows a edek p
 may-make-file rows statuses a edek p h =
     let r = clear (starts_reserved p) refusal.BadPath _ h in
-    let m = none-of-both (to_be_made rows p) ((is_other_zone rows a, refusal.ZoneChanged) ∷ (is_other_key rows p edek, refusal.ZoneChanged) ∷ row_causes rows) r.1 in
+    let m = none-of-both (make_causes rows p) ((is_other_zone rows a, refusal.ZoneChanged) ∷ (is_other_key rows p edek, refusal.ZoneChanged) ∷ row_causes rows) r.1 in
     let z = clear (is_other_zone rows a) refusal.ZoneChanged _ m.1 in
     let e = clear (is_other_key rows p edek) refusal.ZoneChanged _ z.1 in
     record { made = m.0; same_zone = z.0; same_key = e.0; room = e.1 }
@@ -185,7 +185,7 @@ allowed-finish s id a edek opened few ids recent stands free = go a.ask free
         allows-it s.table (op.File a.id p edek) refl (record {
           opened = lt-yes 0 s.table.opening opened;
           ids = usable s.table a.id s.next low high few unused;
-          free = none-of-join (to_be_made s.table.rows p) (row_causes s.table.rows) m.made m.room;
+          free = none-of-join (make_causes s.table.rows p) (row_causes s.table.rows) m.made m.room;
           fits = yes _ m.same_key;
         })
     go (ask.Zone p key) h =

@@ -14,7 +14,7 @@ use Rattle.name_calls.specs.declared.calls.NameReply.TheVariants.{Done, Refused}
 use Rattle.name_calls.specs.declared.calls.NameRefusal.{NameRefusal}
 use Rattle.name_calls.specs.declared.calls.NameRefusal.TheVariants.{NoSuchPath, TooManyInodes, NoMemory}
 use Rattle.edit_ops.specs.declared.ops.EditOp.TheVariants as op
-use Rattle.name_store.specs.Causes.{first_cause, to_be_made}
+use Rattle.name_store.specs.Causes.{first_cause, make_causes}
 use Rattle.name_store.specs.Table.{new_directory}
 use Rattle.name_store.proofs.CauseLemmas.{makeable, none-of-both}
 use Rattle.name_core.specs.State.{NameState, is_full, next_id}
@@ -38,7 +38,7 @@ done-by s p s' (Plain, may, is) = go (first_cause (mkdir_causes s p)) is
     go (Some why) is = let f : Done ≡ Refused why = ap (λ o. o.reply) is in absurd cc
 
 was-absent : (s : NameState) (p : List (List ℕ)) → first_cause (mkdir_causes s p) ≡ None → row_at s.table.rows p ≡ None
-was-absent s p h = (makeable s.table.rows p (none-of-both (to_be_made s.table.rows p) ((is_full s, TooManyInodes) ∷ []) h).0).absent
+was-absent s p h = (makeable s.table.rows p (none-of-both (make_causes s.table.rows p) ((is_full s, TooManyInodes) ∷ []) h).0).absent
 
 -- the rows with one more
 

@@ -8,7 +8,7 @@ use Rattle.std.proofs.lemmas.List.Elements.{All-head, All-tail, All-cons}
 use Rattle.name_calls.specs.Paths.{is_before}
 use Rattle.inode_tree.specs.Rows.{Entry, IsRows, entry_of, is_zone_over, longer, put, zone_id, zone_of}
 use Rattle.name_calls.specs.declared.calls.NameRefusal.TheVariants.{TooManyInodes}
-use Rattle.name_store.specs.Causes.{first_cause, has_most_rows, to_be_made}
+use Rattle.name_store.specs.Causes.{first_cause, has_most_rows, make_causes}
 use Rattle.name_store.proofs.CauseLemmas.{clear, none-of-both}
 use Rattle.name_core.specs.State.{NameState, is_full}
 use Rattle.name_core.specs.Calls.{mkdir_causes}
@@ -88,5 +88,5 @@ not-all n false h = grind (arith, nat_tests, h)
 -- there is an id for a path that may be made
 pub room-left : (s : NameState) (p : List (List ℕ)) → first_cause (mkdir_causes s p) ≡ None → s.next < 2 ^ 32
 room-left s p h =
-    let m = none-of-both (to_be_made s.table.rows p) ((is_full s, TooManyInodes) ∷ []) h in
+    let m = none-of-both (make_causes s.table.rows p) ((is_full s, TooManyInodes) ∷ []) h in
     not-all s.next (has_most_rows s.table.rows) (clear (is_full s) TooManyInodes None m.1).0

@@ -30,7 +30,7 @@ use Rattle.edit_ops.specs.declared.ops.EditOp.TheVariants as op
 use Rattle.name_calls.specs.declared.calls.NameRefusal.{NameRefusal}
 use Rattle.name_calls.specs.declared.calls.NameRefusal.TheVariants as refusal
 use Rattle.name_calls.specs.declared.calls.NameReply.TheVariants as reply
-use Rattle.name_store.specs.Causes.{allowed_causes, directory_causes, disallow_causes, first_cause, id_at, id_of, is_root, kept_causes, removal_causes, row_causes, to_be_made, unsnap_causes}
+use Rattle.name_store.specs.Causes.{allowed_causes, directory_causes, disallow_causes, first_cause, id_at, id_of, is_root, kept_causes, make_causes, removal_causes, row_causes, unsnap_causes}
 use Rattle.name_store.specs.Table.{IsTable, NameTable, after_table, allows, ids_once, may_update, new_directory, new_file}
 use Rattle.name_store.proofs.CauseLemmas.{IsDisallowable, IsMarkable, allowed, both, clear, directory, disallowable, holds-none, join, makeable, markable, none-of-both, none-of-join, renamable}
 use Rattle.name_store.proofs.IdLemmas.{kind-id}
@@ -345,9 +345,9 @@ among-without t p q name good r free = among-kept (λ (i : ℕ). not (i == id_at
 same-after : (t : NameTable) (o : EditOp) (p : List (List ℕ)) (name : List ℕ) → IsTable t → allows t o ≡ true → IsRead t p name → IsSame t (after_table t o) p
 same-after t (op.Opened opening) p name good may r = same-rows t (after_table t (op.Opened opening)) p r.dir refl refl r.allowed
 same-after t (op.Mkdir id q) p name good may r =
-    same-put t p (new_directory id q) r.dir r.allowed refl (makeable t.rows q (none-of-both (to_be_made t.rows q) (row_causes t.rows) (allowed t (op.Mkdir id q) refl may).free).0).absent
+    same-put t p (new_directory id q) r.dir r.allowed refl (makeable t.rows q (none-of-both (make_causes t.rows q) (row_causes t.rows) (allowed t (op.Mkdir id q) refl may).free).0).absent
 same-after t (op.File id q edek) p name good may r =
-    same-put t p (new_file id q edek) r.dir r.allowed refl (makeable t.rows q (none-of-both (to_be_made t.rows q) (row_causes t.rows) (allowed t (op.File id q edek) refl may).free).0).absent
+    same-put t p (new_file id q edek) r.dir r.allowed refl (makeable t.rows q (none-of-both (make_causes t.rows q) (row_causes t.rows) (allowed t (op.File id q edek) refl may).free).0).absent
 same-after t (op.Remove q) p name good may r =
     let none = holds-none t.rows t.snaps q (none-of-both (removal_causes t.rows q) (kept_causes t.rows t.snaps q) (allowed t (op.Remove q) refl may).free).1 in
     let out = apart-from t p q name good.rules r none in

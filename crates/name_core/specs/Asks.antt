@@ -10,7 +10,7 @@ use Rattle.edit_ops.specs.declared.ops.EditOp.{EditOp}
 use Rattle.edit_ops.specs.declared.ops.EditOp.TheVariants as op
 use Rattle.zone_table.specs.declared.statuses.StatusRow.{StatusRow}
 use Rattle.zone_table.specs.Statuses.{zone_goes_on}
-use Rattle.name_store.specs.Causes.{first_cause, id_at, row_causes, submit_causes, to_be_made, zone_causes, zone_root_causes}
+use Rattle.name_store.specs.Causes.{first_cause, id_at, make_causes, row_causes, submit_causes, zone_causes, zone_root_causes}
 use Rattle.name_store.specs.Table.{fits_zone, key_of_zone}
 use Rattle.name_calls.specs.declared.calls.Ask.{Ask}
 use Rattle.name_calls.specs.declared.calls.Ask.TheVariants as ask
@@ -106,7 +106,7 @@ is_other_key rows p edek = not (fits_zone (key_of_zone rows p) edek)
 -- ZoneChanged.
 abbrev pub finish_causes : List Entry → List StatusRow → OpenAsk → Option Edek → Ask → List (Bool × NameRefusal)
 finish_causes rows statuses a edek (ask.Create p) =
-    path_causes p ++ to_be_made rows p
+    path_causes p ++ make_causes rows p
     ++ (is_other_zone rows a, refusal.ZoneChanged) ∷ (is_other_key rows p edek, refusal.ZoneChanged) ∷ row_causes rows
 finish_causes rows statuses a edek (ask.Zone p key) = path_causes p ++ zone_causes rows p ++ (is_other_zone rows a, refusal.ZoneChanged) ∷ []
 finish_causes rows statuses a edek (ask.Submit p) =

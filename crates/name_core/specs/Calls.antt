@@ -10,7 +10,7 @@ use Rattle.name_calls.specs.Paths.{is_component, starts_reserved}
 use Rattle.inode_tree.specs.Rows.{Entry, has_children}
 use Rattle.snap_store.specs.Snapshots.{SnapTable}
 use Rattle.zone_table.specs.Zones.{zone_paths}
-pub use Rattle.name_store.specs.Causes.{first_cause, to_be_made}
+pub use Rattle.name_store.specs.Causes.{first_cause, make_causes}
 use Rattle.name_store.specs.Causes.{allow_causes, disallow_causes, going_causes, kept_causes, removal_causes, rename_causes, snap_causes, unsnap_causes, zone_root_causes}
 use Rattle.name_calls.specs.declared.calls.NameCall.{NameCall}
 use Rattle.name_calls.specs.declared.calls.NameCall.TheVariants as call
@@ -25,7 +25,7 @@ use Rattle.name_core.specs.Walks.{session_at, status_shown_at}
 -- why a call is refused
 
 abbrev pub mkdir_causes : NameState → NPath → List (Bool × NameRefusal)
-mkdir_causes s p = to_be_made s.table.rows p ++ (is_full s, refusal.TooManyInodes) ∷ []
+mkdir_causes s p = make_causes s.table.rows p ++ (is_full s, refusal.TooManyInodes) ∷ []
 
 -- A directory that is not empty is deleted only recursively. A directory is not deleted while there is a snapshot of it or of one below.
 abbrev pub delete_causes : List Entry → SnapTable → NPath → Bool → List (Bool × NameRefusal)

@@ -24,4 +24,5 @@ pub use name_calls::{
 pub use namesystem::Name;
 pub use reenc_update::{BatchReply, BatchResult};
 pub use reenc_walk::{BatchNote, Sent, SentList};
+pub use rules::superuser;
 pub use walks::Walked;

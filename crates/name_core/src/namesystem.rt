@@ -20,8 +20,8 @@ use crate::asks::{OpenAsk, OpenAsks};
 use crate::batch_size::BatchSize;
 use crate::reads::{info, list, status};
 use crate::rules::{
-    early_refusal, finish_op, id_at, ids_used, is_change, is_superuser, path_asked, path_refusal,
-    to_be_deleted, to_be_finished, wanted,
+    delete_refusal, early_refusal, finish_cause, finish_op, id_at, ids_used, is_change,
+    is_superuser, path_asked, path_refusal, wanted,
 };
 use crate::updates::{last_session, retire_by, retire_kept};
 use crate::walks::{Walked, outstanding, take};
@@ -30,8 +30,8 @@ use frame_log::{StartFault, StoreRefusal};
 use hk_base::{Disk, Edek, KeyName, NoMemory, Text, put};
 use name_calls::{Answered, Ask, AskNote, KeyAnswer, NPath, NameCall, NameRefusal, NameReply};
 use name_store::{
-    NameStore, has_most_rows, to_be_allowed, to_be_disallowed, to_be_going_on, to_be_made,
-    to_be_snapped, to_be_submitted, to_be_unsnapped, to_be_zone,
+    NameStore, allow_refusal, disallow_refusal, going_refusal, has_most_rows, make_refusal,
+    new_zone_refusal, snap_refusal, submit_refusal, unsnap_refusal,
 };
 use reenc_walk::{SentList, Walk, Walker};
 use std::alloc::Global;
@@ -271,13 +271,13 @@ impl Name {
         let snaps = self.store.snaps();
         match call {
             NameCall::Mkdir { path } => self.mkdir_refusal(path),
-            NameCall::Delete { path, recursive } => to_be_deleted(tree, snaps, path, *recursive),
+            NameCall::Delete { path, recursive } => delete_refusal(tree, snaps, path, *recursive),
             NameCall::Rename { path, to } => self.store.rename_refusal(path, to),
-            NameCall::Allow { path } => to_be_allowed(tree, snaps, path),
-            NameCall::Disallow { path } => to_be_disallowed(tree, snaps, path),
-            NameCall::Snap { path, name } => to_be_snapped(tree, snaps, path, name),
-            NameCall::Unsnap { path, name } => to_be_unsnapped(tree, snaps, path, name),
-            NameCall::Cancel { path } => to_be_going_on(tree, self.store.statuses(), path),
+            NameCall::Allow { path } => allow_refusal(tree, snaps, path),
+            NameCall::Disallow { path } => disallow_refusal(tree, snaps, path),
+            NameCall::Snap { path, name } => snap_refusal(tree, snaps, path, name),
+            NameCall::Unsnap { path, name } => unsnap_refusal(tree, snaps, path, name),
+            NameCall::Cancel { path } => going_refusal(tree, self.store.statuses(), path),
             _ => unreachable!(),
         }
     }
@@ -317,7 +317,7 @@ impl Name {
     fn mkdir_refusal(&self, path: &NPath) -> Option<NameRefusal>
         ensures { result ≡ first_cause (mkdir_causes (names_of self.now) path.now) }
     {
-        if let Some(why) = to_be_made(self.store.tree(), path) {
+        if let Some(why) = make_refusal(self.store.tree(), path) {
             return Some(why);
         }
         if self.is_full() {
@@ -440,7 +440,7 @@ impl Name {
         if !is_superuser(user) {
             return Some(NameRefusal::NotSuperuser);
         }
-        if let Some(why) = to_be_zone(self.store.tree(), path) {
+        if let Some(why) = new_zone_refusal(self.store.tree(), path) {
             return Some(why);
         }
         if self.is_spent() {
@@ -459,7 +459,7 @@ impl Name {
         if !is_superuser(user) {
             return Some(NameRefusal::NotSuperuser);
         }
-        if let Some(why) = to_be_submitted(self.store.tree(), self.store.statuses(), path) {
+        if let Some(why) = submit_refusal(self.store.tree(), self.store.statuses(), path) {
             return Some(why);
         }
         if self.is_spent() {
@@ -596,7 +596,7 @@ impl Name {
             (finish_causes self.now.store.table.rows self.now.store.table.statuses ask edek.now
             ask.ask) }
     {
-        to_be_finished(
+        finish_cause(
             self.store.tree(),
             self.store.statuses(),
             self.open_ask(id),
@@ -686,7 +686,7 @@ impl Name {
     fn walk_refusal(&self, zone: &NPath) -> Option<NameRefusal>
         ensures { result ≡ first_cause (walk_causes (names_of self.now) zone.now) }
     {
-        to_be_going_on(self.store.tree(), self.store.statuses(), zone)
+        going_refusal(self.store.tree(), self.store.statuses(), zone)
     }
 
     /// Takes the next batch of a zone that is being re-encrypted, if there is one.

@@ -14,7 +14,7 @@ use crate::walks::{copy_of_mark, has_begun};
 use hk_base::NoMemory;
 use inode_tree::{Kind, Row, Tree};
 use name_calls::{ChildList, NPath, NameRefusal, NameReply, ReadPath, SnapPart, State, ZoneStatus};
-use name_store::{NameStore, to_be_unsnapped, to_be_zone_root};
+use name_store::{NameStore, unsnap_refusal, zone_root_refusal};
 use reenc_walk::Walker;
 use std::alloc::Global;
 use zone_table::StatusRow;
@@ -73,7 +73,7 @@ fn snapshot_refusal(store: &NameStore, path: &ReadPath) -> Option<NameRefusal>
 {
     match &path.snapshot {
         None => None,
-        Some(part) => to_be_unsnapped(store.tree(), store.snaps(), &path.path, &part.name),
+        Some(part) => unsnap_refusal(store.tree(), store.snaps(), &path.path, &part.name),
     }
 }
 
@@ -209,7 +209,7 @@ pub fn status(alloc: Global, store: &NameStore, walks: &Vec<Walker>, path: &NPat
     ensures { Answers true (zone_root_causes store.now.table.rows path.now)
         (NameReply.Status (status_shown_at store.now.table walks.now.items path.now)) result }
 {
-    if let Some(why) = to_be_zone_root(store.tree(), path) {
+    if let Some(why) = zone_root_refusal(store.tree(), path) {
         return NameReply::Refused(why);
     }
     match status_at(alloc, store, walks, path) {

@@ -4,7 +4,7 @@ ghost use Rattle.name_calls.specs.Paths.{starts_reserved};
 ghost use Rattle.zone_table.specs.declared.statuses.StatusRow.{StatusRow};
 ghost use Rattle.name_store.specs.Causes.{first_cause, id_at};
 ghost use Rattle.name_core.specs.Asks.{finish_causes, finish_op, is_other_key, is_other_zone, noted_of, path_asked, wanted, wanted_under};
-ghost use Rattle.name_core.specs.Calls.{delete_causes, early_causes, ids_used, is_superuser, name_causes, path_causes, read_path_causes, superuser_causes};
+ghost use Rattle.name_core.specs.Calls.{delete_causes, early_causes, ids_used, is_superuser, name_causes, path_causes, read_path_causes, superuser, superuser_causes};
 ghost use Rattle.name_core.specs.Service.{is_change};
 ghost use Rattle.name_core.specs.Steps.{HasWanted};
 
@@ -14,7 +14,8 @@ use hk_base::{Edek, KeyName, NoMemory, Text, VersionName};
 use inode_tree::Tree;
 use name_calls::{Ask, NPath, NameCall, NameRefusal, ReadPath, Want, is_component};
 use name_store::{
-    fits_zone, has_most_rows, key_of_zone, to_be_made, to_be_removed, to_be_zone, to_be_zone_root,
+    fits_zone, has_most_rows, key_of_zone, make_refusal, new_zone_refusal, removal_refusal,
+    zone_root_refusal,
 };
 use snap_store::Snaps;
 use std::alloc::Global;
@@ -48,6 +49,14 @@ fn name_refusal(name: &Text) -> Option<NameRefusal>
         return Some(NameRefusal::BadPath);
     }
     None
+}
+
+/// Returns the superuser, who makes the calls that the namesystem wants. Returns `NoMemory` if
+/// allocation fails.
+pub fn superuser(alloc: Global) -> Result<Text, NoMemory>
+    ensures { IfOk result (λ user. user ≡ superuser) }
+{
+    Ok(Text::of(String::from_str(alloc, "hdfs")?))
 }
 
 /// Returns why each call that only the superuser may make is refused.
@@ -145,7 +154,7 @@ pub fn ids_used(call: &NameCall) -> u64
 /// Returns why a path can not be deleted: it must exist and not be the root, a directory must be
 /// empty unless its contents are deleted too, and there must be no snapshot of a directory at or
 /// below the path.
-pub fn to_be_deleted(
+pub fn delete_refusal(
     tree: &Tree,
     snaps: &Snaps,
     path: &NPath,
@@ -154,7 +163,7 @@ pub fn to_be_deleted(
     ensures { result ≡
         first_cause (delete_causes tree.now.rows snaps.now.table path.now recursive) }
 {
-    if let Some(why) = to_be_removed(tree, path) {
+    if let Some(why) = removal_refusal(tree, path) {
         return Some(why);
     }
     if !recursive && tree.has_children(path) {
@@ -231,7 +240,7 @@ fn is_other_key(tree: &Tree, path: &NPath, edek: &Option<Edek>) -> bool
 }
 
 /// Returns why an ask can not be finished. Everything is checked again, except who asked.
-pub fn to_be_finished(
+pub fn finish_cause(
     tree: &Tree,
     statuses: &Statuses,
     ask: &OpenAsk,
@@ -260,7 +269,7 @@ fn file_refusal(
     if let Some(why) = path_refusal(path) {
         return Some(why);
     }
-    if let Some(why) = to_be_made(tree, path) {
+    if let Some(why) = make_refusal(tree, path) {
         return Some(why);
     }
     if is_other_zone(tree, ask) {
@@ -283,7 +292,7 @@ fn zone_refusal(tree: &Tree, ask: &OpenAsk, path: &NPath) -> Option<NameRefusal>
     if let Some(why) = path_refusal(path) {
         return Some(why);
     }
-    if let Some(why) = to_be_zone(tree, path) {
+    if let Some(why) = new_zone_refusal(tree, path) {
         return Some(why);
     }
     if is_other_zone(tree, ask) {
@@ -306,7 +315,7 @@ fn submission_refusal(
     if let Some(why) = path_refusal(path) {
         return Some(why);
     }
-    if let Some(why) = to_be_zone_root(tree, path) {
+    if let Some(why) = zone_root_refusal(tree, path) {
         return Some(why);
     }
     if is_other_zone(tree, ask) {

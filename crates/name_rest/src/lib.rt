@@ -4,8 +4,8 @@
 
 mod bodies;
 mod faults;
-mod kept;
 mod laws;
+mod lazy_router;
 mod operation;
 mod order;
 mod orders;
@@ -16,8 +16,8 @@ mod routes;
 
 pub use faults::NameRestFault;
 pub use http_wire::Response;
-pub use kept::LazyRouter;
 pub use laws::requests_have_one_answer;
+pub use lazy_router::LazyRouter;
 pub use order::NameOrder;
 pub use requests::{to_name, to_name_with};
 pub use responses::{respond_name, respond_name_fault};

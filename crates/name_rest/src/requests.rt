@@ -5,7 +5,7 @@ ghost use Rattle.name_rest.specs.Operations.{Routes};
 ghost use Rattle.path_routes.specs.Queries.{path_of};
 
 use crate::faults::NameRestFault;
-use crate::kept::LazyRouter;
+use crate::lazy_router::LazyRouter;
 use crate::operation::Operation;
 use crate::order::NameOrder;
 use crate::orders::read_order;

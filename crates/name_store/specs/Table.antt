@@ -19,7 +19,7 @@ use Rattle.edit_ops.specs.declared.files.FileKey.{FileKey}
 use Rattle.edit_ops.specs.declared.ops.EditOp.{EditOp}
 use Rattle.edit_ops.specs.declared.ops.EditOp.TheVariants.{Opened, Mkdir, File, Remove, Rename, Zone, Allow, Disallow, Snap, Unsnap, Submit, Update, Cancel, Complete}
 pub use Rattle.name_store.specs.Causes.{id_of}
-use Rattle.name_store.specs.Causes.{allow_causes, disallow_causes, first_cause, id_at, kept_causes, removal_causes, rename_causes, row_causes, session_causes, snap_causes, submit_causes, to_be_made, unsnap_causes, zone_causes}
+use Rattle.name_store.specs.Causes.{allow_causes, disallow_causes, first_cause, id_at, kept_causes, make_causes, removal_causes, rename_causes, row_causes, session_causes, snap_causes, submit_causes, unsnap_causes, zone_causes}
 
 -- the number of the opening, the rows in path order, the snapshots, and how far the re-encryptions of zones are
 pub record NameTable : Type 0 where
@@ -90,8 +90,8 @@ fits_key t _ = true
 -- why the table refuses an operation; the calls that log it are refused for the same causes, and for others
 abbrev pub op_causes : NameTable → EditOp → List (Bool × NameRefusal)
 op_causes t (Opened opening) = []
-op_causes t (Mkdir id p) = to_be_made t.rows p ++ row_causes t.rows
-op_causes t (File id p edek) = to_be_made t.rows p ++ row_causes t.rows
+op_causes t (Mkdir id p) = make_causes t.rows p ++ row_causes t.rows
+op_causes t (File id p edek) = make_causes t.rows p ++ row_causes t.rows
 op_causes t (Remove p) = removal_causes t.rows p ++ kept_causes t.rows t.snaps p
 op_causes t (Rename p q) = rename_causes t.rows t.snaps t.statuses p q
 op_causes t (Zone p key) = zone_causes t.rows p

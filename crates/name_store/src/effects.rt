@@ -7,7 +7,7 @@ ghost use Rattle.zone_table.specs.declared.statuses.StatusRow.{StatusRow};
 ghost use Rattle.zone_table.specs.Statuses.{counted, without_below};
 ghost use Rattle.zone_table.specs.Zones.{need_add, zones_of};
 ghost use Rattle.snap_store.specs.Snapshots.{IsReady, SnapTable, table_after_disallow, table_after_disallow_below, table_after_take};
-ghost use Rattle.name_store.specs.Causes.{disallow_causes, first_cause, id_at, kept_causes, removal_causes, rename_causes, row_causes, snap_causes, to_be_made, zone_causes};
+ghost use Rattle.name_store.specs.Causes.{disallow_causes, first_cause, id_at, kept_causes, make_causes, removal_causes, rename_causes, row_causes, snap_causes, zone_causes};
 ghost use Rattle.name_store.specs.Table.{marked, new_directory, new_file, with_edeks};
 ghost use Rattle.name_store.specs.Updates.{AreFiles};
 
@@ -21,7 +21,7 @@ use zone_table::{Statuses, Zones, zones_are_the_marks};
 
 /// Makes a directory.
 pub(crate) fn make(tree: &mut Tree, path: &NPath, id: u64) -> Result<(), NoMemory>
-    requires allowed { first_cause (to_be_made tree.old.rows path.now ++ row_causes tree.old.rows) ≡
+    requires allowed { first_cause (make_causes tree.old.rows path.now ++ row_causes tree.old.rows) ≡
         None }
     requires fresh { entry_of tree.old.rows id ≡ None }
     ensures ok { OnOk result (tree.new.rows ≡ put (new_directory id path.now) tree.old.rows) }
@@ -41,7 +41,7 @@ pub(crate) fn make_file(
     id: u64,
     edek: Option<Edek>,
 ) -> Result<(), NoMemory>
-    requires allowed { first_cause (to_be_made tree.old.rows path.now ++ row_causes tree.old.rows) ≡
+    requires allowed { first_cause (make_causes tree.old.rows path.now ++ row_causes tree.old.rows) ≡
         None }
     requires fresh { entry_of tree.old.rows id ≡ None }
     ensures ok { OnOk result (tree.new.rows ≡ put (new_file id path.now edek) tree.old.rows) }

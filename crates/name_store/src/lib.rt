@@ -16,8 +16,8 @@ mod used;
 
 pub use laws::what_a_crash_leaves_is_no_damage;
 pub use rules::{
-    fits_zone, has_most_rows, key_of_zone, to_be_allowed, to_be_directory, to_be_disallowed,
-    to_be_going_on, to_be_made, to_be_removed, to_be_snapped, to_be_submitted, to_be_unsnapped,
-    to_be_zone, to_be_zone_root,
+    allow_refusal, directory_refusal, disallow_refusal, fits_zone, going_refusal, has_most_rows,
+    key_of_zone, make_refusal, new_zone_refusal, removal_refusal, snap_refusal, submit_refusal,
+    unsnap_refusal, zone_root_refusal,
 };
 pub use store::NameStore;

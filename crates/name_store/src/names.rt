@@ -1,7 +1,7 @@
 //! The table of the namesystem as it is kept in memory.
 use crate::copies::copy_of_mark;
 use crate::effects::{count, disallow, make, make_file, mark, remove, rename, snap, update};
-use crate::rules::{allows, id_at, to_be_renamed};
+use crate::rules::{allows, id_at, renaming_refusal};
 use edit_ops::EditOp;
 use hk_base::NoMemory;
 use inode_tree::Tree;
@@ -265,7 +265,7 @@ impl Names {
             (rename_causes self.now.table.rows self.now.table.snaps self.now.table.statuses path.now
             to.now) }
     {
-        to_be_renamed(
+        renaming_refusal(
             &self.tree,
             &self.zones,
             &self.snaps,

@@ -1,6 +1,6 @@
 //! The length of a request, and a response that only a lack of memory brings.
 use disk_kinds::{MemSink, MemSource};
-use http_wire::{Scratch, read_request, write_response};
+use http_wire::{ReadBuffer, read_request, write_response};
 use std::alloc::Global;
 use std::process::Abort;
 
@@ -11,10 +11,10 @@ fn assert_size(
     rt: &impl Abort,
     alloc: Global,
     source: &mut MemSource,
-    scratch: &mut Scratch,
+    buffer: &mut ReadBuffer,
     size: u64,
 ) {
-    let request = read_request(alloc, source, scratch).expect(rt, "a request");
+    let request = read_request(alloc, source, buffer).expect(rt, "a request");
     assert_eq!(rt; request.size, size);
 }
 
@@ -22,9 +22,9 @@ fn assert_size(
 fn a_request_counts_its_own_bytes(rt: HostRuntime) {
     let bytes = Vec::from_slice(rt.alloc(), REQUESTS).expect(&rt, "memory");
     let mut source = MemSource::new(bytes, 4096, Vec::new(rt.alloc()));
-    let mut scratch = Scratch::new();
-    assert_size(&rt, rt.alloc(), &mut source, &mut scratch, 42);
-    assert_size(&rt, rt.alloc(), &mut source, &mut scratch, 19);
+    let mut buffer = ReadBuffer::new();
+    assert_size(&rt, rt.alloc(), &mut source, &mut buffer, 42);
+    assert_size(&rt, rt.alloc(), &mut source, &mut buffer, 19);
 }
 
 fn assert_written(rt: &impl Abort, sink: &MemSink, text: &[u8]) {

@@ -2,7 +2,7 @@
 //! yet.
 use disk_kinds::MemSource;
 use hk_base::Text;
-use http_wire::{Scratch, read_request};
+use http_wire::{ReadBuffer, read_request};
 use name_calls::{Ask, NameCall};
 use name_rest::{NameOrder, NameRestFault, to_name};
 use std::alloc::Global;
@@ -14,8 +14,8 @@ fn read(rt: &impl Abort, alloc: Global, line: &str) -> Result<(Text, NameOrder),
     let more = bytes.extend_from_slice(b" HTTP/1.1\r\n\r\n");
     more.expect(rt, "memory");
     let mut source = MemSource::new(bytes, 4096, Vec::new(alloc));
-    let mut scratch = Scratch::new();
-    let request = read_request(alloc, &mut source, &mut scratch).expect(rt, "a request");
+    let mut buffer = ReadBuffer::new();
+    let request = read_request(alloc, &mut source, &mut buffer).expect(rt, "a request");
     to_name(alloc, &request)
 }
 

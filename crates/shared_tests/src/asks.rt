@@ -11,9 +11,10 @@ use crate::callers::{Caller, text};
 use hk_base::{Edek, KeyName};
 use kms_calls::{KmsCall, KmsReply};
 use name_calls::{Answered, Ask, AskNote, Want};
+use name_core::superuser;
 use std::process::Abort;
 use std::sync::Wait;
-use turns::{Turns, superuser};
+use turns::Turns;
 
 fn key_of(edek: &Edek) -> KeyName
     ensures { result ≡ edek.now.version.key }

@@ -2,12 +2,10 @@
 //! the whole picture.
 #![tactic(auto)]
 
-mod caller;
 mod lent;
 mod notices;
 mod services;
 
-pub use caller::superuser;
 pub use lent::Lent;
 pub use notices::{NoNotices, Notices};
 pub use services::Turns;

@@ -18,7 +18,7 @@ use Rattle.name_calls.specs.declared.calls.KeyAnswer.{KeyAnswer}
 use Rattle.name_calls.specs.declared.calls.NameRefusal.{NameRefusal}
 use Rattle.name_calls.specs.declared.calls.NameRefusal.TheVariants as refusal
 use Rattle.name_core.specs.Asks.{finish_causes, finish_op, is_other_key, is_other_zone, open_ask, without}
-use Rattle.name_core.specs.Calls.{first_cause, path_causes, to_be_made}
+use Rattle.name_core.specs.Calls.{first_cause, make_causes, path_causes}
 use Rattle.name_store.specs.Causes.{directory_causes, id_at, mark_at, row_causes, zone_causes, zone_root_causes}
 use Rattle.zone_table.specs.declared.statuses.StatusRow.{StatusRow}
 use Rattle.zone_table.specs.Statuses.{zone_goes_on}
@@ -268,8 +268,8 @@ pub finish-fits : (rows : List Entry) (statuses : List StatusRow) (a : OpenAsk) 
 finish-fits rows statuses a edek (ask.Create p) free =
     let key : List (Bool × NameRefusal) = (is_other_key rows p edek, refusal.ZoneChanged) ∷ row_causes rows in
     let checks : List (Bool × NameRefusal) = (is_other_zone rows a, refusal.ZoneChanged) ∷ key in
-    let made = none-of-both (path_causes p) (to_be_made rows p ++ checks) free in
-    let fits = clear (is_other_zone rows a) refusal.ZoneChanged (first_cause key) (none-of-both (to_be_made rows p) checks made.1).1 in
+    let made = none-of-both (path_causes p) (make_causes rows p ++ checks) free in
+    let fits = clear (is_other_zone rows a) refusal.ZoneChanged (first_cause key) (none-of-both (make_causes rows p) checks made.1).1 in
     not-false (fits_zone (key_of_zone rows p) edek) (clear (is_other_key rows p edek) refusal.ZoneChanged (first_cause (row_causes rows)) fits.1).0
 finish-fits rows statuses a edek (ask.Zone p key) free =
     let checks : List (Bool × NameRefusal) = (is_other_zone rows a, refusal.ZoneChanged) ∷ [] in

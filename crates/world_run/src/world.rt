@@ -25,7 +25,7 @@ use hk_events::{Event, Line};
 use kms_acls::Acls;
 use kms_core::{Kms, Ticket};
 use name_calls::AskNote;
-use name_core::Name;
+use name_core::{Name, superuser};
 use prop_text::{Props, Sizes};
 use reenc_walk::BatchNote;
 use std::alloc::Global;
@@ -76,13 +76,6 @@ impl Model for World {
         } };
 
     ghost invariant = { λ a. a.superuser ≡ calls.superuser };
-}
-
-/// Returns the user who makes the calls that asks want.
-fn superuser(alloc: Global) -> Result<Text, NoMemory>
-    ensures { IfOk result (λ user. user ≡ superuser) }
-{
-    Ok(Text::of(String::from_str(alloc, "hdfs")?))
 }
 
 /// Makes what a world needs beside its logs: the user who makes the calls that asks want, and the

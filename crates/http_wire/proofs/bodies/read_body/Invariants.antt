@@ -5,7 +5,7 @@ use Rattle.http_wire.proofs.bodies.read_body.Given as goal
 
 abbrev pub invariant-bytes : goal.invariant-bytes
 invariant-bytes g l = record {
-  used : Consumes (ahead l.fn.scratch (g.S.Source.left l.fn.source)) (ahead l.scratch (g.S.Source.left l.source)) l.body;
+  used : Consumes (ahead l.fn.buffer (g.S.Source.left l.fn.source)) (ahead l.buffer (g.S.Source.left l.source)) l.body;
   within : length l.body ≤ l.size;
   later : g.S.Source.faults l.fn.source ≤ g.S.Source.faults l.source;
 }

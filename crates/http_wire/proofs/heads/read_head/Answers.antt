@@ -9,8 +9,8 @@ use Rattle.http_wire.proofs.heads.read_head.Goals as goal
 
 pub returns-in_err-push-in-Byte-clause-err : goal.returns-in_err-push-in-Byte-clause-err
 returns-in_err-push-in-Byte-clause-err g c =
-    let start = ahead c.args.scratch.now (g.S.Source.left c.args.source.now) in
-    let here = ahead c.bytes.scratch (g.S.Source.left c.bytes.source) in
+    let start = ahead c.args.buffer.now (g.S.Source.left c.args.source.now) in
+    let here = ahead c.bytes.buffer (g.S.Source.left c.bytes.source) in
     let now = ahead c.next.new.self (g.S.Source.left c.next.new.source) in
     let p = err_from_is_err_and c.from_residual.result c.from_residual.ensures.1 in
     rw (p.1, p.2) (record {
@@ -22,8 +22,8 @@ returns-in_err-push-in-Byte-clause-err g c =
 
 pub returns-then-ends_head-clause-ok : goal.returns-then-ends_head-clause-ok
 returns-then-ends_head-clause-ok g c =
-    let start = ahead c.args.scratch.now (g.S.Source.left c.args.source.now) in
-    let here = ahead c.bytes.scratch (g.S.Source.left c.bytes.source) in
+    let start = ahead c.args.buffer.now (g.S.Source.left c.args.source.now) in
+    let here = ahead c.bytes.buffer (g.S.Source.left c.bytes.source) in
     let now = ahead c.next.new.self (g.S.Source.left c.next.new.source) in
     let grown = c.in_ok-push-in-Byte.ensures.ok in
     let ends : EndsHead (c.bytes.head ++ c.in-Byte.byte ∷ []) = subst (λ bytes. EndsHead bytes) (c.as_slice.ensures ∙ grown) (c.ends_head.ensures.0 c.if-ends_head.true) in
@@ -34,8 +34,8 @@ returns-then-ends_head-clause-ok g c =
 
 pub bytes-preserved : goal.bytes-preserved
 bytes-preserved g c =
-    let start = ahead c.args.scratch.now (g.S.Source.left c.args.source.now) in
-    let here = ahead c.bytes.scratch (g.S.Source.left c.bytes.source) in
+    let start = ahead c.args.buffer.now (g.S.Source.left c.args.source.now) in
+    let here = ahead c.bytes.buffer (g.S.Source.left c.bytes.source) in
     let now = ahead c.next.new.self (g.S.Source.left c.next.new.source) in
     let grown = c.in_ok-push-in-Byte.ensures.ok in
     let going : ¬ EndsHead (c.bytes.head ++ c.in-Byte.byte ∷ []) = λ ends. absurd (is_not c.ends_head.result c.if-ends_head.false (c.ends_head.ensures.1 (subst (λ bytes. EndsHead bytes) (sym (c.as_slice.ensures ∙ grown)) ends))) in

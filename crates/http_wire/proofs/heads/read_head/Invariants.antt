@@ -6,7 +6,7 @@ use Rattle.http_wire.proofs.heads.read_head.Given as goal
 
 abbrev pub invariant-bytes : goal.invariant-bytes
 invariant-bytes g l = record {
-  used : Consumes (ahead l.fn.scratch (g.S.Source.left l.fn.source)) (ahead l.scratch (g.S.Source.left l.source)) l.head;
+  used : Consumes (ahead l.fn.buffer (g.S.Source.left l.fn.source)) (ahead l.buffer (g.S.Source.left l.source)) l.head;
   no_end : HasNoEnd l.head;
   few : length l.head ≤ 16384;
   later : g.S.Source.faults l.fn.source ≤ g.S.Source.faults l.source;

@@ -9,7 +9,7 @@ use Rattle.command_io.specs.declared.lines.LineEnd.TheVariants as line_end
 use Rattle.command_io.specs.declared.ends.ReplayEnd.{ReplayEnd}
 use Rattle.command_io.specs.declared.ends.ReplayEnd.TheVariants as ended
 use Rattle.hk_runs.specs.declared.stage.LineOutcome.{LineOutcome}
-use Rattle.hk_runs.specs.declared.stage.LineOutcome.TheVariants.{Played, BadLine, Unread, Untold, Unwritten, Unopened}
+use Rattle.hk_runs.specs.declared.stage.LineOutcome.TheVariants.{Played, BadLine, Unread, Unanswered, Unwritten, Unopened}
 use Rattle.command_io.specs.Ends.{ended_by}
 use Rattle.hk_runs.specs.Steps.{Next, NextSo, Read, Stand, end_of_play}
 use Rattle.std.proofs.KnownBytes.{Appends-nil}
@@ -66,7 +66,7 @@ not_between : (play : LineOutcome) → Some ended.Done ≡ end_of_play false pla
 not_between Played e = absurd cc
 not_between BadLine e = absurd cc
 not_between Unread e = absurd cc
-not_between Untold e = absurd cc
+not_between Unanswered e = absurd cc
 not_between Unwritten e = absurd cc
 not_between (Unopened fault) e = not_opened fault.file fault.fault e
 

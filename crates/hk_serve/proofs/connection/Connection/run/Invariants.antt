@@ -6,8 +6,8 @@ use Rattle.hk_serve.proofs.connection.Connection.run.Given as goal
 abbrev pub invariant-requests : goal.invariant-requests
 invariant-requests g l = record {
   so_far : SoFar g.E.Desk.answers
-      (record { ahead = ahead l.fn.self.scratch (g.S.Source.left l.fn.source); desk = l.fn.desk; written = g.K.Sink.written l.fn.sink })
-      (record { ahead = ahead l.self.scratch (g.S.Source.left l.source); desk = l.desk; written = g.K.Sink.written l.sink })
+      (record { ahead = ahead l.fn.self.buffer (g.S.Source.left l.fn.source); desk = l.fn.desk; written = g.K.Sink.written l.fn.sink })
+      (record { ahead = ahead l.self.buffer (g.S.Source.left l.source); desk = l.desk; written = g.K.Sink.written l.sink })
       l.self.bytes;
   ready : g.E.Desk.ready l.desk;
   few : l.self.bytes < 2 ^ 40;

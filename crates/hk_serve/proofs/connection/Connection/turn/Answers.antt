@@ -6,8 +6,8 @@ use Rattle.hk_serve.proofs.connection.Connection.turn.Goals as goal
 
 pub returns-in-Ok-clause-turns : goal.returns-in-Ok-clause-turns
 returns-in-Ok-clause-turns g c =
-    let old = ahead c.args.self.now.scratch (g.S.Source.left c.args.source.now) in
+    let old = ahead c.args.self.now.buffer (g.S.Source.left c.args.source.now) in
     let left = g.S.Source.left c.read_request.new.source in
     turned g.E.Desk.answers c.args.self.now.bytes c.answer.new.self.bytes _ _ c.in-Ok.request c.answer.result
-    (subst (λ (scratch : List ℕ). Takes old (ahead scratch left) c.in-Ok.request) (sym c.answer.ensures.same) c.in-Ok.ensures.request)
+    (subst (λ (buffer : List ℕ). Takes old (ahead buffer left) c.in-Ok.request) (sym c.answer.ensures.same) c.in-Ok.ensures.request)
     c.answer.ensures.answered

@@ -13,13 +13,13 @@ const PIECE: usize = 4096;
 /// The bytes that a read returned past the end of a request. They belong to the next one. In contracts
 /// its value is these bytes. It does not allocate.
 #[derive(Drop)]
-pub struct Scratch {
+pub struct ReadBuffer {
     piece: [u8; 4096],
     from: usize,
     to: usize,
 }
 
-impl Model for Scratch {
+impl Model for ReadBuffer {
     ghost use Rattle.std.specs.Prelude.{◌≤◌, ℕ, List, take, drop};
 
     ghost Value = { List ℕ };
@@ -42,7 +42,7 @@ pub(crate) enum Next {
 /// Whether there is a next byte.
 #[derive(Clone, Copy, Debug, PartialEq, Eq)]
 pub(crate) enum Filled {
-    /// The scratch has at least one byte.
+    /// The buffer has at least one byte.
     More,
     /// The source is at its end.
     End,
@@ -50,19 +50,19 @@ pub(crate) enum Filled {
     Fault,
 }
 
-impl Scratch {
-    /// Creates a scratch without bytes.
-    pub fn new() -> Scratch
+impl ReadBuffer {
+    /// Creates an empty buffer.
+    pub fn new() -> ReadBuffer
         ensures { result ≡ [] }
     {
-        Scratch {
+        ReadBuffer {
             piece: [0; PIECE],
             from: 0,
             to: 0,
         }
     }
 
-    /// Reads a piece from the source if the scratch is empty.
+    /// Reads a piece from the source if the buffer is empty.
     pub(crate) fn fill<S: Source>(&mut self, source: &mut S) -> Filled
         ensures kept { Consumes (ahead self.old (S.left source.old))
             (ahead self.new (S.left source.new)) [] }
@@ -103,7 +103,7 @@ impl Scratch {
         }
     }
 
-    /// Takes the first byte of the scratch.
+    /// Takes the first byte of the buffer.
     fn first(&mut self) -> u8
         requires { 0 < length self.old }
         ensures { self.old ≡ result ∷ self.new }
@@ -118,7 +118,7 @@ impl Scratch {
         ensures given { OnOk result (out.new ≡ out.old ++ take most self.old) }
         ensures left { OnOk result (self.new ≡ drop most self.old) }
         ensures out { OnErr result (out.new ≡ out.old) }
-        ensures scratch { OnErr result (self.new ≡ self.old) }
+        ensures buffer { OnErr result (self.new ≡ self.old) }
     {
         let count = most.min(self.to - self.from);
         out.append(&self.piece[self.from..self.from + count])?;

@@ -1,5 +1,5 @@
 use Rattle.hist_cell.proofs.Unions.{unites}
-use Rattle.hist_cell.proofs.seats.unite.Goals as goal
+use Rattle.hist_cell.proofs.seats.join_view.Goals as goal
 
 pub join_seat-requires : goal.join_seat-requires
 join_seat-requires g c = (

@@ -1,7 +1,7 @@
 use Rattle.std.proofs.Common.{◌∙◌, sym, ap}
 use Rattle.name_core.specs.Calls.{first_cause}
 use Rattle.name_core.specs.Asks.{finish_causes}
-use Rattle.name_core.proofs.rules.to_be_finished.Goals as goal
+use Rattle.name_core.proofs.rules.finish_cause.Goals as goal
 
 pub returns-in-Zone : goal.returns-in-Zone
 returns-in-Zone c =
