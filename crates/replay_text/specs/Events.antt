@@ -237,6 +237,13 @@ pub record SpellsWalk (fields : List (List ℕ)) (path : List ℕ) : Type 0 wher
   pub fields_are : fields ≡ codes "walk" ∷ path_field ∷ []
   pub path_is : IsEscaped path_field path
 
+-- no event that begins with `ask`
+abbrev pub SpellsNoAsk : List (List ℕ) → Type 0
+SpellsNoAsk fields =
+    ((user path : List ℕ) → ¬ SpellsAskPath (codes "create") fields user path)
+    × (((user path : List ℕ) → ¬ SpellsAskPath (codes "submit") fields user path)
+    × ((user path key : List ℕ) → ¬ SpellsAskZone fields user path key))
+
 -- this verb and the number of a ticket, ask, reply or batch, below 2^32
 pub record SpellsKept (verb : List ℕ) (fields : List (List ℕ)) (number : ℕ) : Type 0 where
   pub fields_are : fields ≡ verb ∷ decimal number ∷ []

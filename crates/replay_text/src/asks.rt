@@ -1,6 +1,6 @@
 //! Lines of asks and walks.
 ghost use Rattle.std.specs.Prelude.{◌∷◌, ℕ, List, IfOk, MatchOption, codes};
-ghost use Rattle.replay_text.specs.Events.{SpellsAskPath, SpellsAskZone, SpellsEvent, SpellsWalk, fields_of};
+ghost use Rattle.replay_text.specs.Events.{SpellsAskPath, SpellsAskZone, SpellsEvent, SpellsNoAsk, SpellsWalk, fields_of};
 
 use crate::fields::{cut, only_field, read_escaped, read_user};
 use hk_base::{KeyName, NoMemory};
@@ -9,7 +9,10 @@ use std::alloc::Global;
 
 /// Reads `ask U`, a verb and its fields, from after `ask`.
 pub fn read_ask(alloc: Global, fields: &[u8]) -> Result<Option<Event>, NoMemory>
-    ensures { IfOk result (λ found. MatchOption found (((user path : List ℕ) → ¬ SpellsAskPath (codes "create") (codes "ask" ∷ fields_of fields.now) user path) × (((user path : List ℕ) → ¬ SpellsAskPath (codes "submit") (codes "ask" ∷ fields_of fields.now) user path) × ((user path key : List ℕ) → ¬ SpellsAskZone (codes "ask" ∷ fields_of fields.now) user path key))) (SpellsEvent (codes "ask" ∷ fields_of fields.now))) }
+    ensures { IfOk result
+        (λ found.
+        MatchOption found (SpellsNoAsk (codes "ask" ∷ fields_of fields.now))
+        (SpellsEvent (codes "ask" ∷ fields_of fields.now))) }
 {
     let (user, rest) = cut(fields);
     let Some(rest) = rest else {

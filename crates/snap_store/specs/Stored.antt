@@ -1,15 +1,27 @@
 -- Snapshots in memory: their keys in one list, and beside it the nodes of their directories.
-use Rattle.std.specs.Prelude.{◌≡◌, ℕ, List, [], ◌∷◌, length, suc, Option, Some, None, if◌then◌else◌}
+use Rattle.std.specs.Prelude.{◌≡◌, ℕ, min, List, [], ◌∷◌, length, suc, Option, Some, None, if◌then◌else◌}
 use Rattle.std.specs.Option.{option_map}
+use Rattle.std.specs.Global.{Vec}
 use Rattle.frozen_nodes.specs.Forest.{AllBelow, FrozenNode, rows_from}
+use Rattle.frozen_nodes.specs.Packed.{ForestRoom, spare}
 use Rattle.snap_store.specs.Ordered.{IsRisingBy}
-use Rattle.snap_store.specs.Snapshots.{IsSnapshots, Snapshot, is_named, snapshot_cmp}
+use Rattle.snap_store.specs.declared.reserved.Reserved.{Reserved}
+use Rattle.snap_store.specs.Snapshots.{IsSnapshots, SnapRoom, Snapshot, is_named, snapshot_cmp}
 
 -- each snapshot has the rows at and below its root
 abbrev pub snapshots_of : List FrozenNode → List Snapshot → List ℕ → List Snapshot
 snapshots_of nodes [] roots = []
 snapshots_of nodes (key ∷ keys) [] = []
 snapshots_of nodes (key ∷ keys) (root ∷ roots) = record key { rows = rows_from nodes root } ∷ snapshots_of nodes keys roots
+
+-- the memory reserved in these lists, in this room for nodes, and for one snapshot
+abbrev pub room_in : Vec ℕ → Vec Snapshot → Vec ℕ → ForestRoom → Reserved → Option (List ℕ) → SnapRoom
+room_in allowed taken roots nodes reserved name = record {
+  ids = spare allowed;
+  snapshots = min (spare taken) (spare roots);
+  rows = record { path = reserved.path; nodes = nodes; copies = reserved.buffer };
+  name = name;
+}
 
 -- the index of the first snapshot of the directory with the name
 abbrev pub index_named : List Snapshot → ℕ → List ℕ → Option ℕ

@@ -172,14 +172,20 @@ pub struct Snaps {
 }
 
 impl Model for Snaps {
-    ghost use Rattle.std.specs.Prelude.{◌-◌, min};
-    ghost use Rattle.std.specs.Vec.{vec_len, vec_capacity};
     ghost use Rattle.snap_store.specs.Snapshots.{SnapState};
-    ghost use Rattle.snap_store.specs.Stored.{IsStored, snapshots_of};
+    ghost use Rattle.snap_store.specs.Stored.{IsStored, room_in, snapshots_of};
 
     ghost Value = { SnapState };
 
-    ghost view = { λ snaps. record { table = record { allowed = snaps.allowed.items; taken = snapshots_of snaps.forest.nodes snaps.taken.items snaps.roots.items }; room = record { ids = vec_capacity snaps.allowed - vec_len snaps.allowed; snapshots = min (vec_capacity snaps.taken - vec_len snaps.taken) (vec_capacity snaps.roots - vec_len snaps.roots); rows = record { path = snaps.reserved.path; nodes = snaps.forest.room; copies = snaps.reserved.buffer }; name = snaps.name } } };
+    ghost view = { λ snaps.
+        record {
+          table = record {
+            allowed = snaps.allowed.items;
+            taken = snapshots_of snaps.forest.nodes snaps.taken.items snaps.roots.items;
+          };
+          room = room_in snaps.allowed snaps.taken snaps.roots snaps.forest.room snaps.reserved
+              snaps.name;
+        } };
 
     ghost invariant = { λ snaps.
         IsStored snaps.forest.nodes snaps.allowed.items snaps.taken.items snaps.roots.items };
