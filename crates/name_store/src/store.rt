@@ -149,8 +149,13 @@ impl NameStore {
         match self.log.settle(disk) {
             Ok(None) => return Ok(None),
             Ok(Some(op)) => {
-                self.names.apply(&op)?;
-                return Ok(Some(op));
+                match self.names.apply(&op) {
+                    Ok(()) => return Ok(Some(op)),
+                    Err(why) => {
+                        drop(op);
+                        return Err(StoreRefusal::from(why));
+                    }
+                }
             }
             Err(_) => return Err(StoreRefusal::StoreFault),
         }

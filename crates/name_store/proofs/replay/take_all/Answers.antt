@@ -77,3 +77,31 @@ each-preserved g c =
 pub returns-in_err-take_placed-in-Some-clause-moments : goal.returns-in_err-take_placed-in-Some-clause-moments
 returns-in_err-take_placed-in-Some-clause-moments g c =
     (compose c.each.invariant.going (record { run = c.next.ensures.run; moments = c.next.ensures.moments }) c.each.invariant.same.leaves).moments
+
+pub returns-in_err-next-clause-run : goal.returns-in_err-next-clause-run
+returns-in_err-next-clause-run g c =
+    (compose c.each.invariant.going (record { run = c.next.ensures.run; moments = c.next.ensures.moments }) c.each.invariant.same.leaves).run
+
+pub returns-in_err-next-clause-same : goal.returns-in_err-next-clause-same
+returns-in_err-next-clause-same g c =
+    both_read c.each.invariant.going c.each.invariant.same c.next.ensures.same
+
+pub returns-in-None-clause-run : goal.returns-in-None-clause-run
+returns-in-None-clause-run g c =
+    (compose c.each.invariant.going (record { run = c.next.ensures.run; moments = c.next.ensures.moments }) c.each.invariant.same.leaves).run
+
+pub returns-in-None-clause-same : goal.returns-in-None-clause-same
+returns-in-None-clause-same g c =
+    both_read c.each.invariant.going c.each.invariant.same c.next.ensures.same
+
+pub returns-in-None-clause-moments : goal.returns-in-None-clause-moments
+returns-in-None-clause-moments g c =
+    (compose c.each.invariant.going (record { run = c.next.ensures.run; moments = c.next.ensures.moments }) c.each.invariant.same.leaves).moments
+
+pub returns-in_err-take_placed-in-Some-clause-run : goal.returns-in_err-take_placed-in-Some-clause-run
+returns-in_err-take_placed-in-Some-clause-run g c =
+    (compose c.each.invariant.going (record { run = c.next.ensures.run; moments = c.next.ensures.moments }) c.each.invariant.same.leaves).run
+
+pub returns-in_err-take_placed-in-Some-clause-same : goal.returns-in_err-take_placed-in-Some-clause-same
+returns-in_err-take_placed-in-Some-clause-same g c =
+    both_read c.each.invariant.going c.each.invariant.same c.next.ensures.same

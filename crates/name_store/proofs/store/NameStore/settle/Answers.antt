@@ -28,15 +28,15 @@ returns-in-Ok-None-clause-settles g c =
     (λ none ops s. let same = h.nothing none in subst (λ d. edits.IsEditLogOf (g.D.Disk.state d) is.log ops) (sym same.2) (subst (λ l. edits.IsEditLogOf D0 l ops) (sym same.1) s))
     h.kept h.dropped)
 
-pub returns-in-Ok-Some-clause-settles : goal.returns-in-Ok-Some-clause-settles
-returns-in-Ok-Some-clause-settles g c =
+pub returns-in-Ok-clause-settles : goal.returns-in-Ok-clause-settles
+returns-in-Ok-clause-settles g c =
     let D0 = g.D.Disk.state c.args.disk.now in
     let D1 = g.D.Disk.state c.settle.new.disk in
     let was : StoreState = record { log = c.self.inside.log; table = c.self.inside.names.table } in
     let is : StoreState = record { log = c.settle.new.self; table = c.apply.new.self.table } in
     let h = c.in-Ok-Some.ensures in
     subst (λ (s : StoreState). SettlesNames D0 D1 s (Some c.in-Ok-Some.op) is) c.self.view_is
-    (settles_kept D0 D1 was is c.in-Ok-Some.field-0 c.in-Ok-Some.op c.in-Ok-Some.field-0-is h.answer h.settled c.in_ok-apply-in-Ok-Some.ensures.ok h.kept h.dropped)
+    (settles_kept D0 D1 was is c.in-Ok-Some.field-0 c.in-Ok-Some.op c.in-Ok-Some.field-0-is h.answer h.settled c.in-Ok.ensures.ok h.kept h.dropped)
 
 pub returns-in-Ok-None-clause-any_moment : goal.returns-in-Ok-None-clause-any_moment
 returns-in-Ok-None-clause-any_moment g c =
@@ -48,8 +48,8 @@ returns-in-Ok-None-clause-any_moment g c =
     c.self.view_is
     (settle_moments D0 D1 was (λ none P. let same = c.settle.ensures.nothing none in subst (λ d. LeavesOnly 1 D0 (g.D.Disk.state d) P) (sym same.2) (begin 1 D0 P).moments) c.settle.ensures.any_moment)
 
-pub returns-in-Ok-Some-clause-any_moment : goal.returns-in-Ok-Some-clause-any_moment
-returns-in-Ok-Some-clause-any_moment g c =
+pub returns-in-Ok-clause-any_moment : goal.returns-in-Ok-clause-any_moment
+returns-in-Ok-clause-any_moment g c =
     let D0 = g.D.Disk.state c.args.disk.now in
     let D1 = g.D.Disk.state c.settle.new.disk in
     let was : StoreState = record { log = c.self.inside.log; table = c.self.inside.names.table } in
