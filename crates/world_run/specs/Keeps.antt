@@ -1,5 +1,5 @@
 -- An event over the disk, and what stays true in it.
-use Rattle.std.specs.Prelude.{◌≡◌, ◌⊎◌, ℕ, ◌+◌, ◌<◌, Bool, List, ◌∷◌, [], ◌++◌, None}
+use Rattle.std.specs.Prelude.{◌≡◌, ◌⊎◌, ℕ, ◌+◌, ◌<◌, Bool, List, ◌∷◌, [], ◌++◌, None, Result, MatchResult}
 use Rattle.hk_base.specs.Disk.{DiskState, Image, IsImage, Tells}
 use Rattle.hk_base.specs.Faults.{Rose}
 use Rattle.frame_log.specs.declared.fault.StartFault.{StartFault}
@@ -7,6 +7,7 @@ use Rattle.frame_log.specs.declared.fault.StartFault.TheVariants as start
 use Rattle.edit_ops.specs.declared.ops.EditOp.{EditOp}
 use Rattle.key_rows.specs.declared.rows.KeyCommand.{KeyCommand}
 use Rattle.key_rows.specs.Table.{Table, after}
+use Rattle.kms_acls.specs.Agreement.{AreListsOf}
 use Rattle.prop_text.specs.SizeValues.{SizeValues}
 use Rattle.prop_text.specs.declared.lines.PropLine.{PropLine}
 use Rattle.kms_core.specs.State.{settled}
@@ -19,6 +20,8 @@ use Rattle.hk_events.specs.declared.event.Event.TheVariants as event
 use Rattle.hk_events.specs.declared.event.Line.{Line}
 use Rattle.world_run.specs.World.{RunningWorld, WorldState, first_world, world_of}
 use Rattle.world_run.specs.Acknowledged.{Acknowledged, HoldsLogs, LeavesBoth, RunBoth, also}
+use Rattle.world_run.specs.declared.fault.WorldFault.{WorldFault}
+use Rattle.world_run.specs.Does.{Happens}
 use Rattle.world_run.specs.Own.{SurvivesAtRest, SurvivesEvent, SurvivesRestart}
 use Rattle.world_run.specs.Step.{Step}
 use Rattle.world_run.specs.Ledger.{Hidden, Past, drawn_before, hidden_after, past_of}
@@ -95,6 +98,24 @@ pub record Fails (old new : DiskState) (r : RunningWorld) (words : ℕ → ℕ) 
   -- a crash at the end of it leaves what is acknowledged, too
   pub survives_then : Tells old → (done : Acknowledged) → HoldsLogs old r done → (c : Image) → IsImage new c → LeftByRestart (world_of r) e done c
   pub run : RunBoth old new
+
+-- An event is answered with a line, under the properties of any lines that have these access control lists, or is a restart that fails.
+abbrev pub StepsOrFails : DiskState → DiskState → RunningWorld → (ℕ → ℕ) → ℕ → Event → Result Line WorldFault → RunningWorld → (ℕ → ℕ) → Type 0
+StepsOrFails old new r words now e result r' words' = MatchResult result
+    (λ reply. (lines : List PropLine) → AreListsOf r.keys.acls lines → Steps lines old new r words now e reply r' words')
+    (λ fault. Fails old new r words e fault.file fault.fault r' words')
+
+-- the same of what an event does alone
+abbrev pub HappensOrFails : DiskState → DiskState → RunningWorld → (ℕ → ℕ) → ℕ → Event → Result Line WorldFault → RunningWorld → (ℕ → ℕ) → Type 0
+HappensOrFails old new r words now e result r' words' = MatchResult result
+    (λ reply. (lines : List PropLine) → AreListsOf r.keys.acls lines → Happens lines old new r words now e reply r' words')
+    (λ fault. Fails old new r words e fault.file fault.fault r' words')
+
+-- A restart needs no lists, no words and no moment: it leaves any words as they are.
+abbrev pub RestartsOrFails : DiskState → DiskState → RunningWorld → Event → Result Line WorldFault → RunningWorld → Type 0
+RestartsOrFails old new r e result r' = MatchResult result
+    (λ reply. (lines : List PropLine) (words : ℕ → ℕ) (now : ℕ) → Happens lines old new r words now e reply r' words)
+    (λ fault. (words : ℕ → ℕ) → Fails old new r words e fault.file fault.fault r' words)
 
 -- What a start found in both logs, and what they hold after it: the records found, and the next openings.
 pub record BeganLogs (old new : DiskState) (r : RunningWorld) (table : Table) (names : NameTable) : Type 0 where

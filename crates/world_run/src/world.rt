@@ -1,13 +1,11 @@
 //! The world and its events.
-ghost use Rattle.std.specs.Prelude.{◌≡◌, ◌≤◌, ℕ, List, IfOk, IsErrOf, MatchResult};
+ghost use Rattle.std.specs.Prelude.{◌≡◌, ◌≤◌, IfOk, IsErrOf};
 ghost use Rattle.hk_base.specs.Disk.{Tells};
 ghost use Rattle.kms_acls.specs.Agreement.{AreListsOf};
 ghost use Rattle.name_core.specs.Calls.{superuser};
-ghost use Rattle.prop_text.specs.declared.lines.PropLine.{PropLine};
 ghost use Rattle.hk_events.specs.declared.event.Event.TheVariants as event;
 ghost use Rattle.world_run.specs.Acknowledged.{Acknowledged, HoldsLogs};
-ghost use Rattle.world_run.specs.Does.{Happens};
-ghost use Rattle.world_run.specs.Keeps.{Begins, Fails, Steps};
+ghost use Rattle.world_run.specs.Keeps.{Begins, HappensOrFails, RestartsOrFails, StepsOrFails};
 ghost use Rattle.world_run.specs.Linked.{ServicesFit};
 ghost use Rattle.world_run.specs.Starts.{OpensBoth};
 ghost use Rattle.world_run.specs.World.{world_of};
@@ -170,9 +168,8 @@ impl World {
     ) -> Result<Line, WorldFault>
         requires stands { Tells (D.state disk.old) →
             ((done : Acknowledged) × HoldsLogs (D.state disk.old) self.old done) }
-        ensures { MatchResult result
-            (λ line. (lines : List PropLine) → AreListsOf self.old.keys.acls lines → Steps lines (D.state disk.old) (D.state disk.new) self.old (W.to_come words.old) now event line self.new (W.to_come words.new))
-            (λ fault. Fails (D.state disk.old) (D.state disk.new) self.old (W.to_come words.old) event fault.file fault.fault self.new (W.to_come words.new)) }
+        ensures { StepsOrFails (D.state disk.old) (D.state disk.new) self.old (W.to_come words.old)
+            now event result self.new (W.to_come words.new) }
     {
         self.fits();
         let line = self.happen(disk, words, now, event);
@@ -211,9 +208,8 @@ impl World {
     ) -> Result<Line, WorldFault>
         requires stands { Tells (D.state disk.old) →
             ((done : Acknowledged) × HoldsLogs (D.state disk.old) self.old done) }
-        ensures { MatchResult result
-            (λ line. (lines : List PropLine) → AreListsOf self.old.keys.acls lines → Happens lines (D.state disk.old) (D.state disk.new) self.old (W.to_come words.old) now event line self.new (W.to_come words.new))
-            (λ fault. Fails (D.state disk.old) (D.state disk.new) self.old (W.to_come words.old) event fault.file fault.fault self.new (W.to_come words.new)) }
+        ensures { HappensOrFails (D.state disk.old) (D.state disk.new) self.old (W.to_come words.old)
+            now event result self.new (W.to_come words.new) }
     {
         match event {
             Event::Kms { user, call } => Ok(self.call_keys(disk, words, now, user, call)),
@@ -240,9 +236,8 @@ impl World {
     fn restart_keys<D: Disk>(&mut self, disk: &mut D) -> Result<Line, WorldFault>
         requires stands { Tells (D.state disk.old) →
             ((done : Acknowledged) × HoldsLogs (D.state disk.old) self.old done) }
-        ensures { MatchResult result
-            (λ line. (lines : List PropLine) (words : ℕ → ℕ) (now : ℕ) → Happens lines (D.state disk.old) (D.state disk.new) self.old words now event.RestartKms line self.new words)
-            (λ fault. (words : ℕ → ℕ) → Fails (D.state disk.old) (D.state disk.new) self.old words event.RestartKms fault.file fault.fault self.new words) }
+        ensures { RestartsOrFails (D.state disk.old) (D.state disk.new) self.old event.RestartKms
+            result self.new }
     {
         self.fits();
         match self.keys.restart(self.alloc, disk) {
@@ -258,9 +253,8 @@ impl World {
     fn restart_names<D: Disk>(&mut self, disk: &mut D) -> Result<Line, WorldFault>
         requires stands { Tells (D.state disk.old) →
             ((done : Acknowledged) × HoldsLogs (D.state disk.old) self.old done) }
-        ensures { MatchResult result
-            (λ line. (lines : List PropLine) (words : ℕ → ℕ) (now : ℕ) → Happens lines (D.state disk.old) (D.state disk.new) self.old words now event.RestartName line self.new words)
-            (λ fault. (words : ℕ → ℕ) → Fails (D.state disk.old) (D.state disk.new) self.old words event.RestartName fault.file fault.fault self.new words) }
+        ensures { RestartsOrFails (D.state disk.old) (D.state disk.new) self.old event.RestartName
+            result self.new }
     {
         self.fits();
         match self.names.restart(self.alloc, disk) {
