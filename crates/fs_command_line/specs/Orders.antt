@@ -51,11 +51,15 @@ read_order (Some user) (Some path) None count = None
 read_order (Some user) None from count = None
 read_order None path from count = None
 
+-- the order to read a range that these values make
+abbrev pub read_order_in : List Row → Option FsOrder
+read_order_in rows = read_order (user_in rows) (path_in rows) (from_in rows) (count_in rows)
+
 -- the order of a command with this name and these values
 abbrev pub order_named : Text → List Row → Option FsOrder
 order_named name rows =
     if bytes_eq name (codes "put") then put_order (user_in rows) (path_in rows)
-    else (if bytes_eq name (codes "read") then read_order (user_in rows) (path_in rows) (from_in rows) (count_in rows) else None)
+    else (if bytes_eq name (codes "read") then read_order_in rows else None)
 
 -- the order of the command that a parse entered
 abbrev pub order_at : Option (Text × List Row) → Option FsOrder

@@ -1,7 +1,7 @@
 //! Parsing a command line.
 ghost use Rattle.std.specs.Prelude.{◌≡◌, ◌≢◌, ◌⊎◌, IfErr, IfOk, MatchResult, Ok, Err, None, Some, map, option_map};
 ghost use Rattle.clap.specs.Words.{first_of, found_of, kind_of, rows_of, subcommand_rows_of};
-ghost use Rattle.fs_command_line.specs.Orders.{Answers, FindsHelp, FindsVersion, HasMistake, HasRightValues, IsHelp, IsMistake, IsShown, IsSpelled, IsVersion, ShownAs, count_in, from_in, line_fault, number_at, number_in, order_at, order_named, path_in, put_order, read_order, user_at, user_in};
+ghost use Rattle.fs_command_line.specs.Orders.{Answers, FindsHelp, FindsVersion, HasMistake, HasRightValues, IsHelp, IsMistake, IsShown, IsSpelled, IsVersion, ShownAs, line_fault, number_at, number_in, order_at, order_named, path_in, put_order, read_order_in, user_at, user_in};
 ghost use Rattle.fs_command_line.specs.declared.order.FsOrder.{FsOrder as AnOrder};
 
 use crate::commands::hkfs;
@@ -99,8 +99,9 @@ fn put_order(alloc: Global, values: &ArgMatches) -> Result<FsOrder, OrderFault>
 /// Returns the order to read a range with these values.
 fn read_order_in(alloc: Global, values: &ArgMatches) -> Result<FsOrder, OrderFault>
     ensures { MatchResult result
-        (λ order. read_order (user_in (rows_of (found_of values.now))) (path_in (rows_of (found_of values.now))) (from_in (rows_of (found_of values.now))) (count_in (rows_of (found_of values.now))) ≡ Some order)
-        (λ fault. fault ≡ OrderFault.Usage → read_order (user_in (rows_of (found_of values.now))) (path_in (rows_of (found_of values.now))) (from_in (rows_of (found_of values.now))) (count_in (rows_of (found_of values.now))) ≡ None) }
+        (λ order. read_order_in (rows_of (found_of values.now)) ≡ Some order)
+        (λ fault. fault ≡ OrderFault.Usage →
+        read_order_in (rows_of (found_of values.now)) ≡ None) }
 {
     let Some(user) = user_in(values) else {
         return Err(OrderFault::Usage);
