@@ -1,3 +1,4 @@
 pub mod Ends
+pub mod Environment
 pub mod Lines
 pub mod Properties
