@@ -2,6 +2,7 @@
 use Rattle.std.specs.Prelude.{◌≡◌, ℕ, ⊤, List, [], ◌∷◌, map, Option, None, Some, Result}
 use Rattle.hk_base.specs.Disk.{DiskState}
 use Rattle.hk_events.specs.declared.event.Event.{Event}
+use Rattle.hk_serve.specs.Exchanges.{Stand}
 use Rattle.hk_serve.specs.Transactions.{Transaction}
 use Rattle.kms_acls.specs.Agreement.{AreListsOf}
 use Rattle.name_calls.specs.declared.calls.NameRefusal.{NameRefusal}
@@ -11,7 +12,25 @@ use Rattle.name_core.specs.declared.walks.Walked.{Walked}
 use Rattle.prop_text.specs.declared.lines.PropLine.{PropLine}
 use Rattle.world_run.specs.Drives.{Course, Drives, Leading, Leads, Passed, Standing, standing_after}
 use Rattle.world_run.specs.Ready.{IsReady as IsReadyUnder}
+use Rattle.world_run.specs.World.{RunningWorld}
+use Rattle.world_desk.specs.declared.desk.WorldDesk.{WorldDesk}
 use Rattle.world_desk.specs.Orders.{AnsweredEvent, IsOrder, IsOrderFrom, submitted}
+
+-- both services over this disk, with these words
+abbrev pub standing : {D W : Type 0} → D → RunningWorld → W → Standing D W
+standing disk world words = record { disk = disk; world = world; words = words }
+
+-- the services that a desk holds
+abbrev pub standing_at : {D W C : Type 0} → WorldDesk D W C → Standing D W
+standing_at desk = standing desk.disk.now desk.world.now desk.words.now
+
+-- a desk still holds what the other held
+abbrev pub HoldsSame : {D W C : Type 0} → WorldDesk D W C → WorldDesk D W C → Type 0
+HoldsSame old new = (new.world.ghost_name ≡ old.world.ghost_name) × ((new.disk.ghost_name ≡ old.disk.ghost_name) × ((new.words.ghost_name ≡ old.words.ghost_name) × (new.clock.ghost_name ≡ old.clock.ghost_name)))
+
+-- a connection to both services: what is ahead of it, the services, and what was written
+abbrev pub connection : {D W : Type 0} → Option (List ℕ) → Standing D W → Option (List ℕ) → Stand (Standing D W)
+connection ahead desk written = record { ahead = ahead; desk = desk; written = written }
 
 -- The services are ready for orders: their lists are those of some lines, and if the disk is known, both files are their
 -- logs, with some acknowledged records.

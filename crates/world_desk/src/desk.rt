@@ -4,7 +4,7 @@ ghost use Rattle.hk_base.specs.Faults.{Rose};
 ghost use Rattle.kms_calls.specs.declared.calls.KmsReply.{KmsReply};
 ghost use Rattle.http_wire.specs.Reading.{ahead};
 ghost use Rattle.hk_serve.specs.Served.{Served};
-ghost use Rattle.world_desk.specs.Worlds.{Happens, IsReady};
+ghost use Rattle.world_desk.specs.Worlds.{Happens, HoldsSame, IsReady, connection, standing, standing_at};
 
 use crate::orders::{answer, answer_order};
 use hk_base::{Clock, Disk, Ended, Sink, Source, Text, Words};
@@ -68,10 +68,10 @@ impl<'a, D, W, C> WorldDesk<'a, D, W, C> {
 
 impl<'a, D: Disk, W: Words, C: Clock> Desk for WorldDesk<'a, D, W, C> {
     ghost ready = { λ d.
-        IsReady D.state (record { disk = d.disk.now; world = d.world.now; words = d.words.now }) };
+        IsReady D.state (standing_at d) };
 
-    ghost answers = { λ old user done new. ((new.world.ghost_name ≡ old.world.ghost_name) × ((new.disk.ghost_name ≡ old.disk.ghost_name) × ((new.words.ghost_name ≡ old.words.ghost_name) × (new.clock.ghost_name ≡ old.clock.ghost_name))))
-        × Happens D.state W.to_come (record { disk = old.disk.now; world = old.world.now; words = old.words.now }) user done (record { disk = new.disk.now; world = new.world.now; words = new.words.now }) };
+    ghost answers = { λ old user done new. HoldsSame old new ×
+        Happens D.state W.to_come (standing_at old) user done (standing_at new) };
 
     fn kms(&mut self, user: Text, call: KmsCall) -> KmsReply {
         let now = self.clock.now_ms();
@@ -94,21 +94,13 @@ fn serve_desk<'a, S: Source, K: Sink, D: Disk, W: Words, C: Clock>(
     sink: &mut K,
     desk: &mut WorldDesk<'a, D, W, C>,
 ) -> Ended
-    requires { IsReady D.state
-        (record {
-          disk = desk.old.disk.now;
-          world = desk.old.world.now;
-          words = desk.old.words.now;
-        }) }
-    ensures served { (unused : List ℕ) × Served (Happens D.state W.to_come)
-        (record { ahead = S.left source.old; desk = record { disk = desk.old.disk.now; world = desk.old.world.now; words = desk.old.words.now }; written = K.written sink.old })
-        (record { ahead = ahead unused (S.left source.new); desk = record { disk = desk.new.disk.now; world = desk.new.world.now; words = desk.new.words.now }; written = K.written sink.new }) result }
-    ensures ready { IsReady D.state
-        (record {
-          disk = desk.new.disk.now;
-          world = desk.new.world.now;
-          words = desk.new.words.now;
-        }) }
+    requires { IsReady D.state (standing_at desk.old) }
+    ensures served { (unused : List ℕ) ×
+        Served (Happens D.state W.to_come)
+        (connection (S.left source.old) (standing_at desk.old) (K.written sink.old))
+        (connection (ahead unused (S.left source.new)) (standing_at desk.new)
+        (K.written sink.new)) result }
+    ensures ready { IsReady D.state (standing_at desk.new) }
     ensures world { desk.new.world.ghost_name ≡ desk.old.world.ghost_name }
     ensures disk { desk.new.disk.ghost_name ≡ desk.old.disk.ghost_name }
     ensures words { desk.new.words.ghost_name ≡ desk.old.words.ghost_name }
@@ -141,13 +133,15 @@ pub fn serve_world<S: Source, K: Sink, D: Disk, W: Words, C: Clock>(
     words: &mut W,
     clock: &mut C,
 ) -> Ended
-    requires { IsReady D.state (record { disk = disk.old; world = world.old; words = words.old }) }
+    requires { IsReady D.state (standing disk.old world.old words.old) }
     // Bytes that were read past the last request are unused.
-    ensures served { (unused : List ℕ) × Served (Happens D.state W.to_come)
-        (record { ahead = S.left source.old; desk = record { disk = disk.old; world = world.old; words = words.old }; written = K.written sink.old })
-        (record { ahead = ahead unused (S.left source.new); desk = record { disk = disk.new; world = world.new; words = words.new }; written = K.written sink.new }) result }
-    ensures ready { IsReady D.state
-        (record { disk = disk.new; world = world.new; words = words.new }) }
+    ensures served { (unused : List ℕ) ×
+        Served (Happens D.state W.to_come)
+        (connection (S.left source.old) (standing disk.old world.old words.old)
+        (K.written sink.old))
+        (connection (ahead unused (S.left source.new)) (standing disk.new world.new words.new)
+        (K.written sink.new)) result }
+    ensures ready { IsReady D.state (standing disk.new world.new words.new) }
 
     ensures read_later { S.faults source.old ≤ S.faults source.new }
     ensures read_fault { result ≡ Ended.ReadFault →
