@@ -1,7 +1,11 @@
 -- What a run keeps of zone files, of completed re-encryptions and of verdicts, after every event and every crash.
 use Rattle.std.specs.Prelude.{◌≡◌, ◌⊎◌, ℕ, ⊤, Bool, List, ◌∷◌, ◌++◌, Option, None, Some}
 use Rattle.std.specs.Option.{option_map}
-use Rattle.hk_base.specs.Disk.{DiskState, Image}
+use Rattle.hk_base.specs.declared.disk.Disk as disks
+use Rattle.hk_base.specs.declared.outside.Source as sources
+use Rattle.hk_base.specs.declared.outside.Sink as sinks
+use Rattle.hk_base.specs.declared.outside.Words as random
+use Rattle.hk_base.specs.Disk.{DiskState, Image, Tells}
 use Rattle.hk_base.specs.declared.ended.Ended.{Ended}
 use Rattle.hk_events.specs.declared.event.Event.{Event}
 use Rattle.hk_events.specs.declared.event.Event.TheVariants as event
@@ -24,6 +28,7 @@ use Rattle.world_run.specs.Ledger.{Past, drawn_before, past_of}
 use Rattle.world_run.specs.Linked.{DrawsApart, StartsSound, WordsApart}
 use Rattle.world_run.specs.Verdicts.{IsJudged}
 use Rattle.world_run.specs.World.{WorldState, first_world, numbered}
+use Rattle.command_io.specs.Environment.{Environment}
 use Rattle.command_io.specs.declared.ends.ReplayEnd.{ReplayEnd}
 use Rattle.hk_runs.specs.Pipe.{Converses, connection_status}
 use Rattle.hk_runs.specs.PlayedLines.{events_of_lines}
@@ -81,6 +86,10 @@ pub record Headline (past : Past) (lines : List PropLine) (old new : DiskState) 
   -- and if no two draws of earlier runs have a random word in common, no two draws have one
   pub apart : WordsApart (drawn_before past) → (part : History) → IsPart part history → DrawsApart (hidden_in (drawn_before past) first words part)
 
+-- if the disk tells its content, and with whatever may be known of earlier runs, for a run may start from its files then
+abbrev pub FromSoundFiles : DiskState → (Past → ℕ → Type 0) → ℕ → Type 0
+FromSoundFiles old Keeps status = Tells old → (past : Past) → StartsSound old past → Keeps past status
+
 -- No event happened: `same` says that nothing was read of the input, and no word was drawn. The files keep the promise with what was
 -- known before.
 pub record NothingHappened (same : Type 0) (past : Past) (old new : DiskState) : Type 0 where
@@ -116,3 +125,17 @@ pub record ConnectionKept (past : Past) (old new : DiskState) (acls acls' : Opti
 abbrev pub ConnectionKeepsFiles : Type 0 → Past → DiskState → DiskState → Option (List ℕ) → Option (List ℕ) → (ℕ → ℕ) → (ℕ → ℕ) → Option (List ℕ) → Option (List ℕ) → Option (List ℕ) → Option (List ℕ) → ℕ → Type 0
 ConnectionKeepsFiles same past old new acls acls' words words' left left' written now status =
     NothingHappened same past old new ⊎ ConnectionKept past old new acls acls' words words' left left' written now status
+
+module _ {D A S K W : Type 0} (of_disk : disks.Ghosts D) (of_acls : sources.Ghosts A) (of_input : sources.Ghosts S) (of_out : sinks.Ghosts K) (of_rand : random.Ghosts W) (old new : Environment D A S K W) where
+  -- what a replay keeps, over what it works on
+  abbrev pub ReplayKeeps : Past → ℕ → Type 0
+  ReplayKeeps past status =
+      KeepsFiles ((new.input ≡ old.input) × (new.rand ≡ old.rand)) past (of_disk.state old.disk) (of_disk.state new.disk) (of_acls.left old.acls) (of_acls.left new.acls)
+      (of_rand.to_come old.rand) (of_rand.to_come new.rand) (of_input.left old.input) (of_out.written old.out) (of_out.written new.out) status
+
+  -- what a connection keeps, over what it works on; `same_clock` says that the clock is unchanged
+  abbrev pub PipeKeeps : Type 0 → Past → ℕ → Type 0
+  PipeKeeps same_clock past status =
+      ConnectionKeepsFiles ((new.input ≡ old.input) × (new.rand ≡ old.rand) × same_clock) past (of_disk.state old.disk) (of_disk.state new.disk)
+      (of_acls.left old.acls) (of_acls.left new.acls) (of_rand.to_come old.rand) (of_rand.to_come new.rand) (of_input.left old.input) (of_input.left new.input)
+      (of_out.written old.out) (of_out.written new.out) status

@@ -1,6 +1,10 @@
 -- A connection to both services.
 use Rattle.std.specs.Prelude.{◌≡◌, ◌⊎◌, ◌≤◌, ℕ, List, [], ◌++◌, map, Option}
 use Rattle.std.specs.List.{AllByRecursion}
+use Rattle.hk_base.specs.declared.disk.Disk as disks
+use Rattle.hk_base.specs.declared.outside.Source as sources
+use Rattle.hk_base.specs.declared.outside.Sink as sinks
+use Rattle.hk_base.specs.declared.outside.Words as random
 use Rattle.hk_base.specs.Disk.{DiskState, Tells}
 use Rattle.frame_log.specs.declared.fault.StartFault.{StartFault}
 use Rattle.key_rows.specs.Table.{Table}
@@ -17,6 +21,7 @@ use Rattle.hk_base.specs.declared.ended.Ended.TheVariants.{End, Closed, TooLong,
 use Rattle.hk_serve.specs.Served.{Served}
 use Rattle.hk_serve.specs.Transactions.{Transaction}
 use Rattle.world_desk.specs.Orders.{AnsweredEvent, AreEventsOf}
+use Rattle.command_io.specs.Environment.{Environment}
 use Rattle.command_io.specs.declared.props.PropsFault.{PropsFault}
 use Rattle.command_io.specs.Properties.{HasPropsFault, ReadsProperties}
 use Rattle.hk_runs.specs.Logs.{HiddenBefore, NoRestart, OnDisk, ReadsAs, opened_logs}
@@ -103,3 +108,11 @@ pub record PipesUnder (same : Type 0) (old new : DiskState) (acls acls' : Option
 abbrev pub Pipe : Type 0 → Type 0 → DiskState → DiskState → Option (List ℕ) → Option (List ℕ) → (ℕ → ℕ) → (ℕ → ℕ) → Option (List ℕ) → Option (List ℕ) → Option (List ℕ) → Option (List ℕ) → ℕ → Type 0
 Pipe same_disk same old new acls acls' words words' left left' written now status =
     RefusesProperties (same_disk × same) acls status ⊎ PipesUnder same old new acls acls' words words' left left' written now status
+
+module _ {D A S K W : Type 0} (of_disk : disks.Ghosts D) (of_acls : sources.Ghosts A) (of_input : sources.Ghosts S) (of_out : sinks.Ghosts K) (of_rand : random.Ghosts W) (old new : Environment D A S K W) where
+  -- the same over what a command works on; `same_clock` says that the clock is unchanged
+  abbrev pub Pipes : Type 0 → ℕ → Type 0
+  Pipes same_clock status =
+      Pipe (new.disk ≡ old.disk) ((new.input ≡ old.input) × (new.out ≡ old.out) × (new.rand ≡ old.rand) × same_clock) (of_disk.state old.disk) (of_disk.state new.disk)
+      (of_acls.left old.acls) (of_acls.left new.acls) (of_rand.to_come old.rand) (of_rand.to_come new.rand) (of_input.left old.input) (of_input.left new.input)
+      (of_out.written old.out) (of_out.written new.out) status

@@ -1,6 +1,10 @@
 -- How a replay ends.
 use Rattle.std.specs.Prelude.{◌≡◌, ◌⊎◌, ℕ, ◌<◌, ◌≤◌, ◌^◌, Bool, List, [], ◌∷◌, ◌++◌, length, count_by, take, Option, Some}
 use Rattle.std.specs.Io.KnownBytes.{Appends}
+use Rattle.hk_base.specs.declared.disk.Disk as disks
+use Rattle.hk_base.specs.declared.outside.Source as sources
+use Rattle.hk_base.specs.declared.outside.Sink as sinks
+use Rattle.hk_base.specs.declared.outside.Words as random
 use Rattle.hk_base.specs.Disk.{DiskState, Tells}
 use Rattle.frame_log.specs.declared.fault.StartFault.{StartFault}
 use Rattle.key_rows.specs.Table.{Table}
@@ -16,6 +20,7 @@ use Rattle.world_run.specs.Ledger.{Hidden}
 use Rattle.world_run.specs.Linked.{WordsApart}
 use Rattle.world_run.specs.Starts.{FailsAt, OpensBoth}
 use Rattle.world_run.specs.World.{WorldState, first_world}
+use Rattle.command_io.specs.Environment.{Environment}
 use Rattle.command_io.specs.declared.ends.ReplayEnd.{ReplayEnd}
 use Rattle.command_io.specs.declared.ends.ReplayEnd.TheVariants.{Done, AclRefused, AclRepeated, AclUnknown, AclTooLong, BadLine, DamagedKeys, DamagedNames, StoreFault, NoMemory, WriteFault, Spent}
 use Rattle.command_io.specs.declared.props.PropsFault.{PropsFault}
@@ -207,3 +212,10 @@ pub record HasRead (same : Type 0) (old new : DiskState) (acls acls' : Option (L
 abbrev pub Replay : Type 0 → Type 0 → DiskState → DiskState → Option (List ℕ) → Option (List ℕ) → (ℕ → ℕ) → (ℕ → ℕ) → Option (List ℕ) → Option (List ℕ) → Option (List ℕ) → ReplayEnd → Type 0
 Replay same_disk same old new acls acls' words words' left written now how =
     BadProperties (same_disk × same) acls written now how ⊎ HasRead same old new acls acls' words words' left written now how
+
+module _ {D A S K W : Type 0} (of_disk : disks.Ghosts D) (of_acls : sources.Ghosts A) (of_input : sources.Ghosts S) (of_out : sinks.Ghosts K) (of_rand : random.Ghosts W) (old new : Environment D A S K W) where
+  -- the same over what a command works on
+  abbrev pub Replays : ReplayEnd → Type 0
+  Replays how =
+      Replay (new.disk ≡ old.disk) ((new.input ≡ old.input) × (new.rand ≡ old.rand)) (of_disk.state old.disk) (of_disk.state new.disk) (of_acls.left old.acls) (of_acls.left new.acls)
+      (of_rand.to_come old.rand) (of_rand.to_come new.rand) (of_input.left old.input) (of_out.written old.out) (of_out.written new.out) how

@@ -3,7 +3,7 @@ use Rattle.std.specs.Prelude.{◌≡◌, ◌⊎◌, ◌≤◌, ◌≢◌, ℕ, �
 use Rattle.std.specs.Io.KnownBytes.{Appends, Consumes, IsAtEnd}
 use Rattle.hk_base.specs.Disk.{DiskState, Image, IsImage, Tells}
 use Rattle.hk_base.specs.Faults.{Rose}
-use Rattle.hk_base.specs.Reading.{IsMore}
+use Rattle.hk_base.specs.Reading.{IsMore, ahead}
 use Rattle.hk_base.specs.Writing.{WroteFront}
 use Rattle.kms_acls.specs.Agreement.{AreListsOf}
 use Rattle.prop_text.specs.declared.lines.PropLine.{PropLine}
@@ -21,6 +21,8 @@ use Rattle.command_io.specs.declared.lines.LineEnd.{LineEnd}
 use Rattle.command_io.specs.declared.lines.LineEnd.TheVariants as line_end
 use Rattle.command_io.specs.declared.ends.ReplayEnd.{ReplayEnd}
 use Rattle.command_io.specs.declared.ends.ReplayEnd.TheVariants as ended
+use Rattle.hk_runs.specs.declared.replay.ReplayRun.{ReplayRun}
+use Rattle.hk_runs.specs.declared.stage.Session.{Session}
 use Rattle.hk_runs.specs.declared.stage.LineOutcome.{LineOutcome}
 use Rattle.hk_runs.specs.declared.stage.LineOutcome.TheVariants.{Played, BadLine, Unread, Unanswered, Unwritten, Unopened}
 use Rattle.command_io.specs.Lines.{is_line, line_used}
@@ -44,6 +46,9 @@ pub record View : Type 0 where
   pub words : ℕ → ℕ
   pub events : ℕ
   pub written : Option (List ℕ)
+
+abbrev pub view_of : Session → (ℕ → ℕ) → Option (List ℕ) → View
+view_of session words written = record { world = session.world; words = words; events = session.events; written = written }
 
 -- under properties of these lines the event that a line spells happened, at the moment of its number, and was answered so
 pub record PlaysEvent (lines : List PropLine) (old new : DiskState) (v : View) (line : List ℕ) (v' : View) : Type 0 where
@@ -110,12 +115,20 @@ pub record Stand : Type 0 where
   pub used : ℕ
   pub count : ℕ
 
+abbrev pub stand_of : ReplayRun → (ℕ → ℕ) → Option (List ℕ) → Option (List ℕ) → Stand
+stand_of run words left written = record { view = view_of run.stage words written; ahead = ahead run.reader left; used = run.reader.used; count = run.count }
+
 -- a line was read and played
 pub record LinePlayed (lines : List PropLine) (old new : DiskState) (v : View) (line : List ℕ) (last : Bool) (result : Option ReplayEnd) (v' : View) (count count' : ℕ) : Type 0 where
   pub play : LineOutcome
   pub plays : PlaysSo lines old new v line play v'
   pub result_is : result ≡ end_of_play last play
   pub counted : count' ≡ count + counts play
+
+-- a run played the line that it had read
+abbrev pub PlaysItsLine : List PropLine → DiskState → DiskState → ReplayRun → (ℕ → ℕ) → Option (List ℕ) → Bool → Option ReplayEnd → ReplayRun → (ℕ → ℕ) → Option (List ℕ) → Type 0
+PlaysItsLine lines old new run words written last result run' words' now =
+    LinePlayed lines old new (view_of run.stage words written) run.line last result (view_of run'.stage words' now) run.count run'.count
 
 -- what was read
 pub record Read (before : Stand) (how : LineEnd) (line : List ℕ) (after : Stand) : Type 0 where

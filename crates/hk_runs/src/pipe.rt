@@ -1,16 +1,14 @@
 //! Serves an HTTP connection over the input and the output.
 ghost use Rattle.std.specs.Prelude.{◌≡◌, ◌⊎◌, ℕ, List};
-ghost use Rattle.hk_base.specs.Disk.{Tells};
 ghost use Rattle.hk_base.specs.Faults.{Rose};
 ghost use Rattle.http_wire.specs.Reading.{ahead};
-ghost use Rattle.world_run.specs.Ledger.{Past};
-ghost use Rattle.world_run.specs.Linked.{StartsSound};
+ghost use Rattle.command_io.specs.Environment.{environment};
 ghost use Rattle.world_run.specs.World.{RunningWorld};
 ghost use Rattle.hk_base.specs.declared.ended.Ended.{Ended};
 ghost use Rattle.hk_serve.specs.Served.{Served};
-ghost use Rattle.world_desk.specs.Worlds.{Happens, IsReady};
-ghost use Rattle.hk_runs.specs.Headline.{ConnectionKeepsFiles};
-ghost use Rattle.hk_runs.specs.Pipe.{Pipe, PipeUnder, connection_status};
+ghost use Rattle.world_desk.specs.Worlds.{Happens, IsReady, connection, standing};
+ghost use Rattle.hk_runs.specs.Headline.{FromSoundFiles, PipeKeeps};
+ghost use Rattle.hk_runs.specs.Pipe.{PipeUnder, Pipes, connection_status};
 
 use command_io::{ended_by, ended_by_props, read_properties, status_of};
 use hk_base::{Clock, Disk, Ended, Sink, Source, Words};
@@ -69,10 +67,12 @@ fn serve_in<S: Source, K: Sink, D: Disk, W: Words, C: Clock>(
     rand: &mut W,
     clock: &mut C,
 ) -> Ended
-    requires { IsReady D.state (record { disk = disk.old; world = world; words = rand.old }) }
-    ensures served { (unused : List ℕ) × (then : RunningWorld) × Served (Happens D.state W.to_come)
-        (record { ahead = S.left input.old; desk = record { disk = disk.old; world = world; words = rand.old }; written = K.written out.old })
-        (record { ahead = ahead unused (S.left input.new); desk = record { disk = disk.new; world = then; words = rand.new }; written = K.written out.new }) result }
+    requires { IsReady D.state (standing disk.old world rand.old) }
+    ensures served { (unused : List ℕ) × (then : RunningWorld) ×
+        Served (Happens D.state W.to_come)
+        (connection (S.left input.old) (standing disk.old world rand.old) (K.written out.old))
+        (connection (ahead unused (S.left input.new)) (standing disk.new then rand.new)
+        (K.written out.new)) result }
     ensures read_fault { result ≡ Ended.ReadFault → Rose (S.faults input.old) (S.faults input.new) }
     ensures write_fault { result ≡ Ended.WriteFault → Rose (K.faults out.old) (K.faults out.new) }
 {
@@ -109,9 +109,14 @@ pub fn run_pipe<A: Source, S: Source, K: Sink, D: Disk, W: Words, C: Clock>(
     rand: &mut W,
     clock: &mut C,
 ) -> u8
-    ensures pipe { Pipe (disk.new ≡ disk.old) ((input.new ≡ input.old) × (out.new ≡ out.old) × (rand.new ≡ rand.old) × (clock.new ≡ clock.old)) (D.state disk.old) (D.state disk.new) (A.left acls.old) (A.left acls.new) (W.to_come rand.old) (W.to_come rand.new) (S.left input.old) (S.left input.new) (K.written out.old) (K.written out.new) result }
-    ensures headline { Tells (D.state disk.old) → (past : Past) → StartsSound (D.state disk.old) past →
-        ConnectionKeepsFiles ((input.new ≡ input.old) × (rand.new ≡ rand.old) × (clock.new ≡ clock.old)) past (D.state disk.old) (D.state disk.new) (A.left acls.old) (A.left acls.new) (W.to_come rand.old) (W.to_come rand.new) (S.left input.old) (S.left input.new) (K.written out.old) (K.written out.new) result }
+    ensures pipe { Pipes D.Disk A.Source S.Source K.Sink W.Words
+        (environment disk.old acls.old input.old out.old rand.old)
+        (environment disk.new acls.new input.new out.new rand.new) (clock.new ≡ clock.old) result }
+    ensures headline { FromSoundFiles (D.state disk.old)
+        (PipeKeeps D.Disk A.Source S.Source K.Sink W.Words
+        (environment disk.old acls.old input.old out.old rand.old)
+        (environment disk.new acls.new input.new out.new rand.new) (clock.new ≡ clock.old))
+        result }
     ensures read { result ≡ 7 →
         Rose (S.faults input.old) (S.faults input.new) ⊎
         Rose (A.faults acls.old) (A.faults acls.new) }

@@ -3,15 +3,13 @@ ghost use Rattle.std.specs.Prelude.{◌≡◌, ◌⊎◌, ◌≤◌, ◌<◌, �
 ghost use Rattle.std.specs.Io.KnownBytes.{IsAtEnd};
 ghost use Rattle.hk_base.specs.Disk.{Tells};
 ghost use Rattle.hk_base.specs.Faults.{Rose};
-ghost use Rattle.hk_base.specs.Reading.{ahead};
 ghost use Rattle.prop_text.specs.declared.lines.PropLine.{PropLine};
 ghost use Rattle.world_run.specs.Acknowledged.{Acknowledged, HoldsLogs};
-ghost use Rattle.world_run.specs.Ledger.{Past};
-ghost use Rattle.world_run.specs.Linked.{StartsSound};
-ghost use Rattle.hk_runs.specs.Headline.{KeepsFiles};
+ghost use Rattle.hk_runs.specs.Headline.{FromSoundFiles, ReplayKeeps};
 ghost use Rattle.command_io.specs.Ends.{ended_by, ended_by_props, status_of};
-ghost use Rattle.hk_runs.specs.Replay.{Replay, ReplayUnder};
-ghost use Rattle.hk_runs.specs.Steps.{Caused, HasLists, LinePlayed, Next, Ran, RanToEnd};
+ghost use Rattle.command_io.specs.Environment.{environment};
+ghost use Rattle.hk_runs.specs.Replay.{ReplayUnder, Replays};
+ghost use Rattle.hk_runs.specs.Steps.{Caused, HasLists, Next, PlaysItsLine, Ran, RanToEnd, stand_of};
 ghost use Rattle.command_io.specs.declared.ends.ReplayEnd.{ReplayEnd};
 
 use crate::stage::{LineOutcome, Session};
@@ -107,7 +105,10 @@ impl ReplayRun {
         requires lists { (lines : List PropLine) × HasLists self.old.stage.world lines }
         requires stands { Tells (D.state disk.old) →
             ((done : Acknowledged) × HoldsLogs (D.state disk.old) self.old.stage.world done) }
-        ensures next { (lines : List PropLine) → HasLists self.old.stage.world lines → Next lines (D.state disk.old) (D.state disk.new) (record { view = record { world = self.old.stage.world; words = W.to_come words.old; events = self.old.stage.events; written = K.written out.old }; ahead = ahead self.old.reader (S.left input.old); used = self.old.reader.used; count = self.old.count }) result (record { view = record { world = self.new.stage.world; words = W.to_come words.new; events = self.new.stage.events; written = K.written out.new }; ahead = ahead self.new.reader (S.left input.new); used = self.new.reader.used; count = self.new.count }) }
+        ensures next { (lines : List PropLine) → HasLists self.old.stage.world lines →
+            Next lines (D.state disk.old) (D.state disk.new)
+            (stand_of self.old (W.to_come words.old) (S.left input.old) (K.written out.old)) result
+            (stand_of self.new (W.to_come words.new) (S.left input.new) (K.written out.new)) }
         ensures few { self.new.stage.events ≤ self.new.count }
         ensures small { self.new.reader.used ≤ 2 ^ 40 }
         ensures caused { Caused (S.faults input.old) (S.faults input.new) (K.faults out.old)
@@ -136,7 +137,10 @@ impl ReplayRun {
         requires count { self.old.count ≤ 2 ^ 40 }
         requires stands { Tells (D.state disk.old) →
             ((done : Acknowledged) × HoldsLogs (D.state disk.old) self.old.stage.world done) }
-        ensures played { (lines : List PropLine) → HasLists self.old.stage.world lines → LinePlayed lines (D.state disk.old) (D.state disk.new) (record { world = self.old.stage.world; words = W.to_come words.old; events = self.old.stage.events; written = K.written out.old }) self.old.line last result (record { world = self.new.stage.world; words = W.to_come words.new; events = self.new.stage.events; written = K.written out.new }) self.old.count self.new.count }
+        ensures played { (lines : List PropLine) → HasLists self.old.stage.world lines →
+            PlaysItsLine lines (D.state disk.old) (D.state disk.new) self.old
+            (W.to_come words.old) (K.written out.old) last result self.new (W.to_come words.new)
+            (K.written out.new) }
         ensures same { (self.new.reader ≡ self.old.reader) × (self.new.line ≡ self.old.line) }
         ensures few { self.new.stage.events ≤ self.new.count }
         ensures later { K.faults out.old ≤ K.faults out.new }
@@ -238,9 +242,15 @@ pub fn run_replay<A: Source, S: Source, D: Disk, K: Sink, W: Words>(
     disk: &mut D,
     rand: &mut W,
 ) -> u8
-    ensures replay { (how : ReplayEnd) × (result ≡ status_of how) × Replay (disk.new ≡ disk.old) ((input.new ≡ input.old) × (rand.new ≡ rand.old)) (D.state disk.old) (D.state disk.new) (A.left acls.old) (A.left acls.new) (W.to_come rand.old) (W.to_come rand.new) (S.left input.old) (K.written out.old) (K.written out.new) how }
-    ensures headline { Tells (D.state disk.old) → (past : Past) → StartsSound (D.state disk.old) past →
-        KeepsFiles ((input.new ≡ input.old) × (rand.new ≡ rand.old)) past (D.state disk.old) (D.state disk.new) (A.left acls.old) (A.left acls.new) (W.to_come rand.old) (W.to_come rand.new) (S.left input.old) (K.written out.old) (K.written out.new) result }
+    ensures replay { (how : ReplayEnd) × (result ≡ status_of how) ×
+        Replays D.Disk A.Source S.Source K.Sink W.Words
+        (environment disk.old acls.old input.old out.old rand.old)
+        (environment disk.new acls.new input.new out.new rand.new) how }
+    ensures headline { FromSoundFiles (D.state disk.old)
+        (ReplayKeeps D.Disk A.Source S.Source K.Sink W.Words
+        (environment disk.old acls.old input.old out.old rand.old)
+        (environment disk.new acls.new input.new out.new rand.new))
+        result }
     ensures end { result ≡ 0 → IsAtEnd (S.left input.new) }
     ensures read { result ≡ 7 →
         Rose (S.faults input.old) (S.faults input.new) ⊎

@@ -5,7 +5,7 @@ ghost use Rattle.hk_base.specs.Faults.{Rose};
 ghost use Rattle.prop_text.specs.declared.lines.PropLine.{PropLine};
 ghost use Rattle.replay_text.specs.Events.{Spells};
 ghost use Rattle.world_run.specs.Acknowledged.{Acknowledged, HoldsLogs};
-ghost use Rattle.hk_runs.specs.Steps.{HasLists, PlaysSo, TellsSo, counts};
+ghost use Rattle.hk_runs.specs.Steps.{HasLists, PlaysSo, TellsSo, counts, view_of};
 
 use hk_base::{ByteList, Disk, Sink, Words, write_all};
 use hk_events::{Event, Line};
@@ -63,7 +63,10 @@ impl Session {
         requires few { self.old.events ≤ 2 ^ 40 }
         requires stands { Tells (D.state disk.old) →
             ((done : Acknowledged) × HoldsLogs (D.state disk.old) self.old.world done) }
-        ensures plays { (lines : List PropLine) → HasLists self.old.world lines → PlaysSo lines (D.state disk.old) (D.state disk.new) (record { world = self.old.world; words = W.to_come words.old; events = self.old.events; written = K.written out.old }) line.now result (record { world = self.new.world; words = W.to_come words.new; events = self.new.events; written = K.written out.new }) }
+        ensures plays { (lines : List PropLine) → HasLists self.old.world lines →
+            PlaysSo lines (D.state disk.old) (D.state disk.new)
+            (view_of self.old (W.to_come words.old) (K.written out.old)) line.now result
+            (view_of self.new (W.to_come words.new) (K.written out.new)) }
         ensures few { self.new.events ≤ self.old.events + counts result }
         ensures later { K.faults out.old ≤ K.faults out.new }
         ensures fault { result ≡ LineOutcome.Unwritten →
@@ -88,7 +91,11 @@ impl Session {
         requires few { self.old.events ≤ 2 ^ 40 }
         requires stands { Tells (D.state disk.old) →
             ((done : Acknowledged) × HoldsLogs (D.state disk.old) self.old.world done) }
-        ensures plays { (lines : List PropLine) → HasLists self.old.world lines → (line : List ℕ) → Spells line event → PlaysSo lines (D.state disk.old) (D.state disk.new) (record { world = self.old.world; words = W.to_come words.old; events = self.old.events; written = K.written out.old }) line result (record { world = self.new.world; words = W.to_come words.new; events = self.new.events; written = K.written out.new }) }
+        ensures plays { (lines : List PropLine) → HasLists self.old.world lines →
+            (line : List ℕ) → Spells line event →
+            PlaysSo lines (D.state disk.old) (D.state disk.new)
+            (view_of self.old (W.to_come words.old) (K.written out.old)) line result
+            (view_of self.new (W.to_come words.new) (K.written out.new)) }
         ensures few { self.new.events ≤ self.old.events + counts result }
         ensures later { K.faults out.old ≤ K.faults out.new }
         ensures fault { result ≡ LineOutcome.Unwritten →
