@@ -1,13 +1,8 @@
 //! Both cells.
 ghost use Rattle.std.specs.Prelude.{◌≡◌};
-ghost use Rattle.hist_cell.specs.History.{Closes, Meets};
-ghost use Rattle.kms_cell.specs.Entries.{KmsKnown};
-ghost use Rattle.kms_cell.specs.Steps.{KmsSteps};
-ghost use Rattle.kms_cell.specs.Tickets.{KmsAllows};
-ghost use Rattle.kms_cell.specs.Views.{KmsView, RunsOn};
-ghost use Rattle.name_history.specs.Asked.{NameAllows};
-ghost use Rattle.name_history.specs.Steps.{NameSteps};
-ghost use Rattle.name_history.specs.Views.{NameView, NamesRunOn};
+ghost use Rattle.kms_cell.specs.Views.{RunsOn};
+ghost use Rattle.name_history.specs.Views.{NamesRunOn};
+ghost use Rattle.hk_shared.specs.Closes.{ClosesBoth};
 
 use hist_cell::Naming;
 use hk_base::{Clock, Disk, Words};
@@ -71,9 +66,7 @@ impl<D: Disk + Drop, W: Words + Drop, C: Clock + Drop, M: Naming, N: Naming> Sha
         mut keys: KmsPass<D, W, C, M>,
         names: NamePass<KmsCell<D, W, C, M>, N>,
     ) -> Closed<D>
-        ensures closes { (last_n : NameView D W) × (met : KmsKnown D W) × (last_k : KmsView D W)
-            × Closes (NameSteps D.state W.to_come) NameAllows names last_n × Meets keys last_n.keys met × Closes (KmsSteps D.state W.to_come) KmsAllows met last_k
-            × (result.kms ≡ last_k.kms) × (result.keys_disk ≡ last_k.disk) × (result.names ≡ last_n.names) × (result.names_disk ≡ last_n.disk) }
+        ensures closes { ClosesBoth D.state W.to_come keys names result }
         ensures keys_run { RunsOn (D.state result.keys_disk) result.kms }
         ensures names_run { NamesRunOn (D.state result.names_disk) result.names }
     {
