@@ -3,10 +3,7 @@ ghost use Rattle.std.specs.Prelude.{◌≡◌, ◌≤◌, ℕ, List};
 ghost use Rattle.hk_base.specs.Faults.{Rose};
 ghost use Rattle.http_wire.specs.Reading.{ahead};
 ghost use Rattle.hk_serve.specs.Served.{Served};
-ghost use Rattle.kms_cell.specs.Entries.{KmsEntry};
-ghost use Rattle.name_history.specs.Entries.{NameEntry};
-ghost use Rattle.cell_desk.specs.Connections.{MakesOrder, ServedByCells};
-ghost use Rattle.turns.specs.Entries.{KeysMake, NamesMake};
+ghost use Rattle.cell_desk.specs.Connections.{MakesOrder, ServedByEntries, connection};
 
 use crate::desk::CellDesk;
 use hk_base::{Ended, Gate, Sink, Source};
@@ -34,12 +31,17 @@ pub fn serve_cells<I: Source, O: Sink, S: Turns, R: Wait, G: Gate, H: Notices>(
     notices: &H,
 ) -> (Ended, S::Keys, S::Names)
     // Bytes that were read past the last request are unused.
-    ensures served { (unused : List ℕ) × Served (MakesOrder S.state S.to_come)
-        (record { ahead = I.left source.old; desk = record { keys = S.keys_seen keys; names = S.names_seen names }; written = O.written sink.old })
-        (record { ahead = ahead unused (I.left source.new); desk = record { keys = S.keys_seen result.1; names = S.names_seen result.2 }; written = O.written sink.new }) result.0 }
-    ensures entries { (by_keys : List (KmsEntry S.D S.W)) × (by_names : List (NameEntry S.D S.W))
-        × KeysMake S.state S.to_come (S.keys_seen keys) by_keys (S.keys_seen result.1) × NamesMake S.state S.to_come (S.names_seen names) by_names (S.names_seen result.2)
-        × ServedByCells (I.left source.old) (O.written sink.old) by_keys by_names (I.left source.new) (O.written sink.new) result.0 }
+    ensures served { (unused : List ℕ) ×
+        Served (MakesOrder S.state S.to_come)
+        (connection (I.left source.old) (S.keys_seen keys) (S.names_seen names)
+        (O.written sink.old))
+        (connection (ahead unused (I.left source.new)) (S.keys_seen result.1)
+        (S.names_seen result.2) (O.written sink.new)) result.0 }
+    ensures entries { ServedByEntries S.state S.to_come
+        (connection (I.left source.old) (S.keys_seen keys) (S.names_seen names)
+        (O.written sink.old))
+        (connection (I.left source.new) (S.keys_seen result.1) (S.names_seen result.2)
+        (O.written sink.new)) result.0 }
 
     ensures read_later { I.faults source.old ≤ I.faults source.new }
     ensures read_fault { result.0 ≡ Ended.ReadFault →
