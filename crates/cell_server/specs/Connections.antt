@@ -3,6 +3,8 @@ use Rattle.std.specs.Prelude.{◌≡◌, ◌≤◌, ◌+◌, ℕ, List, [], ◌�
 use mathlib.Core.List.{IsPrefix}
 use Rattle.hk_base.specs.Faults.{Rose}
 use Rattle.hk_base.specs.declared.ended.Ended.{Ended}
+use Rattle.hk_base.specs.declared.outside.Sink as sinks
+use Rattle.hk_base.specs.declared.outside.Source as sources
 use Rattle.hk_base.specs.declared.ended.Ended.TheVariants as ended
 use Rattle.hist_cell.specs.declared.views.Known.{Known}
 use Rattle.hist_cell.specs.History.{Distinct, IsIn, own}
@@ -26,6 +28,10 @@ pub record ServesEnds {I O D W : Type 0} (left : I → Option (List ℕ)) (read_
   pub read_fault : how ≡ ended.ReadFault → Rose (read_faults input) (read_faults input')
   pub write_later : write_faults out ≤ write_faults out'
   pub write_fault : how ≡ ended.WriteFault → Rose (write_faults out) (write_faults out')
+
+-- the same at ends of these kinds
+abbrev pub serving_by : {I O D W : Type 0} → sources.Ghosts I → sinks.Ghosts O → Serving I O D W
+serving_by of_in of_out = ServesEnds of_in.left of_in.faults of_out.written of_out.faults
 
 -- what a connection begins with: both ends, and a pass of each cell
 pub record Start (I O D W : Type 0) : Type 0 where

@@ -38,3 +38,8 @@ pub record ServesAll {I O D W : Type 0} (serves : Serving I O D W) (first second
   pub ends_well : end ≡ serve_end.Served → EndsWell door0 door conns made
   pub closed : end ≡ serve_end.Closed → IsTrue door.closed
   pub no_round : end ≡ serve_end.Closed → made ≡ []
+
+-- The same, at whichever port the door listens on.
+abbrev pub ServesOpened : {I O D W : Type 0} → Serving I O D W → (ℕ → ℕ) → (ℕ → ℕ) → (D → DiskState) → (W → ℕ → ℕ) → DoorState I O → KmsKnown D W → NameKnown D W → ℕ → ServeEnd → DoorState I O → KmsKnown D W → NameKnown D W → Type 0
+ServesOpened serves first second state to_come door0 keys0 names0 conns end door keys names =
+    (port : ℕ) → door0.port ≡ Some port → ServesAll serves first second state to_come door0 keys0 names0 port conns end door keys names

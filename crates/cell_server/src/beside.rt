@@ -1,7 +1,7 @@
 //! Serving connections beside the workers.
 ghost use Rattle.std.specs.Prelude.{◌≡◌};
-ghost use Rattle.cell_server.specs.Connections.{Connections, ServesEnds};
-ghost use Rattle.cell_server.specs.Ends.{EndsServing};
+ghost use Rattle.cell_server.specs.Connections.{Connections, serving_by};
+ghost use Rattle.cell_server.specs.Ends.{EndsServing, ServedBeside};
 
 use crate::connections::serve_connections;
 use crate::context::ServeContext;
@@ -45,7 +45,7 @@ where
     A::In: 's,
     A::Out: 's,
     A::Handle: 's,
-    ensures connections { Connections (ServesEnds A.In.left A.In.faults A.Out.written A.Out.faults)
+    ensures connections { Connections (serving_by A.In.Source A.Out.Sink)
         (V.to_come first) (V.to_come second)
         (A.state door.old) (S.keys_seen keys.old) (S.names_seen names.old) (A.state door.new)
         (S.keys_seen keys.new) (S.names_seen names.new) }
@@ -90,7 +90,7 @@ fn serve_in_scope<
     first: V,
     second: V,
 ) -> ServeEnd
-    ensures connections { Connections (ServesEnds A.In.left A.In.faults A.Out.written A.Out.faults)
+    ensures connections { Connections (serving_by A.In.Source A.Out.Sink)
         (V.to_come first) (V.to_come second)
         (A.state door.old) (S.keys_seen keys.old) (S.names_seen names.old) (A.state door.new)
         (S.keys_seen keys.new) (S.names_seen names.new) }
@@ -101,10 +101,9 @@ fn serve_in_scope<
         thread::scope_env(),
         context.rt,
         move |scope| -> (&mut A, &mut K, &mut N, ServeEnd)
-            ensures { (result.0.ghost_name ≡ door.entry.ghost_name) × (result.1.ghost_name ≡ keys.entry.ghost_name) × (result.2.ghost_name ≡ names.entry.ghost_name)
-                × Connections (ServesEnds A.In.left A.In.faults A.Out.written A.Out.faults) (V.to_come first) (V.to_come second)
-                (A.state door.entry.now) (S.keys_seen keys.entry.now) (S.names_seen names.entry.now) (A.state result.0.now) (S.keys_seen result.1.now) (S.names_seen result.2.now)
-                × EndsServing (A.state door.entry.now) (A.faults door.entry.now) conns result.3 (A.state result.0.now) (A.faults result.0.now) }
+            ensures { ServedBeside (serving_by A.In.Source A.Out.Sink) (V.to_come first)
+                (V.to_come second) A.Door S.keys_seen S.names_seen door.entry keys.entry
+                names.entry conns result.0 result.1 result.2 result.3 }
         {
             let end = serve_beside(
                 context, pool, scope, door, keys, names, conns, first, second,
@@ -144,7 +143,7 @@ pub fn serve_with_workers<
     second: V,
     gate: &G,
 ) -> ServeEnd
-    ensures connections { Connections (ServesEnds A.In.left A.In.faults A.Out.written A.Out.faults)
+    ensures connections { Connections (serving_by A.In.Source A.Out.Sink)
         (V.to_come first) (V.to_come second)
         (A.state door.old) (S.keys_seen keys.old) (S.names_seen names.old) (A.state door.new)
         (S.keys_seen keys.new) (S.names_seen names.new) }

@@ -1,6 +1,6 @@
 //! Serving connections, with a door and passes that the caller lends.
 ghost use Rattle.std.specs.Prelude.{◌≡◌, ◌+◌, []};
-ghost use Rattle.cell_server.specs.Connections.{Going, HasOut, ServesEnds};
+ghost use Rattle.cell_server.specs.Connections.{Going, HasOut, serving_by};
 ghost use Rattle.cell_server.specs.Ends.{EndsServing};
 
 use crate::acceptor::{accept_all, drain};
@@ -51,7 +51,7 @@ where
     A::In: 's,
     A::Out: 's,
     A::Handle: 's,
-    ensures going { Going (ServesEnds A.In.left A.In.faults A.Out.written A.Out.faults)
+    ensures going { Going (serving_by A.In.Source A.Out.Sink)
         (A.state door.old) (S.keys_seen keys.old) (S.names_seen names.old) (A.state door.new)
         (S.keys_seen keys.new) (S.names_seen names.new) [] }
     ensures ends { EndsServing (A.state door.old) (A.faults door.old) conns result

@@ -1,8 +1,8 @@
 //! A whole server.
-ghost use Rattle.std.specs.Prelude.{◌≡◌, ℕ, Some};
+ghost use Rattle.std.specs.Prelude.{◌≡◌};
 ghost use Rattle.hk_base.specs.Faults.{Rose};
-ghost use Rattle.cell_server.specs.Connections.{ServesEnds};
-ghost use Rattle.cell_server.specs.Serves.{ServesAll};
+ghost use Rattle.cell_server.specs.Connections.{serving_by};
+ghost use Rattle.cell_server.specs.Serves.{ServesAll, ServesOpened};
 
 use crate::beside::serve_with_workers;
 use crate::ends::ServeEnd;
@@ -37,8 +37,10 @@ fn serve_opened<
     second: V,
     gate: &G,
 ) -> ServeEnd
-    ensures serves { (port : ℕ) → (A.state door.old).port ≡ Some port → ServesAll (ServesEnds A.In.left A.In.faults A.Out.written A.Out.faults) (V.to_come first) (V.to_come second) S.state S.to_come
-        (A.state door.old) (S.keys_seen keys.old) (S.names_seen names.old) port conns result (A.state door.new) (S.keys_seen keys.new) (S.names_seen names.new) }
+    ensures serves { ServesOpened (serving_by A.In.Source A.Out.Sink) (V.to_come first)
+        (V.to_come second) S.state S.to_come (A.state door.old) (S.keys_seen keys.old)
+        (S.names_seen names.old) conns result (A.state door.new) (S.keys_seen keys.new)
+        (S.names_seen names.new) }
     ensures cause { result ≡ ServeEnd.DoorFault → Rose (A.faults door.old) (A.faults door.new) }
 {
     let end = serve_with_workers(
@@ -89,7 +91,7 @@ pub fn serve_all<
     second: V,
     gate: &G,
 ) -> ServeEnd
-    ensures serves { ServesAll (ServesEnds A.In.left A.In.faults A.Out.written A.Out.faults)
+    ensures serves { ServesAll (serving_by A.In.Source A.Out.Sink)
         (V.to_come first) (V.to_come second) S.state S.to_come
         (A.state door.old) (S.keys_seen keys.old) (S.names_seen names.old) port conns result
         (A.state door.new) (S.keys_seen keys.new) (S.names_seen names.new) }
