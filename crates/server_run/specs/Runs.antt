@@ -14,6 +14,7 @@ use Rattle.name_history.specs.Asked.{NameAllows}
 use Rattle.name_history.specs.Entries.{NameKnown}
 use Rattle.name_history.specs.Steps.{NameSteps}
 use Rattle.name_history.specs.Views.{NameView, NamesRunOn}
+use Rattle.hk_shared.specs.Views.{OpeningView}
 use Rattle.server_parts.specs.Doors.{DoorState}
 use Rattle.server_parts.specs.Yards.{Given, YardState}
 use Rattle.cell_server.specs.Connections.{Serving}
@@ -107,3 +108,12 @@ module _ {D W I O : Type 0} (state : D → DiskState) (to_come : W → ℕ → �
   EndsAs props words port conns old new door door' (run_end.NotOpened file fault) = NoneOpened old new file fault × (door' ≡ door)
   EndsAs props words port conns old new door door' run_end.NoMemory =
       ((failed : Bool) × RanServer props words port conns old new door door' serve_end.NoMemory failed) ⊎ (LacksMemory state props old new × (door' ≡ door))
+
+  -- The same from any state of the keys of which the passes have seen nothing yet.
+  abbrev pub RanFromCells : ℕ → ℕ → DoorState I O → DoorState I O → ServeEnd → KmsKnown D W → NameView D W → D → D → Type 0
+  RanFromCells port conns door door' end keys n keys_disk names_disk = (k : KmsView D W) → BeginsWith k keys n → RanTo port conns door door' end k n keys_disk names_disk
+
+  -- The same from both services as they were opened.
+  abbrev pub RanFromOpening : ℕ → ℕ → DoorState I O → DoorState I O → ServeEnd → OpeningView D W → D → D → Type 0
+  RanFromOpening port conns door door' end opening keys_disk names_disk =
+      (n : NameView D W) × (n.names ≡ opening.names) × (n.disk ≡ opening.disk) × RanTo port conns door door' end opening.keys.core n keys_disk names_disk

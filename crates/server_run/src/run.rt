@@ -1,12 +1,10 @@
 //! A run of the server.
 ghost use Rattle.std.specs.Prelude.{◌≡◌, ◌⊎◌, IfErr, IfOk, IsFalse, IsTrue};
 ghost use Rattle.hk_base.specs.Faults.{Rose};
-ghost use Rattle.kms_cell.specs.Views.{KmsView};
-ghost use Rattle.name_history.specs.Views.{NameView};
-ghost use Rattle.cell_server.specs.Connections.{ServesEnds};
+ghost use Rattle.cell_server.specs.Connections.{serving_by};
 ghost use Rattle.server_parts.specs.Yards.{Given, YardState};
 ghost use Rattle.server_run.specs.Opening.{BothOpened};
-ghost use Rattle.server_run.specs.Runs.{BeginsWith, DisksFailed, EndsAs, RanTo, end_of};
+ghost use Rattle.server_run.specs.Runs.{DisksFailed, EndsAs, RanFromCells, RanFromOpening, end_of};
 
 use crate::opening::{KEYS, NAMES, OpenFault, open_services};
 use cell_server::{ServeEnd, serve_all};
@@ -78,9 +76,10 @@ fn serve_named<
     plan: ServerPlan<V>,
 ) -> (Closed<D>, ServeEnd)
     requires name { cells.names.table ≡ N.table }
-    ensures ran { (k : KmsView D W) → BeginsWith k keys cells.names.core
-        → RanTo D.state W.to_come (ServesEnds A.In.left A.In.faults A.Out.written A.Out.faults) (V.to_come plan.first) (V.to_come plan.second) plan.port plan.conns (A.state door.old) (A.state door.new) result.1
-        k cells.names.core result.0.keys_disk result.0.names_disk }
+    ensures ran { RanFromCells D.state W.to_come (serving_by A.In.Source A.Out.Sink)
+        (V.to_come plan.first) (V.to_come plan.second) plan.port plan.conns
+        (A.state door.old) (A.state door.new) result.1 keys cells.names.core
+        result.0.keys_disk result.0.names_disk }
     ensures cause { result.1 ≡ ServeEnd.DoorFault → Rose (A.faults door.old) (A.faults door.new) }
 {
     let (shared, mut names) = cells.named::<N>();
@@ -121,9 +120,12 @@ fn serve_opened<
     plan: ServerPlan<V>,
 ) -> Result<(Closed<D>, ServeEnd), NoMemory>
     requires name { opening.keys.table ≡ M.table }
-    ensures ran { IfOk result (λ served. (n : NameView D W) × (n.names ≡ opening.names) × (n.disk ≡ opening.disk)
-        × RanTo D.state W.to_come (ServesEnds A.In.left A.In.faults A.Out.written A.Out.faults) (V.to_come plan.first) (V.to_come plan.second) plan.port plan.conns (A.state door.old) (A.state door.new) served.1
-        opening.keys.core n served.0.keys_disk served.0.names_disk) }
+    ensures ran { IfOk result
+        (λ served.
+        RanFromOpening D.state W.to_come (serving_by A.In.Source A.Out.Sink)
+        (V.to_come plan.first) (V.to_come plan.second) plan.port plan.conns
+        (A.state door.old) (A.state door.new) served.1 opening served.0.keys_disk
+        served.0.names_disk) }
     ensures cause { IfOk result
         (λ served. served.1 ≡ ServeEnd.DoorFault → Rose (A.faults door.old) (A.faults door.new)) }
     ensures unserved { IfErr result (λ _. door.new ≡ door.old) }
@@ -201,7 +203,7 @@ pub fn run_server<
     requires keys { IsTrue ((Y.state yard.old).lies 0) }
     requires names { IsTrue ((Y.state yard.old).lies 1) }
     ensures ends { EndsAs Y.Own.state W.to_come
-        (ServesEnds A.In.left A.In.faults A.Out.written A.Out.faults) (V.to_come plan.first)
+        (serving_by A.In.Source A.Out.Sink) (V.to_come plan.first)
         (V.to_come plan.second) props.now words plan.port plan.conns
         (Y.state yard.old) (Y.state yard.new) (A.state door.old) (A.state door.new) result }
     ensures closed { result ≡ RunEnd.Closed → IsTrue (A.state door.new).closed }
