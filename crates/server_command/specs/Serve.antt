@@ -1,11 +1,17 @@
 -- The server.
-use Rattle.std.specs.Prelude.{◌≡◌, ◌⊎◌, ◌+◌, ℕ, List, [], ◌∷◌, codes, Option}
+use Rattle.std.specs.Prelude.{◌≡◌, ◌⊎◌, ◌+◌, ◌%◌, ◌^◌, ℕ, List, [], ◌∷◌, codes, Option}
 use Rattle.hk_base.specs.Disk.{DiskState}
+use Rattle.hk_base.specs.declared.disk.Disk as disks
+use Rattle.hk_base.specs.declared.outside.Source as sources
+use Rattle.hk_base.specs.declared.outside.Sink as sinks
+use Rattle.hk_base.specs.declared.outside.Words as random
+use Rattle.server_parts.specs.declared.door.Door as doors
+use Rattle.server_parts.specs.declared.yard.Yard as yards
 use Rattle.prop_text.specs.declared.props.Props.{Props}
-use Rattle.rand_chacha.specs.ChaCha.{ChaCha}
+use Rattle.rand_chacha.specs.ChaCha.{ChaCha, word_at}
 use Rattle.server_parts.specs.Doors.{DoorState}
 use Rattle.server_parts.specs.Yards.{YardState}
-use Rattle.cell_server.specs.Connections.{Serving}
+use Rattle.cell_server.specs.Connections.{ServesEnds, Serving}
 use Rattle.server_run.specs.Runs.{EndsAs}
 use Rattle.server_run.specs.declared.run.RunEnd.{RunEnd}
 use Rattle.server_run.specs.declared.run.RunEnd.TheVariants as run_end
@@ -21,6 +27,10 @@ generator_of words = record { key = words 0 ∷ words 1 ∷ words 2 ∷ words 3 
 -- the words after the first n
 abbrev pub words_after : ℕ → (ℕ → ℕ) → ℕ → ℕ
 words_after n words k = words (k + n)
+
+-- the words that a generator has to come
+abbrev pub generated : ChaCha → ℕ → ℕ
+generated g k = word_at 10 g.key g.stream ((g.word_pos + k) % 2 ^ 68)
 
 -- what is written when the server has ended, and the status
 abbrev pub ReportsRun : RunEnd → Option (List ℕ) → Option (List ℕ) → ℕ → Type 0
@@ -59,3 +69,27 @@ module _ {D I O : Type 0} (state : D → DiskState) (to_come : ChaCha → ℕ �
   abbrev pub Serves : Type 0 → ℕ → ℕ → Option (List ℕ) → Option (List ℕ) → (ℕ → ℕ) → (ℕ → ℕ) → YardState → YardState → DoorState I O → DoorState I O → Option (List ℕ) → Option (List ℕ) → ℕ → Type 0
   Serves same port conns acls acls' words words' yard yard' door door' written now status =
       RefusesToServe same acls written now status ⊎ ServesUnder port conns acls acls' words words' yard yard' door door' written now status
+
+-- what a server works on: the properties, the output, the source of random words, the yard and the door
+pub record ServerEnvironment (A K W Y P : Type 0) : Type 0 where
+  pub acls : A
+  pub out : K
+  pub rand : W
+  pub yard : Y
+  pub door : P
+
+abbrev pub server_environment : {A K W Y P : Type 0} → A → K → W → Y → P → ServerEnvironment A K W Y P
+server_environment acls out rand yard door = record { acls = acls; out = out; rand = rand; yard = yard; door = door }
+
+-- the yard, the door and the random words are as they were
+abbrev pub ServesNone : {A K W Y P : Type 0} → ServerEnvironment A K W Y P → ServerEnvironment A K W Y P → Type 0
+ServesNone old new = (new.yard ≡ old.yard) × (new.door ≡ old.door) × (new.rand ≡ old.rand)
+
+module _ {A K W Y O P I U H : Type 0} (of_acls : sources.Ghosts A) (of_out : sinks.Ghosts K) (of_rand : random.Ghosts W) (of_yard : yards.Ghosts Y O) (of_own : disks.Ghosts O) (of_door : doors.Ghosts P I U H)
+    (of_in : sources.Ghosts I) (of_outs : sinks.Ghosts U) (old new : ServerEnvironment A K W Y P) where
+  -- the same over what a server works on
+  abbrev pub ServesConns : ℕ → ℕ → ℕ → Type 0
+  ServesConns port conns status =
+      Serves of_own.state generated (ServesEnds of_in.left of_in.faults of_outs.written of_outs.faults) (ServesNone old new) port conns (of_acls.left old.acls) (of_acls.left new.acls)
+      (of_rand.to_come old.rand) (of_rand.to_come new.rand) (of_yard.state old.yard) (of_yard.state new.yard) (of_door.state old.door) (of_door.state new.door)
+      (of_out.written old.out) (of_out.written new.out) status

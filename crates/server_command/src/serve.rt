@@ -1,9 +1,8 @@
 //! Serves connections.
 ghost use Rattle.std.specs.Prelude.{◌≡◌, ◌+◌, ℕ, IsTrue};
 ghost use Rattle.hk_base.specs.Faults.{Rose};
-ghost use Rattle.cell_server.specs.Connections.{ServesEnds};
 ghost use Rattle.server_run.specs.declared.run.RunEnd.TheVariants as run_end;
-ghost use Rattle.server_command.specs.Serve.{ReportsRun, Serves, generator_of};
+ghost use Rattle.server_command.specs.Serve.{ReportsRun, ServesConns, generator_of, server_environment};
 
 use command_io::{ReplayEnd, ended_by, ended_by_props, read_properties, report, show};
 use disk_kinds::ChaWords;
@@ -104,9 +103,9 @@ pub fn run_serve<
 ) -> u8
     requires keys { IsTrue ((Y.state yard.old).lies 0) }
     requires names { IsTrue ((Y.state yard.old).lies 1) }
-    ensures serves { Serves Y.Own.state ⟦<ChaWords as Words>⟧.to_come (ServesEnds P.In.left P.In.faults P.Out.written P.Out.faults)
-        ((yard.new ≡ yard.old) × (door.new ≡ door.old) × (rand.new ≡ rand.old)) port conns (A.left acls.old) (A.left acls.new) (W.to_come rand.old) (W.to_come rand.new)
-        (Y.state yard.old) (Y.state yard.new) (P.state door.old) (P.state door.new) (K.written out.old) (K.written out.new) result }
+    ensures serves { ServesConns A.Source K.Sink W.Words Y.Yard Y.Own.Disk P.Door P.In.Source
+        P.Out.Sink (server_environment acls.old out.old rand.old yard.old door.old)
+        (server_environment acls.new out.new rand.new yard.new door.new) port conns result }
     ensures read { result ≡ 7 → Rose (A.faults acls.old) (A.faults acls.new) }
     ensures write { result ≡ 8 → Rose (K.faults out.old) (K.faults out.new) }
     ensures store { result ≡ 5 → Rose (Y.state yard.old).faults (Y.state yard.new).faults }
