@@ -1,26 +1,15 @@
 //! The command line.
 ghost use Rattle.std.specs.Prelude.{◌≡◌, ◌⊎◌, ℕ, IsTrue};
-ghost use Rattle.std.specs.Io.KnownBytes.{IsAtEnd};
-ghost use Rattle.hk_base.specs.Disk.{Tells};
 ghost use Rattle.hk_base.specs.Faults.{Rose};
 ghost use Rattle.command_line.specs.Orders.{FindsHelp, FindsVersion, IsMistake, Names, line_fault};
 ghost use Rattle.command_line.specs.declared.order.Order.TheVariants as order;
-ghost use Rattle.command_io.specs.declared.ends.ReplayEnd.{ReplayEnd};
-ghost use Rattle.world_run.specs.Ledger.{Past};
-ghost use Rattle.world_run.specs.Linked.{SoundFiles, StartsSound};
-ghost use Rattle.hk_runs.specs.Headline.{ConnectionKeepsFiles, KeepsFiles};
-ghost use Rattle.command_io.specs.Ends.{Refuses, ShowsText, WantsMemory, status_of};
-ghost use Rattle.hkms_commands.specs.Orders.{ByLogs, LeavesServing, Obeys, UsesDisk, UsesYard};
-ghost use Rattle.hk_runs.specs.Pipe.{Pipe};
-ghost use Rattle.hk_runs.specs.Replay.{Replay};
-ghost use Rattle.server_command.specs.Serve.{Serves};
-ghost use Rattle.hkms_commands.specs.ServerHeadline.{ServerKeepsFiles};
-ghost use Rattle.load_run.specs.Load.{Load};
-ghost use Rattle.cell_server.specs.Connections.{ServesEnds};
+ghost use Rattle.command_io.specs.Environment.{environment};
+ghost use Rattle.hk_runs.specs.Headline.{FromSoundFiles, PipeKeeps, ReplayKeeps};
+ghost use Rattle.hkms_commands.specs.Commands.{CarriesOut, KeepsByWords, LoadsSteps, PipesRequests, RefusesWords, ReplaysLines, ServesByWords, ShowsOwnText, given};
+ghost use Rattle.hkms_commands.specs.Orders.{ByLogs, LeavesServing, UsesDisk, UsesYard};
 
 use command_io::{show, show_made};
 use command_line::{Order, OrderFault, read_order};
-use disk_kinds::ChaWords;
 use hk_base::{Clock, Disk, Sink, Source, Text, Words};
 use hk_runs::{run_pipe, run_replay};
 use load_run::run_load;
@@ -56,15 +45,11 @@ fn obey<
 ) -> u8
     requires keys { IsTrue ((Y.state yard.old).lies 0) }
     requires names { IsTrue ((Y.state yard.old).lies 1) }
-    ensures obeys { Obeys order
-        ((how : ReplayEnd) × (result ≡ status_of how) × Replay (disk.new ≡ disk.old) ((input.new ≡ input.old) × (rand.new ≡ rand.old)) (D.state disk.old) (D.state disk.new) (A.left acls.old) (A.left acls.new) (W.to_come rand.old) (W.to_come rand.new) (S.left input.old) (K.written out.old) (K.written out.new) how × (result ≡ 0 → IsAtEnd (S.left input.new)))
-        (Pipe (disk.new ≡ disk.old) ((input.new ≡ input.old) × (out.new ≡ out.old) × (rand.new ≡ rand.old) × (clock.new ≡ clock.old)) (D.state disk.old) (D.state disk.new) (A.left acls.old) (A.left acls.new) (W.to_come rand.old) (W.to_come rand.new) (S.left input.old) (S.left input.new) (K.written out.old) (K.written out.new) result)
-        (λ port conns. (Serves Y.Own.state ⟦<ChaWords as Words>⟧.to_come (ServesEnds P.In.left P.In.faults P.Out.written P.Out.faults)
-        ((yard.new ≡ yard.old) × (door.new ≡ door.old) × (rand.new ≡ rand.old)) port conns (A.left acls.old) (A.left acls.new) (W.to_come rand.old) (W.to_come rand.new)
-        (Y.state yard.old) (Y.state yard.new) (P.state door.old) (P.state door.new) (K.written out.old) (K.written out.new) result × ((disk.new ≡ disk.old) × (input.new ≡ input.old))))
-        (λ count. Load W.to_come count rand.old rand.new (K.written out.old) (K.written out.new) result × ((disk.new ≡ disk.old) × (acls.new ≡ acls.old) × (input.new ≡ input.old) × (clock.new ≡ clock.old)))
-        ((disk.new ≡ disk.old) × (acls.new ≡ acls.old) × (input.new ≡ input.old) × (rand.new ≡ rand.old) × (clock.new ≡ clock.old))
-        (K.written out.old) (K.written out.new) result }
+    ensures obeys { CarriesOut A.Source K.Sink W.Words Y.Yard Y.Own.Disk P.Door
+        P.In.Source P.Out.Sink
+        (given disk.old acls.old input.old out.old rand.old clock.old yard.old door.old)
+        (given disk.new acls.new input.new out.new rand.new clock.new yard.new door.new)
+        D.Disk S.Source order result }
     ensures read { result ≡ 7 →
         ByLogs order
         (Rose (S.faults input.old) (S.faults input.new) ⊎
@@ -142,35 +127,49 @@ pub fn hkms<
     requires keys { IsTrue ((Y.state yard.old).lies 0) }
     requires names { IsTrue ((Y.state yard.old).lies 1) }
     ensures usage { IsMistake (line_fault words.now) →
-        Refuses ((disk.new ≡ disk.old) × (acls.new ≡ acls.old) × (input.new ≡ input.old) × (rand.new ≡ rand.old) × (clock.new ≡ clock.old)) (K.written out.old) (K.written out.new) result
-        ⊎ WantsMemory ((disk.new ≡ disk.old) × (acls.new ≡ acls.old) × (input.new ≡ input.old) × (rand.new ≡ rand.old) × (clock.new ≡ clock.old)) (K.written out.old) (K.written out.new) result }
+        RefusesWords K.Sink
+        (environment disk.old acls.old input.old out.old rand.old)
+        (environment disk.new acls.new input.new out.new rand.new) (clock.new ≡ clock.old) result }
     ensures usage_only { result ≡ 2 → IsMistake (line_fault words.now) }
     ensures help { FindsHelp words.now ⊎ FindsVersion words.now →
-        ShowsText ((disk.new ≡ disk.old) × (acls.new ≡ acls.old) × (input.new ≡ input.old) × (rand.new ≡ rand.old) × (clock.new ≡ clock.old)) (K.written out.old) (K.written out.new) result
-        ⊎ WantsMemory ((disk.new ≡ disk.old) × (acls.new ≡ acls.old) × (input.new ≡ input.old) × (rand.new ≡ rand.old) × (clock.new ≡ clock.old)) (K.written out.old) (K.written out.new) result }
+        ShowsOwnText K.Sink
+        (environment disk.old acls.old input.old out.old rand.old)
+        (environment disk.new acls.new input.new out.new rand.new) (clock.new ≡ clock.old) result }
     ensures replay { Names order.Replay words.now →
-        ((how : ReplayEnd) × (result ≡ status_of how) × Replay (disk.new ≡ disk.old) ((input.new ≡ input.old) × (rand.new ≡ rand.old)) (D.state disk.old) (D.state disk.new) (A.left acls.old) (A.left acls.new) (W.to_come rand.old) (W.to_come rand.new) (S.left input.old) (K.written out.old) (K.written out.new) how × (result ≡ 0 → IsAtEnd (S.left input.new)))
-        ⊎ WantsMemory ((disk.new ≡ disk.old) × (acls.new ≡ acls.old) × (input.new ≡ input.old) × (rand.new ≡ rand.old) × (clock.new ≡ clock.old)) (K.written out.old) (K.written out.new) result }
-    ensures headline { Names order.Replay words.now → Tells (D.state disk.old) → (past : Past) → StartsSound (D.state disk.old) past →
-        KeepsFiles ((input.new ≡ input.old) × (rand.new ≡ rand.old)) past (D.state disk.old) (D.state disk.new) (A.left acls.old) (A.left acls.new) (W.to_come rand.old) (W.to_come rand.new) (S.left input.old) (K.written out.old) (K.written out.new) result }
+        ReplaysLines D.Disk A.Source S.Source K.Sink W.Words
+        (environment disk.old acls.old input.old out.old rand.old)
+        (environment disk.new acls.new input.new out.new rand.new) (clock.new ≡ clock.old) result }
+    ensures headline { Names order.Replay words.now →
+        FromSoundFiles (D.state disk.old)
+        (ReplayKeeps D.Disk A.Source S.Source K.Sink W.Words
+        (environment disk.old acls.old input.old out.old rand.old)
+        (environment disk.new acls.new input.new out.new rand.new))
+        result }
     ensures pipe { Names order.Pipe words.now →
-        Pipe (disk.new ≡ disk.old) ((input.new ≡ input.old) × (out.new ≡ out.old) × (rand.new ≡ rand.old) × (clock.new ≡ clock.old)) (D.state disk.old) (D.state disk.new) (A.left acls.old) (A.left acls.new) (W.to_come rand.old) (W.to_come rand.new) (S.left input.old) (S.left input.new) (K.written out.old) (K.written out.new) result
-        ⊎ WantsMemory ((disk.new ≡ disk.old) × (acls.new ≡ acls.old) × (input.new ≡ input.old) × (rand.new ≡ rand.old) × (clock.new ≡ clock.old)) (K.written out.old) (K.written out.new) result }
-    ensures headline_pipe { Names order.Pipe words.now → Tells (D.state disk.old) → (past : Past) → StartsSound (D.state disk.old) past →
-        ConnectionKeepsFiles ((input.new ≡ input.old) × (rand.new ≡ rand.old) × (clock.new ≡ clock.old)) past (D.state disk.old) (D.state disk.new) (A.left acls.old) (A.left acls.new) (W.to_come rand.old) (W.to_come rand.new) (S.left input.old) (S.left input.new) (K.written out.old) (K.written out.new) result }
-    ensures serve { (port conns places : ℕ) → Names (order.Serve port conns places) words.now →
-        (Serves Y.Own.state ⟦<ChaWords as Words>⟧.to_come (ServesEnds P.In.left P.In.faults P.Out.written P.Out.faults)
-        ((yard.new ≡ yard.old) × (door.new ≡ door.old) × (rand.new ≡ rand.old)) port conns (A.left acls.old) (A.left acls.new) (W.to_come rand.old) (W.to_come rand.new)
-        (Y.state yard.old) (Y.state yard.new) (P.state door.old) (P.state door.new) (K.written out.old) (K.written out.new) result × ((disk.new ≡ disk.old) × (input.new ≡ input.old)))
-        ⊎ WantsMemory ((disk.new ≡ disk.old) × (acls.new ≡ acls.old) × (input.new ≡ input.old) × (rand.new ≡ rand.old) × (clock.new ≡ clock.old)) (K.written out.old) (K.written out.new) result }
-    ensures headline_serve { (port conns places : ℕ) → Names (order.Serve port conns places) words.now → IsTrue (Y.state yard.old).tells → (past : Past) → SoundFiles past (Y.state yard.old).reads →
-        ServerKeepsFiles Y.Own.state ⟦<ChaWords as Words>⟧.to_come (ServesEnds P.In.left P.In.faults P.Out.written P.Out.faults)
-        (((disk.new ≡ disk.old) × (acls.new ≡ acls.old) × (input.new ≡ input.old) × (rand.new ≡ rand.old) × (clock.new ≡ clock.old)) × ((yard.new ≡ yard.old) × (door.new ≡ door.old)))
-        ((yard.new ≡ yard.old) × (door.new ≡ door.old) × (rand.new ≡ rand.old)) past port conns (A.left acls.old) (A.left acls.new) (W.to_come rand.old)
-        (Y.state yard.old) (Y.state yard.new) (P.state door.old) (P.state door.new) (K.written out.old) (K.written out.new) result }
+        PipesRequests D.Disk A.Source S.Source K.Sink W.Words
+        (environment disk.old acls.old input.old out.old rand.old)
+        (environment disk.new acls.new input.new out.new rand.new) (clock.new ≡ clock.old) result }
+    ensures headline_pipe { Names order.Pipe words.now →
+        FromSoundFiles (D.state disk.old)
+        (PipeKeeps D.Disk A.Source S.Source K.Sink W.Words
+        (environment disk.old acls.old input.old out.old rand.old)
+        (environment disk.new acls.new input.new out.new rand.new) (clock.new ≡ clock.old))
+        result }
+    ensures serve { ServesByWords A.Source K.Sink W.Words Y.Yard Y.Own.Disk P.Door
+        P.In.Source P.Out.Sink
+        (given disk.old acls.old input.old out.old rand.old clock.old yard.old door.old)
+        (given disk.new acls.new input.new out.new rand.new clock.new yard.new door.new)
+        words.now result }
+    ensures headline_serve { KeepsByWords A.Source K.Sink W.Words Y.Yard Y.Own.Disk P.Door
+        P.In.Source P.Out.Sink
+        (given disk.old acls.old input.old out.old rand.old clock.old yard.old door.old)
+        (given disk.new acls.new input.new out.new rand.new clock.new yard.new door.new)
+        words.now result }
     ensures load { (count : ℕ) → Names (order.Load count) words.now →
-        (Load W.to_come count rand.old rand.new (K.written out.old) (K.written out.new) result × ((disk.new ≡ disk.old) × (acls.new ≡ acls.old) × (input.new ≡ input.old) × (clock.new ≡ clock.old)))
-        ⊎ WantsMemory ((disk.new ≡ disk.old) × (acls.new ≡ acls.old) × (input.new ≡ input.old) × (rand.new ≡ rand.old) × (clock.new ≡ clock.old)) (K.written out.old) (K.written out.new) result }
+        LoadsSteps K.Sink
+        (environment disk.old acls.old input.old out.old rand.old)
+        (environment disk.new acls.new input.new out.new rand.new) (clock.new ≡ clock.old) W.Words
+        count result }
     ensures idle { UsesYard words.now ⊎ ((yard.new ≡ yard.old) × (door.new ≡ door.old)) }
     ensures read { result ≡ 7 →
         (UsesDisk words.now ×
