@@ -3,16 +3,12 @@ ghost use Rattle.std.specs.Prelude.{◌≡◌, ◌⊎◌, ◌<◌, ℕ, List, Er
 ghost use Rattle.body_stream.specs.Transfers.{longest_body};
 ghost use Rattle.body_stream.specs.Vaults.{TellsBodies};
 ghost use Rattle.file_orders.specs.Bodies.{HadBody};
-ghost use Rattle.hk_base.specs.Disk.{Tells};
 ghost use Rattle.hk_base.specs.Faults.{Rose};
-ghost use Rattle.world_run.specs.Ledger.{Past};
-ghost use Rattle.world_run.specs.Linked.{StartsSound};
 ghost use Rattle.command_io.specs.Ends.{Shows};
-ghost use Rattle.hk_runs.specs.Headline.{NothingHappened};
-ghost use Rattle.fs_command_line.specs.Orders.{FindsHelp, FindsVersion, IsMistake, Names, line_fault};
-ghost use Rattle.fs_command_line.specs.declared.order.FsOrder.TheVariants as order;
-ghost use Rattle.data_stream.specs.Commands.{Obeys, PutKept, PutsFile, ReadKept, ReadsFile, Refuses, ShowsText, WantsMemory};
-ghost use Rattle.data_stream.specs.Statuses.{HasReason, NamesPut, OrdersPut};
+ghost use Rattle.hk_runs.specs.Headline.{FromSoundFiles};
+ghost use Rattle.fs_command_line.specs.Orders.{FindsHelp, FindsVersion, IsMistake, line_fault};
+ghost use Rattle.data_stream.specs.Files.{CarriesOut, ForPut, ForRead, HasItsReason, KeepsAt, PutKeepsByWords, PutsByWords, ReadKeepsByWords, ReadsByWords, RefusesWords, ShowsOwnText, files};
+ghost use Rattle.data_stream.specs.Statuses.{NamesPut, OrdersPut};
 
 use crate::put::run_put;
 use crate::read::run_read;
@@ -43,18 +39,15 @@ fn obey<A: Source, S: Source, K: Sink, D: Disk, V: Vault, W: Words, C: Clock>(
     rand: &mut W,
     clock: &mut C,
 ) -> u8
-    ensures obeys { Obeys order
-        (λ user path. PutsFile (disk.new ≡ disk.old) ((input.new ≡ input.old) × (vault.new ≡ vault.old) × (rand.new ≡ rand.old) × (clock.new ≡ clock.old)) user path (D.state disk.old) (D.state disk.new) (A.left acls.old) (A.left acls.new) (W.to_come rand.old) (W.to_come rand.new) (S.left input.old) (S.left input.new) (V.state vault.old) (V.state vault.new) (K.written out.old) (K.written out.new) result)
-        (λ user path from count. ReadsFile (disk.new ≡ disk.old) ((vault.new ≡ vault.old) × (rand.new ≡ rand.old) × (clock.new ≡ clock.old)) user path from count (D.state disk.old) (D.state disk.new) (A.left acls.old) (A.left acls.new) (W.to_come rand.old) (W.to_come rand.new) (V.state vault.old) (V.state vault.new) (K.written out.old) (K.written out.new) result × (input.new ≡ input.old))
-        ((disk.new ≡ disk.old) × (acls.new ≡ acls.old) × (input.new ≡ input.old) × (vault.new ≡ vault.old) × (rand.new ≡ rand.old) × (clock.new ≡ clock.old))
-        (K.written out.old) (K.written out.new) result }
-    ensures kept { Tells (D.state disk.old) → (past : Past) → StartsSound (D.state disk.old) past → Obeys order
-        (λ user path. NothingHappened ((input.new ≡ input.old) × (vault.new ≡ vault.old) × (rand.new ≡ rand.old) × (clock.new ≡ clock.old)) past (D.state disk.old) (D.state disk.new)
-        ⊎ PutKept past user path (D.state disk.old) (D.state disk.new) (A.left acls.old) (A.left acls.new) (W.to_come rand.old) (W.to_come rand.new) (S.left input.old) (S.left input.new) (V.state vault.old) (V.state vault.new) (K.written out.old) (K.written out.new) result)
-        (λ user path from count. NothingHappened ((vault.new ≡ vault.old) × (rand.new ≡ rand.old) × (clock.new ≡ clock.old)) past (D.state disk.old) (D.state disk.new)
-        ⊎ ReadKept past user path from count (D.state disk.old) (D.state disk.new) (A.left acls.old) (A.left acls.new) (W.to_come rand.old) (W.to_come rand.new) (V.state vault.old) (V.state vault.new) (K.written out.old) (K.written out.new) result)
-        ((disk.new ≡ disk.old) × (acls.new ≡ acls.old) × (input.new ≡ input.old) × (vault.new ≡ vault.old) × (rand.new ≡ rand.old) × (clock.new ≡ clock.old))
-        (K.written out.old) (K.written out.new) result }
+    ensures obeys { CarriesOut D.Disk K.Sink W.Words V.Vault A.Source S.Source
+        (files disk.old out.old rand.old vault.old clock.old)
+        (files disk.new out.new rand.new vault.new clock.new)
+        acls.old acls.new input.old input.new order result }
+    ensures kept { FromSoundFiles (D.state disk.old)
+        (KeepsAt D.Disk K.Sink W.Words V.Vault A.Source S.Source
+        (files disk.old out.old rand.old vault.old clock.old)
+        (files disk.new out.new rand.new vault.new clock.new)
+        acls.old acls.new input.old input.new order) result }
     ensures own { result ≡ 2 → order ≡ Err OrderFault.Usage }
     ensures read_fault { result ≡ 7 →
         Rose (S.faults input.old) (S.faults input.new) ⊎
@@ -65,22 +58,11 @@ fn obey<A: Source, S: Source, K: Sink, D: Disk, V: Vault, W: Words, C: Clock>(
         (TellsBodies (V.state vault.old) → HadBody (V.state vault.old)) }
     ensures long { result ≡ 13 → (all : List ℕ) → S.left input.old ≡ Some all →
         longest_body < length all }
-    ensures reason { HasReason (record {
-      mistake = order ≡ Err OrderFault.Usage;
-      puts = OrdersPut order;
-      properties_failed = Rose (A.faults acls.old) (A.faults acls.new);
-      input_failed = Rose (S.faults input.old) (S.faults input.new);
-      output_failed = Rose (K.faults out.old) (K.faults out.new);
-      vault_failed = Rose (V.state vault.old).faults (V.state vault.new).faults;
-      disk = D.state disk.old;
-      disk' = D.state disk.new;
-      acls = A.left acls.old;
-      acls' = A.left acls.new;
-      words = W.to_come rand.old;
-      words' = W.to_come rand.new;
-      input = S.left input.old;
-      vault = V.state vault.old;
-    }) result }
+    ensures reason { HasItsReason D.Disk K.Sink W.Words V.Vault A.Source S.Source
+        (files disk.old out.old rand.old vault.old clock.old)
+        (files disk.new out.new rand.new vault.new clock.new)
+        acls.old acls.new input.old input.new (order ≡ Err OrderFault.Usage)
+        (OrdersPut order) result }
 {
     match order {
         Ok(FsOrder::Put { user, path }) => run_put(
@@ -143,26 +125,36 @@ pub fn hkfs<A: Source, S: Source, K: Sink, D: Disk, V: Vault, W: Words, C: Clock
     clock: &mut C,
 ) -> u8
     ensures usage { IsMistake (line_fault words.now) →
-        Refuses ((disk.new ≡ disk.old) × (acls.new ≡ acls.old) × (input.new ≡ input.old) × (vault.new ≡ vault.old) × (rand.new ≡ rand.old) × (clock.new ≡ clock.old)) (K.written out.old) (K.written out.new) result
-        ⊎ WantsMemory ((disk.new ≡ disk.old) × (acls.new ≡ acls.old) × (input.new ≡ input.old) × (vault.new ≡ vault.old) × (rand.new ≡ rand.old) × (clock.new ≡ clock.old)) (K.written out.old) (K.written out.new) result }
+        RefusesWords K.Sink
+        (files disk.old out.old rand.old vault.old clock.old)
+        (files disk.new out.new rand.new vault.new clock.new)
+        acls.old acls.new input.old input.new result }
     ensures usage_only { result ≡ 2 → IsMistake (line_fault words.now) }
     ensures help { FindsHelp words.now ⊎ FindsVersion words.now →
-        ShowsText ((disk.new ≡ disk.old) × (acls.new ≡ acls.old) × (input.new ≡ input.old) × (vault.new ≡ vault.old) × (rand.new ≡ rand.old) × (clock.new ≡ clock.old)) (K.written out.old) (K.written out.new) result
-        ⊎ WantsMemory ((disk.new ≡ disk.old) × (acls.new ≡ acls.old) × (input.new ≡ input.old) × (vault.new ≡ vault.old) × (rand.new ≡ rand.old) × (clock.new ≡ clock.old)) (K.written out.old) (K.written out.new) result }
-    ensures put { (user path : List ℕ) → Names (order.Put user path) words.now →
-        (PutsFile (disk.new ≡ disk.old) ((input.new ≡ input.old) × (vault.new ≡ vault.old) × (rand.new ≡ rand.old) × (clock.new ≡ clock.old)) user path (D.state disk.old) (D.state disk.new) (A.left acls.old) (A.left acls.new) (W.to_come rand.old) (W.to_come rand.new) (S.left input.old) (S.left input.new) (V.state vault.old) (V.state vault.new) (K.written out.old) (K.written out.new) result)
-        ⊎ WantsMemory ((disk.new ≡ disk.old) × (acls.new ≡ acls.old) × (input.new ≡ input.old) × (vault.new ≡ vault.old) × (rand.new ≡ rand.old) × (clock.new ≡ clock.old)) (K.written out.old) (K.written out.new) result }
-    ensures put_kept { (user path : List ℕ) → Names (order.Put user path) words.now → Tells (D.state disk.old) → (past : Past) → StartsSound (D.state disk.old) past →
-        (NothingHappened ((input.new ≡ input.old) × (vault.new ≡ vault.old) × (rand.new ≡ rand.old) × (clock.new ≡ clock.old)) past (D.state disk.old) (D.state disk.new)
-        ⊎ PutKept past user path (D.state disk.old) (D.state disk.new) (A.left acls.old) (A.left acls.new) (W.to_come rand.old) (W.to_come rand.new) (S.left input.old) (S.left input.new) (V.state vault.old) (V.state vault.new) (K.written out.old) (K.written out.new) result)
-        ⊎ WantsMemory ((disk.new ≡ disk.old) × (acls.new ≡ acls.old) × (input.new ≡ input.old) × (vault.new ≡ vault.old) × (rand.new ≡ rand.old) × (clock.new ≡ clock.old)) (K.written out.old) (K.written out.new) result }
-    ensures read { (user path : List ℕ) (from count : ℕ) → Names (order.Read user path from count) words.now →
-        (ReadsFile (disk.new ≡ disk.old) ((vault.new ≡ vault.old) × (rand.new ≡ rand.old) × (clock.new ≡ clock.old)) user path from count (D.state disk.old) (D.state disk.new) (A.left acls.old) (A.left acls.new) (W.to_come rand.old) (W.to_come rand.new) (V.state vault.old) (V.state vault.new) (K.written out.old) (K.written out.new) result × (input.new ≡ input.old))
-        ⊎ WantsMemory ((disk.new ≡ disk.old) × (acls.new ≡ acls.old) × (input.new ≡ input.old) × (vault.new ≡ vault.old) × (rand.new ≡ rand.old) × (clock.new ≡ clock.old)) (K.written out.old) (K.written out.new) result }
-    ensures read_kept { (user path : List ℕ) (from count : ℕ) → Names (order.Read user path from count) words.now → Tells (D.state disk.old) → (past : Past) → StartsSound (D.state disk.old) past →
-        (NothingHappened ((vault.new ≡ vault.old) × (rand.new ≡ rand.old) × (clock.new ≡ clock.old)) past (D.state disk.old) (D.state disk.new)
-        ⊎ ReadKept past user path from count (D.state disk.old) (D.state disk.new) (A.left acls.old) (A.left acls.new) (W.to_come rand.old) (W.to_come rand.new) (V.state vault.old) (V.state vault.new) (K.written out.old) (K.written out.new) result)
-        ⊎ WantsMemory ((disk.new ≡ disk.old) × (acls.new ≡ acls.old) × (input.new ≡ input.old) × (vault.new ≡ vault.old) × (rand.new ≡ rand.old) × (clock.new ≡ clock.old)) (K.written out.old) (K.written out.new) result }
+        ShowsOwnText K.Sink
+        (files disk.old out.old rand.old vault.old clock.old)
+        (files disk.new out.new rand.new vault.new clock.new)
+        acls.old acls.new input.old input.new result }
+    ensures put { ForPut words.now
+        (PutsByWords D.Disk K.Sink W.Words V.Vault A.Source S.Source
+        (files disk.old out.old rand.old vault.old clock.old)
+        (files disk.new out.new rand.new vault.new clock.new)
+        acls.old acls.new input.old input.new) result }
+    ensures put_kept { ForPut words.now
+        (PutKeepsByWords D.Disk K.Sink W.Words V.Vault A.Source S.Source
+        (files disk.old out.old rand.old vault.old clock.old)
+        (files disk.new out.new rand.new vault.new clock.new)
+        acls.old acls.new input.old input.new) result }
+    ensures read { ForRead words.now
+        (ReadsByWords D.Disk K.Sink W.Words V.Vault A.Source S.Source
+        (files disk.old out.old rand.old vault.old clock.old)
+        (files disk.new out.new rand.new vault.new clock.new)
+        acls.old acls.new input.old input.new) result }
+    ensures read_kept { ForRead words.now
+        (ReadKeepsByWords D.Disk K.Sink W.Words V.Vault A.Source S.Source
+        (files disk.old out.old rand.old vault.old clock.old)
+        (files disk.new out.new rand.new vault.new clock.new)
+        acls.old acls.new input.old input.new) result }
     ensures read_fault { result ≡ 7 →
         Rose (S.faults input.old) (S.faults input.new) ⊎
         Rose (A.faults acls.old) (A.faults acls.new) }
@@ -174,22 +166,11 @@ pub fn hkfs<A: Source, S: Source, K: Sink, D: Disk, V: Vault, W: Words, C: Clock
     ensures long { result ≡ 13 → (all : List ℕ) → S.left input.old ≡ Some all →
         longest_body < length all }
     // Every status but 0 and 6 has its cause.
-    ensures reason { HasReason (record {
-      mistake = IsMistake (line_fault words.now);
-      puts = NamesPut words.now;
-      properties_failed = Rose (A.faults acls.old) (A.faults acls.new);
-      input_failed = Rose (S.faults input.old) (S.faults input.new);
-      output_failed = Rose (K.faults out.old) (K.faults out.new);
-      vault_failed = Rose (V.state vault.old).faults (V.state vault.new).faults;
-      disk = D.state disk.old;
-      disk' = D.state disk.new;
-      acls = A.left acls.old;
-      acls' = A.left acls.new;
-      words = W.to_come rand.old;
-      words' = W.to_come rand.new;
-      input = S.left input.old;
-      vault = V.state vault.old;
-    }) result }
+    ensures reason { HasItsReason D.Disk K.Sink W.Words V.Vault A.Source S.Source
+        (files disk.old out.old rand.old vault.old clock.old)
+        (files disk.new out.new rand.new vault.new clock.new)
+        acls.old acls.new input.old input.new (IsMistake (line_fault words.now))
+        (NamesPut words.now) result }
 {
     let order = read_order(alloc, words);
     obey(alloc, order, acls, input, out, disk, vault, rand, clock)

@@ -1,7 +1,7 @@
 //! Both services over a disk, as events.
 ghost use Rattle.std.specs.Prelude.{◌≡◌};
 ghost use Rattle.world_desk.specs.Worlds.{IsReady};
-ghost use Rattle.data_stream.specs.Runs.{LeadsAt};
+ghost use Rattle.data_stream.specs.Runs.{HoldsSame, LeadsAt, standing_of};
 
 use file_orders::Events;
 use hk_base::{Disk, Words};
@@ -45,10 +45,10 @@ impl<'a, D, W> WorldEvents<'a, D, W> {
 
 impl<'a, D: Disk, W: Words> Events for WorldEvents<'a, D, W> {
     ghost ready = { λ v.
-        IsReady D.state (record { disk = v.disk.now; world = v.world.now; words = v.words.now }) };
+        IsReady D.state (standing_of v) };
 
-    ghost leads = { λ old e answer new. ((new.world.ghost_name ≡ old.world.ghost_name) × ((new.disk.ghost_name ≡ old.disk.ghost_name) × ((new.words.ghost_name ≡ old.words.ghost_name) × (new.now ≡ old.now))))
-        × LeadsAt D.state W.to_come old.now (record { disk = old.disk.now; world = old.world.now; words = old.words.now }) e answer (record { disk = new.disk.now; world = new.world.now; words = new.words.now }) };
+    ghost leads = { λ old e answer new. HoldsSame old new ×
+        LeadsAt D.state W.to_come old.now (standing_of old) e answer (standing_of new) };
 
     fn happen(&mut self, event: Event) -> Line {
         // No event fails but a restart.

@@ -2,16 +2,13 @@
 ghost use Rattle.std.specs.Prelude.{◌≡◌, ◌⊎◌, ◌<◌, ℕ, List, Some, length};
 ghost use Rattle.body_stream.specs.Transfers.{longest_body};
 ghost use Rattle.body_stream.specs.Vaults.{TellsBodies};
-ghost use Rattle.hk_base.specs.Disk.{Tells};
 ghost use Rattle.hk_base.specs.Faults.{Rose};
-ghost use Rattle.world_run.specs.Ledger.{Past};
-ghost use Rattle.world_run.specs.Linked.{StartsSound};
 ghost use Rattle.world_run.specs.World.{RunningWorld};
-ghost use Rattle.world_desk.specs.Worlds.{IsReady};
-ghost use Rattle.hk_runs.specs.Headline.{NothingHappened};
+ghost use Rattle.world_desk.specs.Worlds.{IsReady, standing};
+ghost use Rattle.hk_runs.specs.Headline.{FromSoundFiles};
 ghost use Rattle.file_orders.specs.Bodies.{HadBody, Puts};
-ghost use Rattle.data_stream.specs.Runs.{LeadsAt};
-ghost use Rattle.data_stream.specs.Commands.{PutKept, PutUnder, PutsFile};
+ghost use Rattle.data_stream.specs.Runs.{LeadsAt, standing_of};
+ghost use Rattle.data_stream.specs.Files.{PutKeeps, PutsBody, PutsUnder, files};
 
 use crate::ends::close;
 use crate::events::WorldEvents;
@@ -32,15 +29,10 @@ fn put_over<'a, S: Source, D: Disk, V: Vault, W: Words>(
     input: &mut S,
     vault: &mut V,
 ) -> FsEnd
-    requires { IsReady D.state
-        (record {
-          disk = events.old.disk.now;
-          world = events.old.world.now;
-          words = events.old.words.now;
-        }) }
+    requires { IsReady D.state (standing_of events.old) }
     ensures puts { Puts (LeadsAt D.state W.to_come events.old.now) user.now path.now
-        (record { disk = events.old.disk.now; world = events.old.world.now; words = events.old.words.now }) result
-        (record { disk = events.new.disk.now; world = events.new.world.now; words = events.new.words.now }) (S.left input.old) (S.left input.new) (V.state vault.old) (V.state vault.new) }
+        (standing_of events.old) result (standing_of events.new) (S.left input.old)
+        (S.left input.new) (V.state vault.old) (V.state vault.new) }
     ensures world { events.new.world.ghost_name ≡ events.old.world.ghost_name }
     ensures disk { events.new.disk.ghost_name ≡ events.old.disk.ghost_name }
     ensures words { events.new.words.ghost_name ≡ events.old.words.ghost_name }
@@ -67,12 +59,11 @@ fn put_from<S: Source, D: Disk, V: Vault, W: Words, C: Clock>(
     rand: &mut W,
     clock: &mut C,
 ) -> FsEnd
-    requires { IsReady D.state (record { disk = disk.old; world = world.old; words = rand.old }) }
+    requires { IsReady D.state (standing disk.old world.old rand.old) }
     ensures puts { (now : ℕ) ×
         Puts (LeadsAt D.state W.to_come now) user.now path.now
-        (record { disk = disk.old; world = world.old; words = rand.old }) result
-        (record { disk = disk.new; world = world.new; words = rand.new }) (S.left input.old)
-        (S.left input.new) (V.state vault.old) (V.state vault.new) }
+        (standing disk.old world.old rand.old) result (standing disk.new world.new rand.new)
+        (S.left input.old) (S.left input.new) (V.state vault.old) (V.state vault.new) }
     ensures read { result ≡ FsEnd.ReadFault → Rose (S.faults input.old) (S.faults input.new) }
     ensures vault { result ≡ FsEnd.VaultFault →
         Rose (V.state vault.old).faults (V.state vault.new).faults ⊎
@@ -97,9 +88,11 @@ fn put_in<S: Source, D: Disk, V: Vault, W: Words, C: Clock>(
     rand: &mut W,
     clock: &mut C,
 ) -> FsEnd
-    requires { IsReady D.state (record { disk = disk.old; world = world; words = rand.old }) }
-    ensures puts { (now : ℕ) × (then : RunningWorld) × Puts (LeadsAt D.state W.to_come now) user.now path.now (record { disk = disk.old; world = world; words = rand.old }) result
-        (record { disk = disk.new; world = then; words = rand.new }) (S.left input.old) (S.left input.new) (V.state vault.old) (V.state vault.new) }
+    requires { IsReady D.state (standing disk.old world rand.old) }
+    ensures puts { (now : ℕ) × (then : RunningWorld) ×
+        Puts (LeadsAt D.state W.to_come now) user.now path.now (standing disk.old world rand.old)
+        result (standing disk.new then rand.new) (S.left input.old) (S.left input.new)
+        (V.state vault.old) (V.state vault.new) }
     ensures read { result ≡ FsEnd.ReadFault → Rose (S.faults input.old) (S.faults input.new) }
     ensures vault { result ≡ FsEnd.VaultFault →
         Rose (V.state vault.old).faults (V.state vault.new).faults ⊎
@@ -129,7 +122,10 @@ fn put_under<S: Source, K: Sink, D: Disk, V: Vault, W: Words, C: Clock>(
     rand: &mut W,
     clock: &mut C,
 ) -> u8
-    ensures put { PutUnder props.now ((input.new ≡ input.old) × (vault.new ≡ vault.old) × (rand.new ≡ rand.old) × (clock.new ≡ clock.old)) user.now path.now (D.state disk.old) (D.state disk.new) (W.to_come rand.old) (W.to_come rand.new) (S.left input.old) (S.left input.new) (V.state vault.old) (V.state vault.new) (K.written out.old) (K.written out.new) result }
+    ensures put { PutsUnder D.Disk K.Sink W.Words V.Vault
+        (files disk.old out.old rand.old vault.old clock.old)
+        (files disk.new out.new rand.new vault.new clock.new)
+        S.Source input.old input.new props.now user.now path.now result }
     ensures read_fault { result ≡ 7 → Rose (S.faults input.old) (S.faults input.new) }
     ensures write_fault { result ≡ 8 → Rose (K.faults out.old) (K.faults out.new) }
     ensures vault_fault { result ≡ 12 →
@@ -160,10 +156,15 @@ pub(crate) fn run_put<A: Source, S: Source, K: Sink, D: Disk, V: Vault, W: Words
     rand: &mut W,
     clock: &mut C,
 ) -> u8
-    ensures put { PutsFile (disk.new ≡ disk.old) ((input.new ≡ input.old) × (vault.new ≡ vault.old) × (rand.new ≡ rand.old) × (clock.new ≡ clock.old)) user.now path.now (D.state disk.old) (D.state disk.new) (A.left acls.old) (A.left acls.new) (W.to_come rand.old) (W.to_come rand.new) (S.left input.old) (S.left input.new) (V.state vault.old) (V.state vault.new) (K.written out.old) (K.written out.new) result }
-    ensures kept { Tells (D.state disk.old) → (past : Past) → StartsSound (D.state disk.old) past →
-        NothingHappened ((input.new ≡ input.old) × (vault.new ≡ vault.old) × (rand.new ≡ rand.old) × (clock.new ≡ clock.old)) past (D.state disk.old) (D.state disk.new)
-        ⊎ PutKept past user.now path.now (D.state disk.old) (D.state disk.new) (A.left acls.old) (A.left acls.new) (W.to_come rand.old) (W.to_come rand.new) (S.left input.old) (S.left input.new) (V.state vault.old) (V.state vault.new) (K.written out.old) (K.written out.new) result }
+    ensures put { PutsBody D.Disk K.Sink W.Words V.Vault
+        (files disk.old out.old rand.old vault.old clock.old)
+        (files disk.new out.new rand.new vault.new clock.new)
+        S.Source input.old input.new A.Source acls.old acls.new user.now path.now result }
+    ensures kept { FromSoundFiles (D.state disk.old)
+        (PutKeeps D.Disk K.Sink W.Words V.Vault
+        (files disk.old out.old rand.old vault.old clock.old)
+        (files disk.new out.new rand.new vault.new clock.new)
+        S.Source input.old input.new A.Source acls.old acls.new user.now path.now) result }
     ensures read_fault { result ≡ 7 →
         Rose (S.faults input.old) (S.faults input.new) ⊎
         Rose (A.faults acls.old) (A.faults acls.new) }

@@ -1,15 +1,12 @@
 //! Reading a range of a file over a disk.
 ghost use Rattle.std.specs.Prelude.{◌≡◌, ◌⊎◌, ◌≤◌, ℕ};
-ghost use Rattle.hk_base.specs.Disk.{Tells};
 ghost use Rattle.hk_base.specs.Faults.{Rose};
-ghost use Rattle.world_run.specs.Ledger.{Past};
-ghost use Rattle.world_run.specs.Linked.{StartsSound};
 ghost use Rattle.world_run.specs.World.{RunningWorld};
-ghost use Rattle.world_desk.specs.Worlds.{IsReady};
-ghost use Rattle.hk_runs.specs.Headline.{NothingHappened};
+ghost use Rattle.world_desk.specs.Worlds.{IsReady, standing};
+ghost use Rattle.hk_runs.specs.Headline.{FromSoundFiles};
 ghost use Rattle.file_orders.specs.Bodies.{Reads};
-ghost use Rattle.data_stream.specs.Runs.{LeadsAt};
-ghost use Rattle.data_stream.specs.Commands.{ReadKept, ReadUnder, ReadsFile};
+ghost use Rattle.data_stream.specs.Runs.{LeadsAt, standing_of};
+ghost use Rattle.data_stream.specs.Files.{ReadKeeps, ReadsBody, ReadsUnder, files};
 
 use crate::ends::close;
 use crate::events::WorldEvents;
@@ -32,15 +29,10 @@ fn read_over<'a, K: Sink, D: Disk, V: Vault, W: Words>(
     vault: &mut V,
     out: &mut K,
 ) -> FsEnd
-    requires { IsReady D.state
-        (record {
-          disk = events.old.disk.now;
-          world = events.old.world.now;
-          words = events.old.words.now;
-        }) }
-    ensures reads { Reads (LeadsAt D.state W.to_come events.old.now) user.now path.now from count
-        (record { disk = events.old.disk.now; world = events.old.world.now; words = events.old.words.now }) result
-        (record { disk = events.new.disk.now; world = events.new.world.now; words = events.new.words.now }) (V.state vault.old) (V.state vault.new) (K.written out.old) (K.written out.new) }
+    requires { IsReady D.state (standing_of events.old) }
+    ensures reads { Reads (LeadsAt D.state W.to_come events.old.now) user.now path.now from
+        count (standing_of events.old) result (standing_of events.new) (V.state vault.old)
+        (V.state vault.new) (K.written out.old) (K.written out.new) }
     ensures world { events.new.world.ghost_name ≡ events.old.world.ghost_name }
     ensures disk { events.new.disk.ghost_name ≡ events.old.disk.ghost_name }
     ensures words { events.new.words.ghost_name ≡ events.old.words.ghost_name }
@@ -67,9 +59,11 @@ fn read_from<K: Sink, D: Disk, V: Vault, W: Words, C: Clock>(
     clock: &mut C,
     out: &mut K,
 ) -> FsEnd
-    requires { IsReady D.state (record { disk = disk.old; world = world.old; words = rand.old }) }
-    ensures reads { (now : ℕ) × Reads (LeadsAt D.state W.to_come now) user.now path.now from count (record { disk = disk.old; world = world.old; words = rand.old }) result
-        (record { disk = disk.new; world = world.new; words = rand.new }) (V.state vault.old) (V.state vault.new) (K.written out.old) (K.written out.new) }
+    requires { IsReady D.state (standing disk.old world.old rand.old) }
+    ensures reads { (now : ℕ) ×
+        Reads (LeadsAt D.state W.to_come now) user.now path.now from count
+        (standing disk.old world.old rand.old) result (standing disk.new world.new rand.new)
+        (V.state vault.old) (V.state vault.new) (K.written out.old) (K.written out.new) }
     ensures write { result ≡ FsEnd.WriteFault → Rose (K.faults out.old) (K.faults out.new) }
     ensures vault { result ≡ FsEnd.VaultFault →
         Rose (V.state vault.old).faults (V.state vault.new).faults }
@@ -94,9 +88,11 @@ fn read_in<K: Sink, D: Disk, V: Vault, W: Words, C: Clock>(
     clock: &mut C,
     out: &mut K,
 ) -> FsEnd
-    requires { IsReady D.state (record { disk = disk.old; world = world; words = rand.old }) }
-    ensures reads { (now : ℕ) × (then : RunningWorld) × Reads (LeadsAt D.state W.to_come now) user.now path.now from count (record { disk = disk.old; world = world; words = rand.old }) result
-        (record { disk = disk.new; world = then; words = rand.new }) (V.state vault.old) (V.state vault.new) (K.written out.old) (K.written out.new) }
+    requires { IsReady D.state (standing disk.old world rand.old) }
+    ensures reads { (now : ℕ) × (then : RunningWorld) ×
+        Reads (LeadsAt D.state W.to_come now) user.now path.now from count
+        (standing disk.old world rand.old) result (standing disk.new then rand.new)
+        (V.state vault.old) (V.state vault.new) (K.written out.old) (K.written out.new) }
     ensures write { result ≡ FsEnd.WriteFault → Rose (K.faults out.old) (K.faults out.new) }
     ensures vault { result ≡ FsEnd.VaultFault →
         Rose (V.state vault.old).faults (V.state vault.new).faults }
@@ -125,7 +121,10 @@ fn read_under<K: Sink, D: Disk, V: Vault, W: Words, C: Clock>(
     rand: &mut W,
     clock: &mut C,
 ) -> u8
-    ensures read { ReadUnder props.now ((vault.new ≡ vault.old) × (rand.new ≡ rand.old) × (clock.new ≡ clock.old)) user.now path.now from count (D.state disk.old) (D.state disk.new) (W.to_come rand.old) (W.to_come rand.new) (V.state vault.old) (V.state vault.new) (K.written out.old) (K.written out.new) result }
+    ensures read { ReadsUnder D.Disk K.Sink W.Words V.Vault
+        (files disk.old out.old rand.old vault.old clock.old)
+        (files disk.new out.new rand.new vault.new clock.new)
+        props.now user.now path.now from count result }
     ensures read_fault { result ≡ 7 → ⊥ }
     ensures write_fault { result ≡ 8 → Rose (K.faults out.old) (K.faults out.new) }
     ensures vault_fault { result ≡ 12 → Rose (V.state vault.old).faults (V.state vault.new).faults }
@@ -156,10 +155,15 @@ pub(crate) fn run_read<A: Source, K: Sink, D: Disk, V: Vault, W: Words, C: Clock
     rand: &mut W,
     clock: &mut C,
 ) -> u8
-    ensures read { ReadsFile (disk.new ≡ disk.old) ((vault.new ≡ vault.old) × (rand.new ≡ rand.old) × (clock.new ≡ clock.old)) user.now path.now from count (D.state disk.old) (D.state disk.new) (A.left acls.old) (A.left acls.new) (W.to_come rand.old) (W.to_come rand.new) (V.state vault.old) (V.state vault.new) (K.written out.old) (K.written out.new) result }
-    ensures kept { Tells (D.state disk.old) → (past : Past) → StartsSound (D.state disk.old) past →
-        NothingHappened ((vault.new ≡ vault.old) × (rand.new ≡ rand.old) × (clock.new ≡ clock.old)) past (D.state disk.old) (D.state disk.new)
-        ⊎ ReadKept past user.now path.now from count (D.state disk.old) (D.state disk.new) (A.left acls.old) (A.left acls.new) (W.to_come rand.old) (W.to_come rand.new) (V.state vault.old) (V.state vault.new) (K.written out.old) (K.written out.new) result }
+    ensures read { ReadsBody D.Disk K.Sink W.Words V.Vault
+        (files disk.old out.old rand.old vault.old clock.old)
+        (files disk.new out.new rand.new vault.new clock.new)
+        A.Source acls.old acls.new user.now path.now from count result }
+    ensures kept { FromSoundFiles (D.state disk.old)
+        (ReadKeeps D.Disk K.Sink W.Words V.Vault
+        (files disk.old out.old rand.old vault.old clock.old)
+        (files disk.new out.new rand.new vault.new clock.new)
+        A.Source acls.old acls.new user.now path.now from count) result }
     ensures read_fault { result ≡ 7 → Rose (A.faults acls.old) (A.faults acls.new) }
     ensures write_fault { result ≡ 8 → Rose (K.faults out.old) (K.faults out.new) }
     ensures vault_fault { result ≡ 12 → Rose (V.state vault.old).faults (V.state vault.new).faults }
