@@ -3,11 +3,8 @@
 //! are the laws. They follow from clauses of `hkms`, for any values before a call and after it.
 #![tactic(auto)]
 
-ghost use Rattle.std.specs.Prelude.{◌≡◌};
-ghost use Rattle.cell_server.specs.Connections.{ServesEnds};
-ghost use Rattle.command_laws.specs.Complete.{PipeIsComplete, ReplayIsComplete, ServeIsComplete};
+ghost use Rattle.command_laws.specs.Laws.{CompletesPipe, CompletesReplay, CompletesServe, given};
 
-use disk_kinds::ChaWords;
 use hk_base::{Clock, Disk, Sink, Source, Words};
 use server_parts::{Door, Yard};
 
@@ -32,11 +29,10 @@ pub fn replays_are_complete<A: Source, S: Source, K: Sink, D: Disk, W: Words, C:
     door_after: &P,
     status: u8,
 )
-    ensures { ReplayIsComplete (disk_after.now ≡ disk.now) ((input_after.now ≡ input.now) × (rand_after.now ≡ rand.now))
-        ((disk_after.now ≡ disk.now) × (acls_after.now ≡ acls.now) × (input_after.now ≡ input.now) × (rand_after.now ≡ rand.now) × (clock_after.now ≡ clock.now))
-        (D.state disk.now) (D.state disk_after.now) (A.left acls.now) (A.left acls_after.now) (W.to_come rand.now) (W.to_come rand_after.now) (S.left input.now) (S.left input_after.now) (K.written out.now) (K.written out_after.now)
-        (record { acls = A.faults acls.now; input = S.faults input.now; out = K.faults out.now; store = (D.state disk.now).faults; door = P.faults door.now })
-        (record { acls = A.faults acls_after.now; input = S.faults input_after.now; out = K.faults out_after.now; store = (D.state disk_after.now).faults; door = P.faults door_after.now }) status }
+    ensures { CompletesReplay D.Disk A.Source S.Source K.Sink W.Words P.Door
+        (given disk.now acls.now input.now out.now rand.now clock.now door.now)
+        (given disk_after.now acls_after.now input_after.now out_after.now rand_after.now
+        clock_after.now door_after.now) status }
 {}
 
 /// The same of a connection, by the clause `pipe`: if the properties, the requests and both logs are
@@ -67,11 +63,10 @@ pub fn connections_are_complete<
     door_after: &P,
     status: u8,
 )
-    ensures { PipeIsComplete (disk_after.now ≡ disk.now) ((input_after.now ≡ input.now) × (out_after.now ≡ out.now) × (rand_after.now ≡ rand.now) × (clock_after.now ≡ clock.now))
-        ((disk_after.now ≡ disk.now) × (acls_after.now ≡ acls.now) × (input_after.now ≡ input.now) × (rand_after.now ≡ rand.now) × (clock_after.now ≡ clock.now))
-        (D.state disk.now) (D.state disk_after.now) (A.left acls.now) (A.left acls_after.now) (W.to_come rand.now) (W.to_come rand_after.now) (S.left input.now) (S.left input_after.now) (K.written out.now) (K.written out_after.now)
-        (record { acls = A.faults acls.now; input = S.faults input.now; out = K.faults out.now; store = (D.state disk.now).faults; door = P.faults door.now })
-        (record { acls = A.faults acls_after.now; input = S.faults input_after.now; out = K.faults out_after.now; store = (D.state disk_after.now).faults; door = P.faults door_after.now }) status }
+    ensures { CompletesPipe D.Disk A.Source S.Source K.Sink W.Words P.Door
+        (given disk.now acls.now input.now out.now rand.now clock.now door.now)
+        (given disk_after.now acls_after.now input_after.now out_after.now rand_after.now
+        clock_after.now door_after.now) status }
 {}
 
 /// The same of a server that returns, by the clause `serve`: if the properties and both logs of the yard
@@ -108,10 +103,9 @@ pub fn servers_are_complete<
     conns: u32,
     status: u8,
 )
-    ensures { ServeIsComplete Y.Own.state ⟦<ChaWords as Words>⟧.to_come (ServesEnds P.In.left P.In.faults P.Out.written P.Out.faults)
-        ((yard_after.now ≡ yard.now) × (door_after.now ≡ door.now) × (rand_after.now ≡ rand.now)) ((disk_after.now ≡ disk.now) × (input_after.now ≡ input.now))
-        ((disk_after.now ≡ disk.now) × (acls_after.now ≡ acls.now) × (input_after.now ≡ input.now) × (rand_after.now ≡ rand.now) × (clock_after.now ≡ clock.now)) port conns
-        (A.left acls.now) (A.left acls_after.now) (W.to_come rand.now) (W.to_come rand_after.now) (Y.state yard.now) (Y.state yard_after.now) (P.state door.now) (P.state door_after.now) (K.written out.now) (K.written out_after.now)
-        (record { acls = A.faults acls.now; input = S.faults input.now; out = K.faults out.now; store = (Y.state yard.now).faults; door = P.faults door.now })
-        (record { acls = A.faults acls_after.now; input = S.faults input_after.now; out = K.faults out_after.now; store = (Y.state yard_after.now).faults; door = P.faults door_after.now }) status }
+    ensures { CompletesServe D.Disk A.Source S.Source K.Sink W.Words P.Door
+        Y.Yard Y.Own.Disk P.In.Source P.Out.Sink
+        (given disk.now acls.now input.now out.now rand.now clock.now door.now) yard.now
+        (given disk_after.now acls_after.now input_after.now out_after.now rand_after.now
+        clock_after.now door_after.now) yard_after.now port conns status }
 {}
