@@ -1,6 +1,6 @@
 -- What a run of calls leaves of a file.
 use Rattle.std.proofs.Common.{ℕ, ◌<◌, ◌≤◌, List, ⊎_elim, arith}
-use Rattle.hk_base.specs.Disk.{DiskState, Image, IsImage, RunOn, LeavesOnly}
+use Rattle.hk_base.specs.Disk.{DiskState, Image, IsImage, CallOn, RunOn, LeavesOnly}
 use Rattle.hk_base.proofs.Runs.{Going}
 use Rattle.frame_log.specs.Stands.{LeavesFrom}
 
@@ -15,4 +15,14 @@ since file old mid new P file_in begun only_now here run = record {
   begun = begun;
   reached = run.run.later;
   only = λ c left. ⊎_elim (λ past. here (c file) (only_now c past file file_in)) (λ now. now.0) (run.moments.before mid.moment c (omega arith) left);
+}
+
+-- a run of one call
+pub one : {file : ℕ} {old new : DiskState} → CallOn file old new → RunOn file old new
+one call = record {
+  tells = call.tells;
+  faults = call.faults;
+  later = call.later;
+  other_reads = call.other_reads;
+  other_leaves = call.other_leaves;
 }

@@ -60,6 +60,16 @@ impl<T: Drop> From<AllocFailed<T>> for LogFault {
     }
 }
 
+impl From<NoMemory> for LogFault {
+    ghost use Rattle.frame_log.specs.declared.fault.LogFault.TheVariants as log;
+
+    ghost from_gives = { λ _ given. given ≡ log.NoMemory };
+
+    fn from(_: NoMemory) -> Self {
+        LogFault::NoMemory
+    }
+}
+
 impl From<LogFault> for StartFault {
     ghost use Rattle.frame_log.specs.Faults.{start_fault};
 

@@ -1,6 +1,6 @@
 //! The gated log. The gate of a frame is a write of its own, after a sync of the frame.
-ghost use Rattle.std.specs.Prelude.{◌≡◌, ◌≤◌, ◌<◌, ◌^◌, ◌++◌, [], ◌∷◌, IfSome};
-ghost use Rattle.frame_log.specs.Format.{magic, starts_with};
+ghost use Rattle.std.specs.Prelude.{◌≡◌, ◌≤◌, ◌<◌, ◌^◌, ◌++◌, [], ◌∷◌, IfOk, IfSome};
+ghost use Rattle.frame_log.specs.Format.{behind, magic, starts_with, IsPayload};
 
 use crate::LogFault;
 use crate::frames::{Frames, read_frames};
@@ -46,12 +46,24 @@ fn fresh(file: u8) -> [u8; 9]
     [m[0], m[1], m[2], m[3], m[4], m[5], m[6], m[7], SHUT]
 }
 
+/// Returns the bytes that follow the gate of a frame: the payload after its length, and the end gate.
+fn behind_gate(alloc: Global, payload: &[u8]) -> Result<Vec<u8>, hk_base::NoMemory>
+    requires { IsPayload payload.now }
+    ensures { IfOk result (λ bytes. bytes.items ≡ behind payload.now ++ 0 ∷ []) }
+{
+    let mut bytes = Vec::new(alloc);
+    bytes.extend_from_slice(&(payload.len() as u32).to_be_bytes())?;
+    bytes.extend_from_slice(payload)?;
+    bytes.push(SHUT)?;
+    Ok(bytes)
+}
+
 impl Log {
-    ghost use Rattle.std.specs.Prelude.{◌+◌, ◌↔◌, ◌⊎◌, List, ℕ, Option, Some, None, slice_get, length, IfOk, OnOk, OnErr, IsErr, IsErrOf, IsTrue, if◌then◌else◌, IsSome};
+    ghost use Rattle.std.specs.Prelude.{◌+◌, ◌↔◌, ◌⊎◌, List, ℕ, Option, Some, None, slice_get, length, OnOk, OnErr, IsErr, IsErrOf, IsTrue, if◌then◌else◌, IsSome};
     ghost use Rattle.hk_base.specs.Disk.{Tells, RunOn, LeavesOnly, Only};
     ghost use Rattle.hk_base.specs.Faults.{Rose};
     ghost use Rattle.frame_log.specs.declared.fault.LogFault.TheVariants.{Damaged, StoreFault, NoMemory};
-    ghost use Rattle.frame_log.specs.Format.{log_of, Found, NoLog, placed, IsPayload, IsBeforeOrAfter, IsAsFound, IsRecovered};
+    ghost use Rattle.frame_log.specs.Format.{log_of, Found, NoLog, placed, IsBeforeOrAfter, IsAsFound, IsRecovered};
     ghost use Rattle.frame_log.specs.Scan.{view};
     ghost use Rattle.frame_log.specs.Opens.{FailsAs, Recovers};
     ghost use Rattle.frame_log.specs.Stands.{Stands};
@@ -218,10 +230,7 @@ impl Log {
         ensures cause { IsErrOf result StoreFault →
             Rose (D.state disk.old).faults (D.state disk.new).faults }
     {
-        let mut behind = Vec::new(alloc);
-        behind.extend_from_slice(&(payload.len() as u32).to_be_bytes())?;
-        behind.extend_from_slice(payload)?;
-        behind.push(SHUT)?;
+        let behind = behind_gate(alloc, payload)?;
         let file = self.file;
         let gate = self.end;
         self.unsettled = Some(payload.len() as u32);

@@ -1,6 +1,6 @@
 use Rattle.std.proofs.Common.{◌≡◌, [], ◌∷◌, ◌++◌, List, ℕ, Option, map, IsTrue, sym, ◌∙◌, ap, subst}
 use Rattle.std.proofs.lemmas.List.{map-append, append-nil}
-use Rattle.hk_base.specs.Disk.{Reads}
+use Rattle.hk_base.specs.Disk.{DiskState, Reads, RunOn, LeavesOnly}
 use Rattle.hk_base.proofs.Runs.{Going, compose, both_read}
 use Rattle.frame_log.specs.Format.{placed}
 use Rattle.frame_log.specs.Scan.{frame_view}
@@ -8,6 +8,13 @@ use Rattle.frame_log.specs.Ahead.{IsNextPayload, IsFirstPayload, IsPartlyRead}
 use Rattle.frame_log.proofs.Aheads.{partly_more}
 use Rattle.frame_log.proofs.Goings.{going}
 use Rattle.frame_log.proofs.frames.read_frames.Goals as goal
+
+-- the reads of one more payload
+more : {first file : ℕ} {old mid new : DiskState} → first ≡ file → Going file old mid (old.leaves file) → Reads file old mid → RunOn first mid new → LeavesOnly first mid new (mid.leaves first) → Going file old new (old.leaves file)
+more {first} {file} {old} {mid} {new} is so_far same run moments = compose so_far (subst (λ (f : ℕ). Going f mid new (mid.leaves f)) is (going run moments)) same.leaves
+
+still_same : {first file : ℕ} {old mid new : DiskState} → first ≡ file → Going file old mid (old.leaves file) → Reads file old mid → Reads first mid new → Reads file old new
+still_same {first} {file} {old} {mid} {new} is so_far same too = both_read so_far same (subst (λ (f : ℕ). Reads f mid new) is too)
 
 pub next-requires : goal.next-requires
 next-requires g c = record {
@@ -53,3 +60,39 @@ payloads-preserved g c =
           ∙ ap (λ (x : List ℕ). before ++ (offset, x) ∷ []) (c.in_ok-payload-in-Some.ensures.items ∙ c.payload.ensures) in
           subst (λ (l : List (ℕ × List ℕ)). IsPartlyRead new c.args.records.now.at todo records l) (sym listed) (partly_more mid new c.args.records.now.at todo c.payloads.records records before partly offset got);
     }
+
+pub returns-in_err-next-clause-run : goal.returns-in_err-next-clause-run
+returns-in_err-next-clause-run g c = (more c.payloads.invariant.file_is c.payloads.invariant.going c.payloads.invariant.same c.next.ensures.run c.next.ensures.moments).run
+
+pub returns-in_err-next-clause-moments : goal.returns-in_err-next-clause-moments
+returns-in_err-next-clause-moments g c = (more c.payloads.invariant.file_is c.payloads.invariant.going c.payloads.invariant.same c.next.ensures.run c.next.ensures.moments).moments
+
+pub returns-in_err-next-clause-same : goal.returns-in_err-next-clause-same
+returns-in_err-next-clause-same g c = still_same c.payloads.invariant.file_is c.payloads.invariant.going c.payloads.invariant.same c.next.ensures.same
+
+pub returns-in-None-clause-run : goal.returns-in-None-clause-run
+returns-in-None-clause-run g c = (more c.payloads.invariant.file_is c.payloads.invariant.going c.payloads.invariant.same c.next.ensures.run c.next.ensures.moments).run
+
+pub returns-in-None-clause-moments : goal.returns-in-None-clause-moments
+returns-in-None-clause-moments g c = (more c.payloads.invariant.file_is c.payloads.invariant.going c.payloads.invariant.same c.next.ensures.run c.next.ensures.moments).moments
+
+pub returns-in-None-clause-same : goal.returns-in-None-clause-same
+returns-in-None-clause-same g c = still_same c.payloads.invariant.file_is c.payloads.invariant.going c.payloads.invariant.same c.next.ensures.same
+
+pub returns-in_err-payload-in-Some-clause-run : goal.returns-in_err-payload-in-Some-clause-run
+returns-in_err-payload-in-Some-clause-run g c = (more c.payloads.invariant.file_is c.payloads.invariant.going c.payloads.invariant.same c.next.ensures.run c.next.ensures.moments).run
+
+pub returns-in_err-payload-in-Some-clause-moments : goal.returns-in_err-payload-in-Some-clause-moments
+returns-in_err-payload-in-Some-clause-moments g c = (more c.payloads.invariant.file_is c.payloads.invariant.going c.payloads.invariant.same c.next.ensures.run c.next.ensures.moments).moments
+
+pub returns-in_err-payload-in-Some-clause-same : goal.returns-in_err-payload-in-Some-clause-same
+returns-in_err-payload-in-Some-clause-same g c = still_same c.payloads.invariant.file_is c.payloads.invariant.going c.payloads.invariant.same c.next.ensures.same
+
+pub returns-in_err-push-in-Some-clause-run : goal.returns-in_err-push-in-Some-clause-run
+returns-in_err-push-in-Some-clause-run g c = (more c.payloads.invariant.file_is c.payloads.invariant.going c.payloads.invariant.same c.next.ensures.run c.next.ensures.moments).run
+
+pub returns-in_err-push-in-Some-clause-moments : goal.returns-in_err-push-in-Some-clause-moments
+returns-in_err-push-in-Some-clause-moments g c = (more c.payloads.invariant.file_is c.payloads.invariant.going c.payloads.invariant.same c.next.ensures.run c.next.ensures.moments).moments
+
+pub returns-in_err-push-in-Some-clause-same : goal.returns-in_err-push-in-Some-clause-same
+returns-in_err-push-in-Some-clause-same g c = still_same c.payloads.invariant.file_is c.payloads.invariant.going c.payloads.invariant.same c.next.ensures.same

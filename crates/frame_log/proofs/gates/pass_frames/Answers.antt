@@ -61,3 +61,30 @@ returns-in-Broken-clause-damaged g c at is tells =
     c.in-Broken.ensures.next (drop c.gates.at R) (sym long) (c.bytes_at.ensures ∙ shown R c.show.new.self c.gates.at 5 (omega (arith, c.requires.size tells, inv.inside)) shows) in
     let where_at : c.gates.at ≡ at = cc is in
     none c.args.size R c.gates.at (inv.tells tells) (omega (arith, long, inv.inside)) here ∙ ap NoLog where_at
+
+pub returns-in_err-show-clause-run : goal.returns-in_err-show-clause-run
+returns-in_err-show-clause-run g c = (compose c.gates.invariant.going (going c.show.ensures.run c.show.ensures.moments) c.gates.invariant.same.leaves).run
+
+pub returns-in_err-show-clause-moments : goal.returns-in_err-show-clause-moments
+returns-in_err-show-clause-moments g c = (compose c.gates.invariant.going (going c.show.ensures.run c.show.ensures.moments) c.gates.invariant.same.leaves).moments
+
+pub returns-in_err-show-clause-same : goal.returns-in_err-show-clause-same
+returns-in_err-show-clause-same g c = both_read c.gates.invariant.going c.gates.invariant.same c.show.ensures.same
+
+pub returns-in-End-clause-run : goal.returns-in-End-clause-run
+returns-in-End-clause-run g c = (compose c.gates.invariant.going (going c.show.ensures.run c.show.ensures.moments) c.gates.invariant.same.leaves).run
+
+pub returns-in-End-clause-moments : goal.returns-in-End-clause-moments
+returns-in-End-clause-moments g c = (compose c.gates.invariant.going (going c.show.ensures.run c.show.ensures.moments) c.gates.invariant.same.leaves).moments
+
+pub returns-in-End-clause-same : goal.returns-in-End-clause-same
+returns-in-End-clause-same g c = both_read c.gates.invariant.going c.gates.invariant.same c.show.ensures.same
+
+pub returns-in-Broken-clause-run : goal.returns-in-Broken-clause-run
+returns-in-Broken-clause-run g c = (compose c.gates.invariant.going (going c.show.ensures.run c.show.ensures.moments) c.gates.invariant.same.leaves).run
+
+pub returns-in-Broken-clause-moments : goal.returns-in-Broken-clause-moments
+returns-in-Broken-clause-moments g c = (compose c.gates.invariant.going (going c.show.ensures.run c.show.ensures.moments) c.gates.invariant.same.leaves).moments
+
+pub returns-in-Broken-clause-same : goal.returns-in-Broken-clause-same
+returns-in-Broken-clause-same g c = both_read c.gates.invariant.going c.gates.invariant.same c.show.ensures.same

@@ -1,10 +1,13 @@
 use Rattle.std.proofs.Common.{rules, ◌≡◌, ◌≤◌, ◌++◌, [], ◌∷◌, List, ℕ, length, take, drop, IsTrue, true, false, refl, sym, ◌∙◌, ap, subst, arith, length-append}
-use Rattle.hk_base.specs.Disk.{DiskState, Tells, CallOn, LeavesOnly, written}
+use Rattle.std.specs.Prelude.{IsErrOf}
+use Rattle.hk_base.specs.Disk.{DiskState, Tells, CallOn, RunOn, LeavesOnly, written}
 use Rattle.hk_base.proofs.Runs.{begin, then, compose}
 use Rattle.frame_log.specs.Format.{magic, starts_with, NoLog, frames_at, IsRecovered, Log_as_found}
 use Rattle.frame_log.specs.Stands.{front, IsShut}
 use Rattle.frame_log.specs.Scan.{IsScanned}
-use Rattle.frame_log.proofs.Goings.{going}
+use Rattle.frame_log.specs.declared.fault.LogFault.TheVariants.{StoreFault}
+use Rattle.frame_log.proofs.Goings.{going, one}
+use Rattle.frame_log.proofs.Openings.{run_then, rose_since}
 use Rattle.frame_log.proofs.Reading.{short_log, front_long, magic_long}
 use Rattle.frame_log.proofs.Found.{untouched, head_is, other_magic, damaged, scanned, reads_as, gate_as_found, gate_shut, short_as_found, short_written, short_size, written_size}
 use Rattle.frame_log.proofs.log.Log.open_synced.Goals.{then-scan-ne-SHUT+in_ok-write_at-2+in_ok-sync-2, else-scan-ne-SHUT}
@@ -356,3 +359,81 @@ returns-clause-log g c tells =
           let leaves5 : (b : List ℕ) → (g.D.Disk.state c.if-scan-ne-SHUT.disk).leaves file b → IsShut F b = subst (λ d. (b : List ℕ) → (g.D.Disk.state d).leaves file b → IsShut F b) (sym w.disk-is) (λ b h. subst (IsShut F) (sym (only3 b h)) done) in
           (s.payloads, c.in_ok-scan.scan.gate, found, size5, record { sized = s.sized; payload = tt; end = ends; waits = refl; reads = reads5; leaves = λ b h. leaves5 b h })
     ]
+
+pub returns-in_err-size-clause-run : goal.returns-in_err-size-clause-run
+returns-in_err-size-clause-run g c = one c.len.ensures.call
+
+pub returns-in_err-size-clause-cause : goal.returns-in_err-size-clause-cause
+returns-in_err-size-clause-cause g c is = c.in_err-size.ensures.cause
+
+pub returns-in_err-size-clause-moments : goal.returns-in_err-size-clause-moments
+returns-in_err-size-clause-moments g c tells =
+    let file = c.args.file in
+    let R = (g.D.Disk.state c.args.disk.now).reads file in
+    (then (begin file _ (λ b. IsRecovered file R b)) c.len.ensures.call c.requires.file (λ b h. untouched file R b (c.requires.synced tells b (c.len.ensures.same.leaves b h)))).moments
+
+pub returns-in_err-write_at-clause-run : goal.returns-in_err-write_at-clause-run
+returns-in_err-write_at-clause-run g c = run_then (one c.len.ensures.call) (one c.write_at.ensures.call)
+
+pub returns-in_err-write_at-clause-cause : goal.returns-in_err-write_at-clause-cause
+returns-in_err-write_at-clause-cause g c is = rose_since c.len.ensures.call.faults c.in_err-write_at.ensures.cause
+
+pub returns-in_err-sync-clause-run : goal.returns-in_err-sync-clause-run
+returns-in_err-sync-clause-run g c = run_then (run_then (one c.len.ensures.call) (one c.write_at.ensures.call)) (one c.sync.ensures.call)
+
+pub returns-in_err-sync-clause-cause : goal.returns-in_err-sync-clause-cause
+returns-in_err-sync-clause-cause g c is = rose_since (run_then (one c.len.ensures.call) (one c.write_at.ensures.call)).faults c.in_err-sync.ensures.cause
+
+pub returns-then-size-le9-clause-run : goal.returns-then-size-le9-clause-run
+returns-then-size-le9-clause-run g c = run_then (run_then (one c.len.ensures.call) (one c.write_at.ensures.call)) (one c.sync.ensures.call)
+
+pub returns-in_err-read-clause-run : goal.returns-in_err-read-clause-run
+returns-in_err-read-clause-run g c = run_then (one c.len.ensures.call) (one c.read.ensures.call)
+
+pub returns-in_err-read-clause-cause : goal.returns-in_err-read-clause-cause
+returns-in_err-read-clause-cause g c is = rose_since c.len.ensures.call.faults c.in_err-read.ensures.cause
+
+pub returns-then-not-is_magic-clause-run : goal.returns-then-not-is_magic-clause-run
+returns-then-not-is_magic-clause-run g c = run_then (one c.len.ensures.call) (one c.read.ensures.call)
+
+pub returns-in_err-scan-clause-run : goal.returns-in_err-scan-clause-run
+returns-in_err-scan-clause-run g c = run_then (run_then (one c.len.ensures.call) (one c.read.ensures.call)) c.pass_frames.ensures.run
+
+pub returns-in_err-write_at-2-clause-run : goal.returns-in_err-write_at-2-clause-run
+returns-in_err-write_at-2-clause-run g c = run_then (run_then (run_then (one c.len.ensures.call) (one c.read.ensures.call)) c.pass_frames.ensures.run) (one c.write_at-then-scan-ne-SHUT.ensures.call)
+
+pub returns-in_err-write_at-2-clause-cause : goal.returns-in_err-write_at-2-clause-cause
+returns-in_err-write_at-2-clause-cause g c is = rose_since (run_then (run_then (one c.len.ensures.call) (one c.read.ensures.call)) c.pass_frames.ensures.run).faults c.in_err-write_at-2.ensures.cause
+
+pub returns-in_err-sync-2-clause-run : goal.returns-in_err-sync-2-clause-run
+returns-in_err-sync-2-clause-run g c = run_then (run_then (run_then (run_then (one c.len.ensures.call) (one c.read.ensures.call)) c.pass_frames.ensures.run) (one c.write_at-then-scan-ne-SHUT.ensures.call)) (one c.sync-then-scan-ne-SHUT.ensures.call)
+
+pub returns-in_err-sync-2-clause-cause : goal.returns-in_err-sync-2-clause-cause
+returns-in_err-sync-2-clause-cause g c is = rose_since (run_then (run_then (run_then (one c.len.ensures.call) (one c.read.ensures.call)) c.pass_frames.ensures.run) (one c.write_at-then-scan-ne-SHUT.ensures.call)).faults c.in_err-sync-2.ensures.cause
+
+pub returns-clause-run : goal.returns-clause-run
+returns-clause-run g c =
+    let scanned = run_then (run_then (one c.len.ensures.call) (one c.read.ensures.call)) c.pass_frames.ensures.run in
+    elim c.if-scan-ne-SHUT.branch [
+      | then-scan-ne-SHUT+in_ok-write_at-2+in_ok-sync-2 w ↦
+          subst (λ d. RunOn c.args.file (g.D.Disk.state c.args.disk.now) (g.D.Disk.state d)) (sym w.disk-is) (run_then (run_then scanned (one w.write_at-then-scan-ne-SHUT.ensures.call)) (one w.sync-then-scan-ne-SHUT.ensures.call))
+      | else-scan-ne-SHUT w ↦ subst (λ d. RunOn c.args.file (g.D.Disk.state c.args.disk.now) (g.D.Disk.state d)) (sym w.disk-is) scanned
+    ]
+
+pub pass_frames-requires-clause-size : goal.pass_frames-requires-clause-size
+pass_frames-requires-clause-size g c tells2 =
+    let tells1 = subst (λ b. IsTrue b) c.read.ensures.call.tells tells2 in
+    let tells = subst (λ b. IsTrue b) c.len.ensures.call.tells tells1 in
+    c.in_ok-size.ensures.answer tells ∙ ap length (sym (c.read.ensures.same.reads tells1 ∙ c.len.ensures.same.reads tells))
+
+pub write_at-requires-then-scan-ne-SHUT-clause-place : goal.write_at-requires-then-scan-ne-SHUT-clause-place
+write_at-requires-then-scan-ne-SHUT-clause-place g c tells3 =
+    let tells2 = subst (λ b. IsTrue b) c.pass_frames.ensures.run.tells tells3 in
+    let tells1 = subst (λ b. IsTrue b) c.read.ensures.call.tells tells2 in
+    let tells = subst (λ b. IsTrue b) c.len.ensures.call.tells tells1 in
+    omega (arith, c.in_ok-scan.ensures.end, c.in_ok-size.ensures.answer tells, ap length (c.pass_frames.ensures.same.reads tells2), ap length (c.read.ensures.same.reads tells1), ap length (c.len.ensures.same.reads tells))
+
+pub returns-in_err-scan-clause-cause : goal.returns-in_err-scan-clause-cause
+returns-in_err-scan-clause-cause g c is =
+    let first : IsErrOf c.pass_frames.result StoreFault = search rules in
+    rose_since (run_then (one c.len.ensures.call) (one c.read.ensures.call)).faults (c.pass_frames.ensures.cause first)

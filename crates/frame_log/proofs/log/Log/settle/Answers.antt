@@ -1,9 +1,12 @@
-use Rattle.std.proofs.Common.{false, ◌<◌, ◌≡◌, ◌+◌, ◌++◌, [], ◌∷◌, List, ℕ, Some, length, IsTrue, inr, refl, sym, ◌∙◌, ap, subst, arith, get_or, slice_index_or}
+use Rattle.std.proofs.Common.{false, Result, Ok, Err, ◌<◌, ◌≡◌, ◌+◌, ◌++◌, [], ◌∷◌, List, ℕ, Some, length, IsTrue, inr, refl, sym, ◌∙◌, ap, subst, arith, get_or, slice_index_or}
 use Rattle.std.proofs.lemmas.Option.{slice_get-get_or}
-use Rattle.hk_base.specs.Disk.{DiskState, Tells, CallOn, LeavesOnly}
+use Rattle.std.specs.Prelude.{OnErr}
+use Rattle.hk_base.specs.Disk.{DiskState, Tells, CallOn, RunOn, LeavesOnly}
 use Rattle.hk_base.proofs.Runs.{begin, then, weaker}
 use Rattle.frame_log.specs.Format.{IsBeforeOrAfter}
 use Rattle.frame_log.specs.Stands.{front, IsShut, IsReady, Is}
+use Rattle.frame_log.proofs.Goings.{one}
+use Rattle.frame_log.proofs.Openings.{run_then, rose_since}
 use Rattle.frame_log.proofs.Reading.{before_or_after, fit_push, joined, end_push}
 use Rattle.frame_log.proofs.Steps.{gate_torn, gate_leaves, gate_written, ready, shut, byte_read, inside, kept, not_kept, not_shut, long}
 use Rattle.frame_log.proofs.log.Log.settle.Goals.{in-Some, in-None, then-byte-ne-SHUT+in_ok-write_at+in_ok-sync-2, else-byte-ne-SHUT, else-byte-eq-OPEN-via-then-byte-eq-OPEN+else-next-le-LONGEST_FILE, else-byte-eq-OPEN-via-else-byte-eq-OPEN}
@@ -11,6 +14,10 @@ use Rattle.frame_log.proofs.log.Log.settle.Goals as goal
 
 still : {file : ℕ} {old new : DiskState} → CallOn file old new → Tells old → Tells new
 still call tells = subst (λ b. IsTrue b) (sym call.tells) tells
+
+on_err : {T E P : Type 0} (result : Result T E) → P → OnErr result P
+on_err (Ok _) p = tt
+on_err (Err _) p = p
 
 pub returns-in_err-sync-clause-any_moment : goal.returns-in_err-sync-clause-any_moment
 returns-in_err-sync-clause-any_moment g c tells payloads x s =
@@ -304,3 +311,81 @@ returns-clause-kept g c tells =
             | else-byte-eq-OPEN-via-else-byte-eq-OPEN w ↦ absurd (w.if-byte-eq-OPEN.false (byte ∙ one))
           ],
     )
+
+pub returns-in_err-sync-clause-run : goal.returns-in_err-sync-clause-run
+returns-in_err-sync-clause-run g c = one c.sync.ensures.call
+
+pub returns-in_err-read-clause-run : goal.returns-in_err-read-clause-run
+returns-in_err-read-clause-run g c = run_then (one c.sync.ensures.call) (one c.read.ensures.call)
+
+pub returns-then-next-le-LONGEST_FILE-clause-run : goal.returns-then-next-le-LONGEST_FILE-clause-run
+returns-then-next-le-LONGEST_FILE-clause-run g c = run_then (one c.sync.ensures.call) (one c.read.ensures.call)
+
+pub returns-in_err-write_at-clause-run : goal.returns-in_err-write_at-clause-run
+returns-in_err-write_at-clause-run g c = run_then (run_then (one c.sync.ensures.call) (one c.read.ensures.call)) (one c.write_at.ensures.call)
+
+pub returns-in_err-sync-2-clause-run : goal.returns-in_err-sync-2-clause-run
+returns-in_err-sync-2-clause-run g c = run_then (run_then (run_then (one c.sync.ensures.call) (one c.read.ensures.call)) (one c.write_at.ensures.call)) (one c.sync-then-byte-ne-SHUT.ensures.call)
+
+pub returns-clause-run : goal.returns-clause-run
+returns-clause-run g c =
+    let read = run_then (one c.sync.ensures.call) (one c.read.ensures.call) in
+    elim c.if-byte-ne-SHUT.branch [
+      | then-byte-ne-SHUT+in_ok-write_at+in_ok-sync-2 w ↦
+          subst (λ d. RunOn c.args.self.now.file (g.D.Disk.state c.args.disk.now) (g.D.Disk.state d)) (sym w.disk-is) (run_then (run_then read (one w.write_at.ensures.call)) (one w.sync-then-byte-ne-SHUT.ensures.call))
+      | else-byte-ne-SHUT w ↦ subst (λ d. RunOn c.args.self.now.file (g.D.Disk.state c.args.disk.now) (g.D.Disk.state d)) (sym w.disk-is) read
+    ]
+
+pub returns-in_err-sync-clause-cause : goal.returns-in_err-sync-clause-cause
+returns-in_err-sync-clause-cause g c = on_err _ c.in_err-sync.ensures.cause
+
+pub returns-in_err-read-clause-cause : goal.returns-in_err-read-clause-cause
+returns-in_err-read-clause-cause g c = on_err _ (rose_since c.sync.ensures.call.faults c.in_err-read.ensures.cause)
+
+pub returns-in_err-write_at-clause-cause : goal.returns-in_err-write_at-clause-cause
+returns-in_err-write_at-clause-cause g c = on_err _ (rose_since (run_then (one c.sync.ensures.call) (one c.read.ensures.call)).faults c.in_err-write_at.ensures.cause)
+
+pub returns-in_err-sync-2-clause-cause : goal.returns-in_err-sync-2-clause-cause
+returns-in_err-sync-2-clause-cause g c = on_err _ (rose_since (run_then (run_then (one c.sync.ensures.call) (one c.read.ensures.call)) (one c.write_at.ensures.call)).faults c.in_err-sync-2.ensures.cause)
+
+pub returns-in_err-sync-clause-unsettled : goal.returns-in_err-sync-clause-unsettled
+returns-in_err-sync-clause-unsettled g c err tells payloads x s =
+    let F = front c.args.self.now.file payloads in
+    record {
+      sized = s.sized;
+      payload = s.payload;
+      end = s.end;
+      waits = s.waits;
+      reads = subst (Is F (Some x)) (sym (c.sync.ensures.same.reads tells)) s.reads;
+      leaves = λ b h. s.leaves b (c.sync.ensures.same.leaves b h);
+    }
+
+pub returns-in_err-read-clause-unsettled : goal.returns-in_err-read-clause-unsettled
+returns-in_err-read-clause-unsettled g c err tells payloads x s =
+    let F = front c.args.self.now.file payloads in
+    let tells1 = still c.sync.ensures.call tells in
+    record {
+      sized = s.sized;
+      payload = s.payload;
+      end = s.end;
+      waits = s.waits;
+      reads = subst (Is F (Some x)) (sym (c.read.ensures.same.reads tells1 ∙ c.sync.ensures.same.reads tells)) s.reads;
+      leaves = λ b h. s.leaves b (c.sync.ensures.same.leaves b (c.read.ensures.same.leaves b h));
+    }
+
+pub read-requires-clause-place : goal.read-requires-clause-place
+read-requires-clause-place g c tells1 =
+    let tells = subst (λ b. IsTrue b) c.sync.ensures.call.tells tells1 in
+    let was = c.requires.stands tells in
+    let s = was.2 in
+    let F = front c.args.self.now.file was.0 in
+    omega (arith, inside F c.args.self.now.end s.end was.1 _ s.reads, ap length (c.sync.ensures.same.reads tells))
+
+pub write_at-requires-clause-place : goal.write_at-requires-clause-place
+write_at-requires-clause-place g c tells2 =
+    let tells1 = subst (λ b. IsTrue b) c.read.ensures.call.tells tells2 in
+    let tells = subst (λ b. IsTrue b) c.sync.ensures.call.tells tells1 in
+    let was = c.requires.stands tells in
+    let s = was.2 in
+    let F = front c.args.self.now.file was.0 in
+    omega (arith, inside F c.args.self.now.end s.end was.1 _ s.reads, ap length (c.sync.ensures.same.reads tells), ap length (c.read.ensures.same.reads tells1))
