@@ -1,4 +1,4 @@
-"""Loads on the servers of bench/serve: clients that send one kind of request."""
+"""Loads on the servers of bench/serve and bench/beside: clients that send one kind of request."""
 
 import os
 import re

@@ -1,4 +1,4 @@
-"""The requests of bench/serve, and what is right in their responses."""
+"""The requests of bench/serve and bench/beside, and what is right in their responses."""
 
 import base64
 import json

@@ -1,4 +1,4 @@
-"""The servers that bench/serve measures: `hkms serve`, and nginx with a static page, each on a free port of 127.0.0.1."""
+"""The servers that bench/serve and bench/beside measure: `hkms serve`, and nginx with a static page, each on a free port of 127.0.0.1."""
 
 import http.client
 import os
@@ -30,7 +30,7 @@ def processor_seconds(pid):
 
 
 def give_up(why):
-    print(f"bench/serve: {why}", file=sys.stderr)
+    print(f"bench/{os.path.basename(sys.argv[0])}: {why}", file=sys.stderr)
     sys.exit(70)
 
 
