@@ -4,7 +4,7 @@ use Rattle.std.specs.Prelude.{◌==◌, nat_lt}
 use Rattle.std.specs.List.{AllByRecursion}
 use Rattle.std.proofs.lemmas.Bool.Decides.{nat_tests}
 use Rattle.hk_base.specs.declared.names.Edek.{Edek}
-use Rattle.eek_queues.specs.declared.order.Place.{Place}
+use Rattle.eek_queues.specs.declared.order.QueuePlace.{QueuePlace}
 use Rattle.eek_queues.specs.Queues.{Queue, ready_in, has_queue, with_ready, set_ready, dropped, put_queue}
 use Rattle.eek_queues.specs.Order.{with_place, place_of, places_of}
 use Rattle.eek_queues.specs.Kept.{Rising}
@@ -186,7 +186,7 @@ pub places-dropped : (n : ℕ) (qs : List Queue) (birth : ℕ) → Rising qs →
 places-dropped n [] birth r h = cc
 places-dropped n (q ∷ qs) birth r h = go (q.birth == birth) refl h (places-dropped n qs birth r.1)
   where
-    place : List Edek → Place
+    place : List Edek → QueuePlace
     place ready = record { count = length ready; birth = birth }
 
     go : (t : Bool) → (q.birth == birth) ≡ t → cond t true (has_queue qs birth) ≡ true

@@ -3,18 +3,18 @@ use Rattle.std.proofs.Common.{◌≡◌, ℕ, ◌<◌, ◌≤◌, zero, suc, Boo
 use Rattle.std.specs.Prelude.{◌==◌, nat_lt, slice_get, All, IsNone}
 use Rattle.std.specs.Option.{option_map}
 use Rattle.std.proofs.lemmas.Bool.Decides.{nat_tests}
-use Rattle.eek_queues.specs.declared.order.Place.{Place}
+use Rattle.eek_queues.specs.declared.order.QueuePlace.{QueuePlace}
 use Rattle.eek_queues.specs.Queues.{IsLowest, Queue, is_lower, lower_of, lowest, put, ready_in}
 use Rattle.eek_queues.specs.Order.{is_before, place_of, places_of}
 use Rattle.eek_queues.specs.Kept.{Rising}
 use Rattle.eek_queues.proofs.Before.{before-along, before-back, before-self}
 use Rattle.eek_queues.proofs.Births.{has-at, ready-at}
 
-first_of : Place → Option Place → Place
+first_of : QueuePlace → Option QueuePlace → QueuePlace
 first_of p None = p
 first_of p (Some x) = cond (is_before x p) x p
 
-head-put : (p : Place) (ps : List Place) → slice_get (put is_before p ps) 0 ≡ Some (first_of p (slice_get ps 0))
+head-put : (p : QueuePlace) (ps : List QueuePlace) → slice_get (put is_before p ps) 0 ≡ Some (first_of p (slice_get ps 0))
 unfolding first_of
 head-put p [] = refl
 head-put p (x ∷ xs) = go (is_before x p)
@@ -41,7 +41,7 @@ first-place n (q ∷ qs) = go (nat_lt (length q.ready) n) (first-place n qs)
     go true ih = head-put (place_of q) (places_of n qs) ∙ ap (λ o. Some (first_of (place_of q) o)) ih ∙ ap Some (first-lower q (lowest n qs))
     go false ih = ih
 
-pub birth-of-place : (o : Option Queue) → option_map (λ (p : Place). p.birth) (option_map place_of o) ≡ option_map (λ (q : Queue). q.birth) o
+pub birth-of-place : (o : Option Queue) → option_map (λ (p : QueuePlace). p.birth) (option_map place_of o) ≡ option_map (λ (q : Queue). q.birth) o
 birth-of-place None = refl
 birth-of-place (Some q) = refl
 

@@ -8,7 +8,7 @@ use Rattle.std.proofs.lemmas.Bool.{cases_lt}
 use Rattle.std.proofs.lemmas.List.{drop_all, get_or-map, length-map, length-set, map-set}
 use Rattle.circular_buffer.specs.Buffer.{Buffer, buffer}
 use Rattle.hk_base.specs.declared.names.Edek.{Edek}
-use Rattle.eek_queues.specs.declared.order.Place.{Place}
+use Rattle.eek_queues.specs.declared.order.QueuePlace.{QueuePlace}
 use Rattle.eek_queues.specs.declared.rings.Ring.{Ring}
 use Rattle.eek_queues.specs.Queues.{AllQueues, Queue, ready_in, has_queue, set_ready, dropped, put, put_queue}
 use Rattle.eek_queues.specs.Order.{Stands, is_before, with_place, place_of, places_of}
@@ -181,7 +181,7 @@ module _ (P : Ring → Type 0) where
 
 -- ---- the number of places
 
-length-with : (n : ℕ) (place : Place) (ps : List Place) → length (with_place n place ps) ≤ suc (length ps)
+length-with : (n : ℕ) (place : QueuePlace) (ps : List QueuePlace) → length (with_place n place ps) ≤ suc (length ps)
 length-with n place ps = go (nat_lt place.count n)
   where
     go : (t : Bool) → length (cond t (put is_before place ps) ps) ≤ suc (length ps)
@@ -211,7 +211,7 @@ fewer-dropped (q ∷ qs) birth h = go (q.birth == birth) h (fewer-dropped qs bir
 
 -- ---- the invariant
 
-module _ (size n : ℕ) (rings : List Ring) (places : List Place) (spare : ℕ) (k : IsKept size n rings places spare) where
+module _ (size n : ℕ) (rings : List Ring) (places : List QueuePlace) (spare : ℕ) (k : IsKept size n rings places spare) where
   pub room-at : (birth at : ℕ) (ring : Ring) → IsAt rings birth at ring → ring.ready.capacity ≡ size
   room-at birth at ring h = ap (λ (r : Ring). r.ready.capacity) h.here ∙ all-at (λ r. r.ready.capacity ≡ size) rings at ring k.sized h.within
 
@@ -229,7 +229,7 @@ module _ (size n : ℕ) (rings : List Ring) (places : List Place) (spare : ℕ) 
         room = omega (arith, length-places_of n (dropped (queues_of rings) birth), fewer-dropped (queues_of rings) birth h, length-map rings queue_of, k.room);
       }
 
-  pub kept-set : (birth at : ℕ) (ring new : Ring) (count : ℕ) (n' : ℕ) (places' : List Place) (spare' : ℕ) → IsAt rings birth at ring → new.birth ≡ birth → new.ready.capacity ≡ size → count ≡ length new.ready.items
+  pub kept-set : (birth at : ℕ) (ring new : Ring) (count : ℕ) (n' : ℕ) (places' : List QueuePlace) (spare' : ℕ) → IsAt rings birth at ring → new.birth ≡ birth → new.ready.capacity ≡ size → count ≡ length new.ready.items
       → n' ≡ n → places' ≡ with_place n (record { count = count; birth = birth }) (places_of n (dropped (queues_of rings) birth)) → spare ≤ spare' → IsKept size n' (set rings at new) places' spare'
   kept-set birth at ring new count n' places' spare' h b c e m p s =
       let is : queues_of (set rings at new) ≡ set_ready (queues_of rings) birth new.ready.items = set-ring rings birth at ring h new b in
@@ -243,7 +243,7 @@ module _ (size n : ℕ) (rings : List Ring) (places : List Place) (spare : ℕ) 
         room = omega (arith, length-set rings at new, k.room, s);
       }
 
-  pub kept-remove : (birth at : ℕ) (ring : Ring) (n' : ℕ) (places' : List Place) (spare' : ℕ) → IsAt rings birth at ring → n' ≡ n → places' ≡ places_of n (dropped (queues_of rings) birth) → spare ≤ spare' → IsKept size n' (remove rings at) places' spare'
+  pub kept-remove : (birth at : ℕ) (ring : Ring) (n' : ℕ) (places' : List QueuePlace) (spare' : ℕ) → IsAt rings birth at ring → n' ≡ n → places' ≡ places_of n (dropped (queues_of rings) birth) → spare ≤ spare' → IsKept size n' (remove rings at) places' spare'
   kept-remove birth at ring n' places' spare' h m p s =
       let is : queues_of (remove rings at) ≡ dropped (queues_of rings) birth = remove-ring rings birth at ring h in
       record {
@@ -253,7 +253,7 @@ module _ (size n : ℕ) (rings : List Ring) (places : List Place) (spare : ℕ) 
         room = omega (arith, length-map (remove rings at) queue_of, length-map rings queue_of, ap length is, length-dropped (queues_of rings) birth, k.room, s);
       }
 
-  pub kept-insert : (at : ℕ) (new : Ring) (n' : ℕ) (places' : List Place) (spare' : ℕ) → has_queue (queues_of rings) new.birth ≡ false → at ≤ length rings → PartedAt rings new.birth at → new.ready.capacity ≡ size
+  pub kept-insert : (at : ℕ) (new : Ring) (n' : ℕ) (places' : List QueuePlace) (spare' : ℕ) → has_queue (queues_of rings) new.birth ≡ false → at ≤ length rings → PartedAt rings new.birth at → new.ready.capacity ≡ size
       → n' ≡ n → places' ≡ with_place n (place_of (queue_of new)) places → suc (length rings) ≤ spare' → IsKept size n' (insert rings at new) places' spare'
   kept-insert at new n' places' spare' h b part c m p s =
       let is : queues_of (insert rings at new) ≡ put_queue (queue_of new) (queues_of rings) = insert-ring rings at new b part in

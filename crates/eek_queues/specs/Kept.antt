@@ -1,7 +1,7 @@
 -- The invariant of the fields of the queues.
 use Rattle.std.specs.Prelude.{◌≡◌, ◌<◌, ◌≤◌, ℕ, List, [], ◌∷◌, length, map}
 use Rattle.std.specs.List.{AllByRecursion}
-use Rattle.eek_queues.specs.declared.order.Place.{Place}
+use Rattle.eek_queues.specs.declared.order.QueuePlace.{QueuePlace}
 use Rattle.eek_queues.specs.declared.rings.Ring.{Ring}
 use Rattle.eek_queues.specs.Queues.{Queue}
 use Rattle.eek_queues.specs.Order.{places_of}
@@ -18,7 +18,7 @@ Rising [] = Unit {0}
 Rising (q ∷ qs) = AllByRecursion (λ r. q.birth < r.birth) qs × Rising qs
 
 -- queues in order of birth, rings of capacity `size`, the places of queues with fewer than n keys, and room for a place of each queue
-pub record IsKept (size n : ℕ) (rings : List Ring) (places : List Place) (spare : ℕ) : Type 0 where
+pub record IsKept (size n : ℕ) (rings : List Ring) (places : List QueuePlace) (spare : ℕ) : Type 0 where
   pub rising : Rising (queues_of rings)
   pub sized : AllByRecursion (λ r. r.ready.capacity ≡ size) rings
   pub order : places ≡ places_of n (queues_of rings)

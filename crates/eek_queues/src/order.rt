@@ -8,13 +8,13 @@ use std::alloc::Global;
 
 /// The place of a queue in the order: how many ready keys it has, and the birth of its key.
 #[derive(Clone, Copy)]
-pub struct Place {
+pub struct QueuePlace {
     pub count: u16,
     pub birth: u64,
 }
 
-impl Place {
-    pub fn is_before(&self, other: &Place) -> bool
+impl QueuePlace {
+    pub fn is_before(&self, other: &QueuePlace) -> bool
         ensures { result ≡ is_before self.now other.now }
     {
         if self.count == other.count {
@@ -27,18 +27,18 @@ impl Place {
 
 /// The places of the low queues. A queue is low if it has fewer ready keys than `limit`.
 #[derive(Drop)]
-pub struct Order {
+pub struct FillOrder {
     pub limit: u16,
-    pub places: Vec<Place>,
+    pub places: Vec<QueuePlace>,
 }
 
-impl Order {
+impl FillOrder {
     /// Creates an order without places. It does not allocate.
-    pub fn new(alloc: Global, limit: u16) -> Order
+    pub fn new(alloc: Global, limit: u16) -> FillOrder
         ensures limit { result.limit ≡ limit }
         ensures places { result.places.items ≡ [] }
     {
-        Order {
+        FillOrder {
             limit,
             places: Vec::new(alloc),
         }
@@ -58,14 +58,14 @@ impl Order {
     }
 
     /// Returns the first place, or `None` if no queue is low.
-    pub fn first(&self) -> Option<Place>
+    pub fn first(&self) -> Option<QueuePlace>
         ensures { result ≡ slice_get self.now.places.items 0 }
     {
         self.places.first().copied()
     }
 
     /// Adds a queue at its place in the order if it is low. It does not allocate.
-    pub fn enter(&mut self, place: Place)
+    pub fn enter(&mut self, place: QueuePlace)
         requires order { InOrder self.old.places.items }
         requires room { length self.old.places.items < vec_capacity self.old.places }
         ensures places { self.new.places.items ≡
@@ -80,10 +80,10 @@ impl Order {
     }
 
     /// Removes a queue from its place in the order if it is low. It does not allocate.
-    pub fn leave(&mut self, place: Place)
+    pub fn leave(&mut self, place: QueuePlace)
         requires { Stands self.old.limit place self.old.places.items
             (vec_capacity self.old.places) }
-        ensures places { (others : List Place) →
+        ensures places { (others : List QueuePlace) →
             self.old.places.items ≡ with_place self.old.limit place others →
             self.new.places.items ≡ others }
         ensures limit { self.new.limit ≡ self.old.limit }
@@ -96,9 +96,9 @@ impl Order {
     }
 
     /// Moves a queue from its place to another. It does not allocate.
-    pub fn follow(&mut self, from: Place, to: Place)
+    pub fn follow(&mut self, from: QueuePlace, to: QueuePlace)
         requires { Stands self.old.limit from self.old.places.items (vec_capacity self.old.places) }
-        ensures places { (others : List Place) →
+        ensures places { (others : List QueuePlace) →
             self.old.places.items ≡ with_place self.old.limit from others →
             self.new.places.items ≡ with_place self.old.limit to others }
         ensures limit { self.new.limit ≡ self.old.limit }
@@ -110,7 +110,7 @@ impl Order {
 }
 
 /// Returns how many places are before a place.
-fn place_in(places: &Vec<Place>, place: Place) -> usize
+fn place_in(places: &Vec<QueuePlace>, place: QueuePlace) -> usize
     requires { InOrder places.now.items }
     ensures most { result ≤ length places.now.items }
     ensures parted { IsPartitionPoint (λ p. is_before p place ≡ true)

@@ -3,7 +3,7 @@ ghost use Rattle.std.specs.Prelude.{◌≡◌, ◌-◌, ◌↔◌, ◌∷◌, �
 ghost use Rattle.std.specs.Option.{option_map};
 ghost use Rattle.eek_queues.specs.Queues.{IsLowest, dropped, has_queue, limit, lowest, put_queue, ready_in, set_ready};
 
-use crate::order::{Order, Place};
+use crate::order::{FillOrder, QueuePlace};
 use crate::rings::{Ring, find, place_of_birth};
 use circular_buffer::HeapCircularBuffer;
 use hk_base::{Edek, NoMemory};
@@ -22,7 +22,7 @@ pub struct Queues {
     size: u16,
     watermark: u16,
     rings: Vec<Ring>,
-    order: Order,
+    order: FillOrder,
 }
 
 impl Model for Queues {
@@ -51,7 +51,7 @@ impl Queues {
             size,
             watermark,
             rings: Vec::new(alloc),
-            order: Order::new(alloc, watermark.min(size)),
+            order: FillOrder::new(alloc, watermark.min(size)),
         }
     }
 
@@ -123,7 +123,7 @@ impl Queues {
         let ready = HeapCircularBuffer::with_capacity(self.alloc, self.size as usize)?;
         let at = place_of_birth(&self.rings, birth);
         self.rings.insert(at, Ring { birth, ready })?;
-        self.order.enter(Place { count: 0, birth });
+        self.order.enter(QueuePlace { count: 0, birth });
         Ok(())
     }
 
@@ -142,8 +142,8 @@ impl Queues {
         let count = ring.ready.len() as u16;
         match ring.ready.pop_front() {
             Some(ready) => {
-                let from = Place { count, birth };
-                let to = Place {
+                let from = QueuePlace { count, birth };
+                let to = QueuePlace {
                     count: count - 1,
                     birth,
                 };
@@ -166,11 +166,11 @@ impl Queues {
             let ring = &mut self.rings[at];
             let held = ring.ready.len();
             let left = held.saturating_sub(count);
-            let from = Place {
+            let from = QueuePlace {
                 count: held as u16,
                 birth,
             };
-            let to = Place {
+            let to = QueuePlace {
                 count: left as u16,
                 birth,
             };
@@ -197,8 +197,8 @@ impl Queues {
         let count = ring.ready.len() as u16;
         match ring.ready.try_push_back(ready) {
             Ok(()) => {
-                let from = Place { count, birth };
-                let to = Place {
+                let from = QueuePlace { count, birth };
+                let to = QueuePlace {
                     count: count + 1,
                     birth,
                 };
@@ -215,11 +215,11 @@ impl Queues {
     {
         if let Some(at) = find(&self.rings, birth) {
             let ring = &mut self.rings[at];
-            let from = Place {
+            let from = QueuePlace {
                 count: ring.ready.len() as u16,
                 birth,
             };
-            let emptied = Place { count: 0, birth };
+            let emptied = QueuePlace { count: 0, birth };
             ring.ready.clear();
             self.order.follow(from, emptied);
         }
@@ -231,7 +231,7 @@ impl Queues {
     {
         if let Some(at) = find(&self.rings, birth) {
             let ring = self.rings.remove(at);
-            let place = Place {
+            let place = QueuePlace {
                 count: ring.ready.len() as u16,
                 birth,
             };

@@ -7,7 +7,7 @@ use crate::holds::{Holds, answer_meeting};
 use crate::naming::Naming;
 use crate::pass::Pass;
 use crate::seats::{
-    Place, ViewOf, Word, add_entry, has_room, learn, new_seat, return_turn, take_turn,
+    SeatOf, ViewOf, Word, add_entry, has_room, learn, new_seat, return_turn, take_turn,
 };
 use atomic_table::Badge;
 use std::alloc::AllocError;
@@ -48,7 +48,7 @@ impl<C: Core, N: Naming> Locked<C, N> {
         requires alone { C.alone call }
         ensures { MakesEntryOn C.step C.allows self.old pass.old call result pass.new self.new }
     {
-        let turn: Place<C> = mem::replace(&mut self.turn, Badge::blank()).into_seat();
+        let turn: SeatOf<C> = mem::replace(&mut self.turn, Badge::blank()).into_seat();
         take_turn(word, &mut pass.seat, turn);
         let count = has_room(rt, word, &mut pass.seat);
         let was = Snapshot::of(&call);
@@ -65,7 +65,7 @@ impl<C: Core, N: Naming> Locked<C, N> {
         ensures same { pass.new ≡ pass.old }
         ensures new { Splits pass.old result }
     {
-        let turn: Place<C> = mem::replace(&mut self.turn, Badge::blank()).into_seat();
+        let turn: SeatOf<C> = mem::replace(&mut self.turn, Badge::blank()).into_seat();
         take_turn(word, &mut pass.seat, turn);
         learn(word, &mut pass.seat);
         let seat = new_seat(word, &mut pass.seat);
@@ -113,7 +113,7 @@ impl<C: Core, N: Naming> Locked<C, N> {
             self.new }
         ensures meets { (met : C) × C.takes self.old with met × C.acts met call result self.new }
     {
-        let turn: Place<C> = mem::replace(&mut self.turn, Badge::blank()).into_seat();
+        let turn: SeatOf<C> = mem::replace(&mut self.turn, Badge::blank()).into_seat();
         take_turn(word, &mut pass.seat, turn);
         let count = has_room(rt, word, &mut pass.seat);
         let was = Snapshot::of(&call);

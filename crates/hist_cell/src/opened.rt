@@ -7,7 +7,7 @@ use crate::locked::Locked;
 use crate::naming::Naming;
 use crate::pass::Pass;
 use crate::rule::HistoryRule;
-use crate::seats::{Place, ViewOf, new_seat};
+use crate::seats::{SeatOf, ViewOf, new_seat};
 use atomic_table::Table;
 use std::alloc::{AllocError, Global};
 use std::marker::{Model, PhantomData};
@@ -18,7 +18,7 @@ use std::sync::Mutex;
 #[derive(Drop)]
 pub struct Opened<C: Core> {
     table: Table<(), ViewOf<C>, Snapshot<C>, HistoryRule<C>, Global>,
-    turn: Place<C>,
+    turn: SeatOf<C>,
     core: C,
 }
 

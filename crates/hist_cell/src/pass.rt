@@ -4,14 +4,14 @@ ghost use Rattle.hist_cell.specs.History.{LegalOf};
 
 use crate::cores::Core;
 use crate::naming::Naming;
-use crate::seats::Place;
+use crate::seats::SeatOf;
 use std::marker::{Model, PhantomData};
 
 /// What a caller has seen of a cell. Contracts see its number, its ended numbers, the state in which
 /// the cell was made, and the history so far.
 #[derive(Drop)]
 pub struct Pass<C: Core, N: Naming> {
-    pub(crate) seat: Place<C>,
+    pub(crate) seat: SeatOf<C>,
     pub(crate) count: u64,
     pub(crate) of: PhantomData<N>,
 }

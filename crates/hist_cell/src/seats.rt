@@ -23,12 +23,12 @@ pub type ViewOf<C> = View<<C as Core>::Call, <C as Core>::Reply, C>;
 pub type Word<C> = Shared<(), ViewOf<C>, Snapshot<C>, HistoryRule<C>>;
 
 /// A seat at the history word.
-pub type Place<C> = Seat<(), ViewOf<C>>;
+pub type SeatOf<C> = Seat<(), ViewOf<C>>;
 
 /// Adds the entry of a call to the history. The seat must have the turn.
 pub fn commit<C: Core, W: AddsEntry<EntryOf<C>>>(
     word: &Word<C>,
-    seat: &mut Place<C>,
+    seat: &mut SeatOf<C>,
     _call: &Snapshot<C::Call>,
     _reply: &C::Reply,
     _core: &C,
@@ -49,7 +49,7 @@ pub fn commit<C: Core, W: AddsEntry<EntryOf<C>>>(
 }
 
 /// Reads the number of entries, which tells what the rule says of the view.
-pub fn learn<C: Core>(word: &Word<C>, seat: &mut Place<C>) -> u64
+pub fn learn<C: Core>(word: &Word<C>, seat: &mut SeatOf<C>) -> u64
     requires seat { (seat.old.table_id ≡ word.now.table_id) × (0 < word.now.table_id.words) }
     ensures same { (seat.new.table_id ≡ seat.old.table_id) × (seat.new.id ≡ seat.old.id) ×
         (seat.new.me ≡ seat.old.me) }
@@ -59,7 +59,7 @@ pub fn learn<C: Core>(word: &Word<C>, seat: &mut Place<C>) -> u64
 }
 
 /// Takes the turn. The view has then seen the whole history.
-pub fn take_turn<C: Core>(word: &Word<C>, seat: &mut Place<C>, turn: Place<C>)
+pub fn take_turn<C: Core>(word: &Word<C>, seat: &mut SeatOf<C>, turn: SeatOf<C>)
     requires seat { (seat.old.table_id ≡ word.now.table_id) × (0 < word.now.table_id.words) }
     requires turn { (turn.table_id ≡ word.now.table_id) × (turn.me.1 ≡ []) ×
         (turn.me.0.turn ≡ true) }
@@ -71,7 +71,7 @@ pub fn take_turn<C: Core>(word: &Word<C>, seat: &mut Place<C>, turn: Place<C>)
 }
 
 /// Joins the view of another pass to one's own.
-pub fn join_view<C: Core>(word: &Word<C>, seat: &mut Place<C>, other: Place<C>)
+pub fn join_view<C: Core>(word: &Word<C>, seat: &mut SeatOf<C>, other: SeatOf<C>)
     requires seat { (seat.old.table_id ≡ word.now.table_id) × (0 < word.now.table_id.words) }
     requires other { (other.table_id ≡ word.now.table_id) × (other.me.1 ≡ []) }
     requires alive { (seat.old.me.0.spent ≡ false) × (other.me.0.spent ≡ false) }
@@ -82,7 +82,7 @@ pub fn join_view<C: Core>(word: &Word<C>, seat: &mut Place<C>, other: Place<C>)
 }
 
 /// Gives the turn back. The view keeps what it has seen.
-pub fn give_turn<C: Core>(word: &Word<C>, seat: &mut Place<C>) -> Place<C>
+pub fn give_turn<C: Core>(word: &Word<C>, seat: &mut SeatOf<C>) -> SeatOf<C>
     requires seat { (seat.old.table_id ≡ word.now.table_id) × (0 < word.now.table_id.words) }
     requires turn { seat.old.me.0.turn ≡ true }
     ensures mine { (seat.new.table_id ≡ seat.old.table_id) × (seat.new.id ≡ seat.old.id) ×
@@ -96,11 +96,11 @@ pub fn give_turn<C: Core>(word: &Word<C>, seat: &mut Place<C>) -> Place<C>
 /// Adds the entry of a call to the history, and gives the turn back. The view keeps what it has seen.
 pub fn add_entry<C: Core>(
     word: &Word<C>,
-    seat: &mut Place<C>,
+    seat: &mut SeatOf<C>,
     call: &Snapshot<C::Call>,
     reply: &C::Reply,
     core: &C,
-) -> Place<C>
+) -> SeatOf<C>
     requires seat { (seat.old.table_id ≡ word.now.table_id) × (0 < word.now.table_id.words) ×
         (seat.old.me.1 ≡ []) }
     requires turn { (seat.old.me.0.turn ≡ true) × (length seat.old.me.0.seen + 1 < 2 ^ 64) }
@@ -129,7 +129,7 @@ pub fn add_entry<C: Core>(
 }
 
 /// Gives the turn back. The view is what it was before it took the turn.
-pub fn return_turn<C: Core>(word: &Word<C>, seat: &mut Place<C>) -> Place<C>
+pub fn return_turn<C: Core>(word: &Word<C>, seat: &mut SeatOf<C>) -> SeatOf<C>
     requires seat { (seat.old.table_id ≡ word.now.table_id) × (0 < word.now.table_id.words) }
     requires turn { seat.old.me.0.turn ≡ true }
     requires held { seat.old.me.0.held ≡ seat.old.me.0.numbers }
@@ -142,7 +142,7 @@ pub fn return_turn<C: Core>(word: &Word<C>, seat: &mut Place<C>) -> Place<C>
 }
 
 /// Creates the seat of a new pass, which has seen what this one had before it took the turn.
-pub fn new_seat<C: Core>(word: &Word<C>, seat: &mut Place<C>) -> Place<C>
+pub fn new_seat<C: Core>(word: &Word<C>, seat: &mut SeatOf<C>) -> SeatOf<C>
     requires seat { (seat.old.table_id ≡ word.now.table_id) × (0 < word.now.table_id.words) }
     requires turn { seat.old.me.0.turn ≡ true }
     ensures mine { (seat.new.table_id ≡ seat.old.table_id) × (seat.new.id ≡ seat.old.id) ×
@@ -154,7 +154,7 @@ pub fn new_seat<C: Core>(word: &Word<C>, seat: &mut Place<C>) -> Place<C>
 }
 
 /// Reads the number of entries. If the history cannot grow, it never returns.
-pub fn has_room<C: Core, R: Wait>(rt: &R, word: &Word<C>, seat: &mut Place<C>) -> u64
+pub fn has_room<C: Core, R: Wait>(rt: &R, word: &Word<C>, seat: &mut SeatOf<C>) -> u64
     requires seat { (seat.old.table_id ≡ word.now.table_id) × (0 < word.now.table_id.words) }
     requires turn { seat.old.me.0.turn ≡ true }
     ensures same { (seat.new.table_id ≡ seat.old.table_id) × (seat.new.id ≡ seat.old.id) ×

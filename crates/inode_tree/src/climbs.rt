@@ -8,7 +8,7 @@ ghost use Rattle.std.specs.Ordering.{nat_cmp};
 use crate::names::NodeName;
 use crate::near::Near;
 use crate::nodes::Nodes;
-use crate::order::Order;
+use crate::order::RowOrder;
 use crate::rows::Link;
 use hk_base::Text;
 use name_calls::NPath;
@@ -129,7 +129,7 @@ struct Span {
 /// span. The row is found at once if it lies in the piece `c` of the order.
 fn narrow(
     nodes: &Nodes,
-    order: &Order,
+    order: &RowOrder,
     path: &NPath,
     upto: usize,
     near: Near,
@@ -172,7 +172,7 @@ fn narrow(
 }
 
 /// Returns the number of pieces to search for a place in a span: none if only one place is left.
-fn pieces_for(order: &Order, span: Span) -> usize {
+fn pieces_for(order: &RowOrder, span: Span) -> usize {
     if span.low < span.high {
         return order.pieces();
     }
@@ -183,7 +183,7 @@ fn pieces_for(order: &Order, span: Span) -> usize {
 /// after `last` first.
 pub fn place_from(
     nodes: &Nodes,
-    order: &Order,
+    order: &RowOrder,
     last: usize,
     path: &NPath,
     upto: usize,
@@ -264,7 +264,7 @@ fn place_between(low: usize, high: usize, width: usize) -> usize
 
 /// Returns how many rows come before the path, are at the path or lie below it. The search takes long steps
 /// only if there are many more of them than `from`.
-pub fn past(nodes: &Nodes, order: &Order, path: &NPath, from: usize) -> usize
+pub fn past(nodes: &Nodes, order: &RowOrder, path: &NPath, from: usize) -> usize
     requires linked { IsLinked nodes.now.items }
     requires within { AllWithin (length nodes.now.items) order.now.items }
     requires rising { IsRising (rows_of nodes.now.items order.now.items) }

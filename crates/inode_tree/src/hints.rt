@@ -7,7 +7,7 @@ use crate::climbs::place_from;
 use crate::names::NodeName;
 use crate::near::{Near, near_at};
 use crate::nodes::Nodes;
-use crate::order::Order;
+use crate::order::RowOrder;
 use crate::rows::Link;
 use hk_base::Text;
 use name_calls::NPath;
@@ -160,7 +160,7 @@ fn child(slots: &Vec<u32>, nodes: &Nodes, parent: u32, name: &Text) -> Option<u3
 }
 
 /// Returns a node if it has a name, and so is that of a row, else the root.
-fn live_or_root(nodes: &Nodes, order: &Order, n: u32) -> u32
+fn live_or_root(nodes: &Nodes, order: &RowOrder, n: u32) -> u32
     requires tree { (ids : ℕ → Option ℕ) × IsTree nodes.now.items order.now.items ids }
     ensures { IsLive order.now.items result }
 {
@@ -187,7 +187,7 @@ fn has_name(link: &Link, path: &NPath, k: usize, upto: usize) -> bool
 
 /// Returns the deepest node at a prefix of the path that is the expected node or lies above it. That of
 /// the root if the node has changed since.
-fn expected(nodes: &Nodes, order: &Order, hints: &Hints, path: &NPath, upto: usize) -> Near
+fn expected(nodes: &Nodes, order: &RowOrder, hints: &Hints, path: &NPath, upto: usize) -> Near
     requires tree { (ids : ℕ → Option ℕ) × IsTree nodes.now.items order.now.items ids }
     requires upto { upto ≤ length path.now }
     ensures near { IsNear nodes.now.items path.now result }
@@ -218,7 +218,7 @@ fn expected(nodes: &Nodes, order: &Order, hints: &Hints, path: &NPath, upto: usi
 
 /// Follows the first `upto` names of a path, as long as the nodes are noted. Returns the last of these
 /// nodes.
-pub fn follow(nodes: &Nodes, order: &Order, hints: &Hints, path: &NPath, upto: usize) -> Near
+pub fn follow(nodes: &Nodes, order: &RowOrder, hints: &Hints, path: &NPath, upto: usize) -> Near
     requires tree { (ids : ℕ → Option ℕ) × IsTree nodes.now.items order.now.items ids }
     requires upto { upto ≤ length path.now }
     ensures near { IsNear nodes.now.items path.now result }
@@ -239,7 +239,7 @@ pub fn follow(nodes: &Nodes, order: &Order, hints: &Hints, path: &NPath, upto: u
 }
 
 /// Returns how many rows come before the path formed by the first `upto` names of `path`.
-pub fn place(nodes: &Nodes, order: &Order, hints: &Hints, path: &NPath, upto: usize) -> usize
+pub fn place(nodes: &Nodes, order: &RowOrder, hints: &Hints, path: &NPath, upto: usize) -> usize
     requires tree { (ids : ℕ → Option ℕ) × IsTree nodes.now.items order.now.items ids }
     requires upto { upto ≤ length path.now }
     ensures { result ≡ rank (rows_of nodes.now.items order.now.items) (take upto path.now) }
@@ -255,7 +255,7 @@ pub fn place(nodes: &Nodes, order: &Order, hints: &Hints, path: &NPath, upto: us
 }
 
 /// Notes that a path is likely to be looked for next.
-pub fn expect(nodes: &Nodes, order: &Order, hints: &mut Hints, path: &NPath)
+pub fn expect(nodes: &Nodes, order: &RowOrder, hints: &mut Hints, path: &NPath)
     requires tree { (ids : ℕ → Option ℕ) × IsTree nodes.now.items order.now.items ids }
 {
     let upto = path.len();
@@ -267,7 +267,7 @@ pub fn expect(nodes: &Nodes, order: &Order, hints: &mut Hints, path: &NPath)
 /// Returns the same as `place`, by comparing from a near node on.
 pub fn place_near(
     nodes: &Nodes,
-    order: &Order,
+    order: &RowOrder,
     hints: &Hints,
     path: &NPath,
     upto: usize,

@@ -3,7 +3,7 @@ ghost use Rattle.std.specs.Prelude.{ℕ, Option, ◌≡◌, ◌≤◌, length, t
 ghost use Rattle.inode_tree.specs.Arena.{IsLive, IsNear, IsTree, path_of};
 
 use crate::nodes::Nodes;
-use crate::order::Order;
+use crate::order::RowOrder;
 use name_calls::NPath;
 
 /// A node whose path is the first `depth` names of a path, and the node above it. Other nodes are compared
@@ -29,7 +29,7 @@ impl Near {
 }
 
 /// Returns a node, whose path is the first `depth` names of `path`, with the node above it.
-pub fn near_at(nodes: &Nodes, order: &Order, path: &NPath, n: u32, depth: usize) -> Near
+pub fn near_at(nodes: &Nodes, order: &RowOrder, path: &NPath, n: u32, depth: usize) -> Near
     requires tree { (ids : ℕ → Option ℕ) × IsTree nodes.now.items order.now.items ids }
     requires live { IsLive order.now.items n }
     requires path { path_of nodes.now.items n ≡ take depth path.now }

@@ -94,8 +94,10 @@ fn copy(from: &[u32], into: &mut Vec<u32>)
     }
 }
 
+/// The nodes of all rows, by number, in path order. It is kept in pieces, so that a row is put in or
+/// taken out without moving all that come after it.
 #[derive(Drop)]
-pub struct Order {
+pub struct RowOrder {
     alloc: Global,
     pieces: Vec<Piece>,
     starts: Vec<u32>,
@@ -103,7 +105,7 @@ pub struct Order {
     extra: Vec<Piece>,
 }
 
-impl Model for Order {
+impl Model for RowOrder {
     ghost use Rattle.std.specs.Prelude.{◌≡◌, ◌+◌, ◌&&◌, nat_le, length, if◌then◌else◌};
     ghost use Rattle.std.specs.Vec.{vec_len, vec_capacity};
     ghost use Rattle.inode_tree.specs.Listed.{AreEmpty, Listed, flat, starts_of};
@@ -266,11 +268,11 @@ fn part(pieces: &mut Vec<Piece>, starts: &mut Vec<u32>, c: usize, k: usize, empt
     renumber(pieces, starts, c);
 }
 
-impl Order {
-    pub fn new(alloc: Global) -> Order
+impl RowOrder {
+    pub fn new(alloc: Global) -> RowOrder
         ensures { result.items ≡ [] }
     {
-        Order {
+        RowOrder {
             alloc,
             pieces: Vec::new(alloc),
             starts: Vec::new(alloc),

@@ -21,7 +21,7 @@ use crate::hints::{Hints, expect, follow, place, place_near};
 use crate::names::{NodeName, copy_of, name_in};
 use crate::near::Near;
 use crate::nodes::Nodes;
-use crate::order::Order;
+use crate::order::RowOrder;
 use crate::rows::{Kind, Node, Row};
 use crate::zones::zone_at;
 pub use by_place::PlacedRow;
@@ -46,7 +46,7 @@ pub const MOST_ROWS: u32 = 1_000_000;
 pub struct Tree {
     alloc: Global,
     nodes: Nodes,
-    order: Order,
+    order: RowOrder,
     places: HashMap<u64, u32>,
     free: Vec<u32>,
     ready: String,
@@ -79,7 +79,7 @@ impl Tree {
         ensures { IfOk result (λ tree. tree.rows ≡ root_only) }
     {
         let mut nodes = Nodes::new(alloc);
-        let mut order = Order::new(alloc);
+        let mut order = RowOrder::new(alloc);
         let mut places = HashMap::new(alloc);
         let mut free = Vec::new(alloc);
         reserve_root(&mut nodes, &mut order, &mut places, &mut free)?;
@@ -295,7 +295,13 @@ impl Tree {
 }
 
 /// Returns the number of the row at the first `upto` names of a path.
-pub fn seek(nodes: &Nodes, order: &Order, hints: &Hints, path: &NPath, upto: usize) -> Option<u32>
+pub fn seek(
+    nodes: &Nodes,
+    order: &RowOrder,
+    hints: &Hints,
+    path: &NPath,
+    upto: usize,
+) -> Option<u32>
     requires tree { (ids : ℕ → Option ℕ) × IsTree nodes.now.items order.now.items ids }
     requires upto { upto ≤ length path.now }
     ensures { result ≡ number_of nodes.now.items order.now.items (take upto path.now) }
@@ -313,7 +319,7 @@ pub fn seek(nodes: &Nodes, order: &Order, hints: &Hints, path: &NPath, upto: usi
 /// Returns the same as `seek`: the near node if it is at the path, else by a search in the order.
 pub fn search(
     nodes: &Nodes,
-    order: &Order,
+    order: &RowOrder,
     hints: &Hints,
     path: &NPath,
     upto: usize,
@@ -342,7 +348,13 @@ pub fn search(
 }
 
 /// Returns the row at the first `upto` names of a path.
-fn row_upto(nodes: &Nodes, order: &Order, hints: &Hints, path: &NPath, upto: usize) -> Option<Row>
+fn row_upto(
+    nodes: &Nodes,
+    order: &RowOrder,
+    hints: &Hints,
+    path: &NPath,
+    upto: usize,
+) -> Option<Row>
     requires tree { (ids : ℕ → Option ℕ) × IsTree nodes.now.items order.now.items ids }
     requires upto { upto ≤ length path.now }
     ensures { result ≡ row_at (rows_of nodes.now.items order.now.items) (take upto path.now) }
@@ -354,7 +366,7 @@ fn row_upto(nodes: &Nodes, order: &Order, hints: &Hints, path: &NPath, upto: usi
 }
 
 /// Returns whether the row after that of the path, in path order, lies below the path.
-fn next_is_below(nodes: &Nodes, order: &Order, hints: &Hints, path: &NPath) -> bool
+fn next_is_below(nodes: &Nodes, order: &RowOrder, hints: &Hints, path: &NPath) -> bool
     requires tree { (ids : ℕ → Option ℕ) × IsTree nodes.now.items order.now.items ids }
     requires stands { IsSome (number_of nodes.now.items order.now.items path.now) }
     ensures { result ≡ has_children (rows_of nodes.now.items order.now.items) path.now }
@@ -394,7 +406,7 @@ fn blank_node() -> Node
 }
 
 /// Makes a free node if there is none.
-fn provide(nodes: &mut Nodes, order: &Order, free: &mut Vec<u32>) -> Result<(), NoMemory>
+fn provide(nodes: &mut Nodes, order: &RowOrder, free: &mut Vec<u32>) -> Result<(), NoMemory>
     requires tree { (ids : ℕ → Option ℕ) × IsTree nodes.old.items order.now.items ids }
     requires free { IsFree nodes.old.items order.now.items free.old.items }
     requires capacity { length nodes.old.items ≤ vec_capacity free.old }
@@ -423,7 +435,7 @@ fn provide(nodes: &mut Nodes, order: &Order, free: &mut Vec<u32>) -> Result<(), 
 /// fails; the rows are then unchanged.
 fn make_room(
     nodes: &mut Nodes,
-    order: &mut Order,
+    order: &mut RowOrder,
     places: &mut HashMap<u64, u32>,
     free: &mut Vec<u32>,
     ready: &mut String,
@@ -458,7 +470,7 @@ fn give(places: &mut HashMap<u64, u32>, id: u64, n: u32)
 /// Reserves memory for the root. Returns `NoMemory` if allocation fails.
 fn reserve_root(
     nodes: &mut Nodes,
-    order: &mut Order,
+    order: &mut RowOrder,
     places: &mut HashMap<u64, u32>,
     free: &mut Vec<u32>,
 ) -> Result<(), NoMemory>
@@ -478,7 +490,7 @@ fn reserve_root(
 }
 
 /// Adds the root, in reserved memory.
-fn first(nodes: &mut Nodes, order: &mut Order, places: &mut HashMap<u64, u32>)
+fn first(nodes: &mut Nodes, order: &mut RowOrder, places: &mut HashMap<u64, u32>)
     requires nodes { (nodes.old.items ≡ []) × (0 < nodes.old.spare) }
     requires order { (order.old.items ≡ []) × (0 < order.old.spare) }
     requires places { (0 < spare places.old) × ((q : ℕ) → get nat_eq places.old q ≡ None) }
@@ -495,7 +507,7 @@ fn first(nodes: &mut Nodes, order: &mut Order, places: &mut HashMap<u64, u32>)
 /// Adds a row at the place `at`, in reserved memory. Its node is the last of the free ones.
 fn commit(
     nodes: &mut Nodes,
-    order: &mut Order,
+    order: &mut RowOrder,
     places: &mut HashMap<u64, u32>,
     free: &mut Vec<u32>,
     at: usize,
@@ -533,7 +545,7 @@ fn commit(
 fn add(
     alloc: Global,
     nodes: &mut Nodes,
-    order: &mut Order,
+    order: &mut RowOrder,
     places: &mut HashMap<u64, u32>,
     free: &mut Vec<u32>,
     ready: &mut String,
@@ -568,7 +580,7 @@ fn add(
 fn put_in(
     alloc: Global,
     nodes: &mut Nodes,
-    order: &mut Order,
+    order: &mut RowOrder,
     places: &mut HashMap<u64, u32>,
     free: &mut Vec<u32>,
     ready: &mut String,
@@ -603,7 +615,7 @@ fn put_in(
 }
 
 /// Sets the kind of the row with an id. A directory must stay a directory, and a file a file.
-fn set(nodes: &mut Nodes, order: &Order, places: &HashMap<u64, u32>, id: u64, kind: Kind)
+fn set(nodes: &mut Nodes, order: &RowOrder, places: &HashMap<u64, u32>, id: u64, kind: Kind)
     requires tree { IsTree nodes.old.items order.now.items (get nat_eq places.now) }
     requires same { option_map (λ e. is_dir e.row.kind)
         (entry_of (rows_of nodes.old.items order.now.items) id) ≡ Some (is_dir kind) }

@@ -5,7 +5,7 @@ ghost use Rattle.inode_tree.specs.Rows.{zone_id, is_marked};
 
 use crate::hints::{Hints, follow};
 use crate::nodes::Nodes;
-use crate::order::Order;
+use crate::order::RowOrder;
 use crate::rows::{Kind, Row};
 use crate::tree::search;
 use name_calls::NPath;
@@ -21,7 +21,7 @@ fn marked(row: &Row) -> bool
 }
 
 /// Returns the id of the nearest marked directory at or above the node.
-fn zone_above(nodes: &Nodes, order: &Order, n: u32) -> Option<u64>
+fn zone_above(nodes: &Nodes, order: &RowOrder, n: u32) -> Option<u64>
     requires tree { (ids : ℕ → Option ℕ) × IsTree nodes.now.items order.now.items ids }
     requires live { IsLive order.now.items n }
     ensures { result ≡
@@ -45,7 +45,7 @@ fn zone_above(nodes: &Nodes, order: &Order, n: u32) -> Option<u64>
 
 /// Returns the number of the row at the longest prefix of the first `names` names of a path that has
 /// a row. That row lies in the same zone as those names.
-fn standing(nodes: &Nodes, order: &Order, hints: &Hints, path: &NPath, names: usize) -> u32
+fn standing(nodes: &Nodes, order: &RowOrder, hints: &Hints, path: &NPath, names: usize) -> u32
     requires tree { (ids : ℕ → Option ℕ) × IsTree nodes.now.items order.now.items ids }
     requires names { names ≤ length path.now }
     ensures live { IsLive order.now.items result }
@@ -68,7 +68,7 @@ fn standing(nodes: &Nodes, order: &Order, hints: &Hints, path: &NPath, names: us
 /// them.
 pub fn zone_at(
     nodes: &Nodes,
-    order: &Order,
+    order: &RowOrder,
     hints: &Hints,
     path: &NPath,
     names: usize,

@@ -6,7 +6,7 @@ ghost use Rattle.kms_acls.specs.Lists.{users_of};
 ghost use Rattle.kms_acls.specs.Verdict.{given_if, names_user};
 
 use hk_base::NoMemory;
-use prop_text::Names;
+use prop_text::NameSet;
 use std::alloc::Global;
 use std::collections::BTreeMap;
 use std::marker::Model;
@@ -15,7 +15,7 @@ use std::marker::Model;
 #[derive(Drop)]
 pub struct Groups {
     alloc: Global,
-    users: BTreeMap<Vec<u8>, Names>,
+    users: BTreeMap<Vec<u8>, NameSet>,
 }
 
 impl Model for Groups {
@@ -39,7 +39,7 @@ impl Groups {
 
     /// Adds a group, unless there is one with this name. Takes time logarithmic in the number of
     /// groups.
-    pub fn add(&mut self, group: &[u8], users: Names) -> Result<(), NoMemory>
+    pub fn add(&mut self, group: &[u8], users: NameSet) -> Result<(), NoMemory>
         ensures { OnOk result
             ((other : List ℕ) →
             users_of other self.new ≡

@@ -4,23 +4,23 @@ ghost use Rattle.prop_text.specs.Properties.{is_among};
 ghost use Rattle.kms_acls.specs.Lists.{acl_meaning, members_meaning};
 
 use hk_base::{NoMemory, Text};
-use prop_text::{Acl, Names, TextList};
+use prop_text::{Acl, NameSet, TextList};
 use std::alloc::Global;
 
 /// A list of users and groups, with its users in a set.
 #[derive(Drop)]
 pub struct Members {
     pub everybody: bool,
-    pub users: Names,
+    pub users: NameSet,
     pub groups: TextList,
 }
 
 /// Returns the names of a list as a set.
-pub fn set_of(alloc: Global, texts: &TextList) -> Result<Names, NoMemory>
+pub fn set_of(alloc: Global, texts: &TextList) -> Result<NameSet, NoMemory>
     ensures { IfOk result
         (λ names. (name : List ℕ) → is_among name names ≡ is_among name texts.now) }
 {
-    let mut names = Names::new(alloc);
+    let mut names = NameSet::new(alloc);
     for text in texts.as_slice() {
         names.add(text.as_str().as_bytes())?;
     }

@@ -15,7 +15,7 @@ use zone_table::{Statuses, Zones, zones_are_the_marks};
 /// far the re-encryptions of zones are. `mark` is a copy of the mark of the update that memory was last
 /// reserved for.
 #[derive(Drop)]
-pub(crate) struct Names {
+pub(crate) struct NameTables {
     alloc: Global,
     opening: u32,
     tree: Tree,
@@ -25,7 +25,7 @@ pub(crate) struct Names {
     mark: Option<NPath>,
 }
 
-impl Model for Names {
+impl Model for NameTables {
     ghost use Rattle.std.specs.Prelude.{◌≡◌};
     ghost use Rattle.zone_table.specs.Statuses.{StatusesFit};
     ghost use Rattle.zone_table.specs.Zones.{zones_of};
@@ -53,7 +53,7 @@ impl Model for Names {
         FitsRows a.tree.rows a.snaps.table × StatusesFit a.tree.rows a.statuses.rows };
 }
 
-impl Names {
+impl NameTables {
     ghost use Rattle.std.specs.Prelude.{◌≡◌, IfOk, IsOk, IsTrue, OnOk, OnErr};
     ghost use Rattle.zone_table.specs.Zones.{zone_paths};
     ghost use Rattle.name_store.specs.Table.{IsTable, after_table, allows, nothing_logged};
@@ -62,12 +62,12 @@ impl Names {
     ghost use Rattle.name_store.specs.Used.{HasFreeIds};
 
     /// Creates the table of the root alone, before the first opening.
-    pub(crate) fn new(alloc: Global) -> Result<Names, NoMemory>
+    pub(crate) fn new(alloc: Global) -> Result<NameTables, NoMemory>
         ensures { IfOk result (λ names. names.table ≡ nothing_logged.table) }
     {
         // The root alone has no zones.
         zones_are_the_marks();
-        Ok(Names {
+        Ok(NameTables {
             alloc,
             opening: 0,
             tree: Tree::new(alloc)?,

@@ -8,7 +8,7 @@ ghost use Rattle.edit_log.specs.Log.{IsEditLogOf};
 ghost use Rattle.name_store.specs.Table.{after_table, next_opening};
 ghost use Rattle.name_store.specs.Store.{IsWritten};
 
-use crate::names::Names;
+use crate::names::NameTables;
 use edit_log::EditLog;
 use edit_ops::EditOp;
 use frame_log::StartFault;
@@ -21,7 +21,7 @@ pub(crate) fn open<D: Disk>(
     alloc: Global,
     disk: &mut D,
     log: &mut EditLog,
-    names: &mut Names,
+    names: &mut NameTables,
 ) -> Result<(), StartFault>
     requires settled { log.old.pending ≡ None }
     requires stands { Tells (D.state disk.old) →

@@ -8,7 +8,7 @@ ghost use Rattle.name_store.specs.Replay.{IsMade, IsNext, IsRefusedAt, IsTaken, 
 ghost use Rattle.name_store.specs.Table.{nothing_logged};
 ghost use Rattle.name_store.specs.Used.{RowsUsed, is_used};
 
-use crate::names::Names;
+use crate::names::NameTables;
 use crate::used::UsedIds;
 use edit_log::{OpReader, PlacedOp};
 use edit_ops::EditOp;
@@ -18,7 +18,7 @@ use std::alloc::Global;
 
 /// Lets an operation take effect if it applies. Returns whether it does. No row has an id that was never
 /// used, so the rows are not searched for the id.
-fn take(names: &mut Names, used: &mut UsedIds, op: &EditOp) -> Result<bool, NoMemory>
+fn take(names: &mut NameTables, used: &mut UsedIds, op: &EditOp) -> Result<bool, NoMemory>
     requires { RowsUsed names.old.table (is_used used.old) }
     ensures { IfOk result
         (IsTaken names.old.table (is_used used.old) op.now names.new.table (is_used used.new)) }
@@ -39,7 +39,11 @@ fn take(names: &mut Names, used: &mut UsedIds, op: &EditOp) -> Result<bool, NoMe
 }
 
 /// Lets an operation take effect, or returns `Damaged` with its offset if it does not apply.
-fn take_placed(names: &mut Names, used: &mut UsedIds, placed: PlacedOp) -> Result<(), StartFault>
+fn take_placed(
+    names: &mut NameTables,
+    used: &mut UsedIds,
+    placed: PlacedOp,
+) -> Result<(), StartFault>
     requires { RowsUsed names.old.table (is_used used.old) }
     ensures taken { OnOk result
         (IsNext names.old.table (is_used used.old) placed.op names.new.table (is_used used.new)) }
@@ -64,7 +68,7 @@ fn take_all<D: Disk>(
     alloc: Global,
     disk: &mut D,
     reader: &mut OpReader,
-    names: &mut Names,
+    names: &mut NameTables,
     used: &mut UsedIds,
 ) -> Result<(), StartFault>
     requires ahead { Tells (D.state disk.old) →
@@ -98,7 +102,7 @@ pub(crate) fn replay<D: Disk>(
     alloc: Global,
     disk: &mut D,
     reader: &mut OpReader,
-) -> Result<Names, StartFault>
+) -> Result<NameTables, StartFault>
     requires ahead { Tells (D.state disk.old) →
         ((todo : List (List ℕ)) × OpsAhead (D.state disk.old) reader.old [] todo) }
 
@@ -114,7 +118,7 @@ pub(crate) fn replay<D: Disk>(
     ensures moments { LeavesOnly 1 (D.state disk.old) (D.state disk.new)
         ((D.state disk.old).leaves 1) }
 {
-    let mut names = Names::new(alloc)?;
+    let mut names = NameTables::new(alloc)?;
     let mut used = UsedIds::new(alloc);
     let taken = take_all(alloc, disk, reader, &mut names, &mut used);
     drop(used);

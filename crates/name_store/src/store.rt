@@ -1,5 +1,5 @@
 //! The table of the namesystem over its edit log.
-use crate::names::Names;
+use crate::names::NameTables;
 use crate::opening::open;
 use crate::replay::replay;
 use edit_log::EditLog;
@@ -21,7 +21,7 @@ use zone_table::Statuses;
 #[derive(Drop)]
 pub struct NameStore {
     log: EditLog,
-    names: Names,
+    names: NameTables,
 }
 
 impl Model for NameStore {

@@ -18,5 +18,5 @@ pub use acls::{Acl, TextList};
 pub use faults::PropFault;
 pub use lines::{LineList, PropLine};
 pub use props::{Props, read_props};
-pub use seen::Names;
+pub use seen::NameSet;
 pub use sizes::Sizes;

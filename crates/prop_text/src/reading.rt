@@ -8,7 +8,7 @@ use crate::cuts::cut_at_equals;
 use crate::faults::PropFault;
 use crate::lines::{LineList, PropLine};
 use crate::names::read_name;
-use crate::seen::Names;
+use crate::seen::NameSet;
 use crate::setting::Setting;
 use crate::sizes::Sizes;
 use crate::values::read_value;
@@ -17,7 +17,7 @@ use std::alloc::Global;
 /// The result so far: the names that were set, the lines, and the sizes.
 #[derive(Drop)]
 pub struct Reading {
-    pub names: Names,
+    pub names: NameSet,
     pub lines: LineList,
     pub sizes: Sizes,
 }
@@ -83,7 +83,7 @@ impl Reading {
         ensures sizes { result.sizes ≡ default_sizes }
     {
         Reading {
-            names: Names::new(alloc),
+            names: NameSet::new(alloc),
             lines: LineList::new(alloc),
             sizes: default_sizes(),
         }

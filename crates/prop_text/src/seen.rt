@@ -10,12 +10,12 @@ use std::marker::Model;
 
 /// A set of names. Contracts see a list in some order.
 #[derive(Drop)]
-pub struct Names {
+pub struct NameSet {
     alloc: Global,
     names: BTreeSet<Vec<u8>>,
 }
 
-impl Model for Names {
+impl Model for NameSet {
     ghost use Rattle.std.specs.Prelude.{ℕ, List, map};
 
     ghost Value = { List (List ℕ) };
@@ -23,12 +23,12 @@ impl Model for Names {
     ghost view = { λ s. map (λ name. name.items) s.names.keys };
 }
 
-impl Names {
+impl NameSet {
     /// Creates an empty set. Does not allocate.
-    pub fn new(alloc: Global) -> Names
+    pub fn new(alloc: Global) -> NameSet
         ensures { result ≡ [] }
     {
-        Names {
+        NameSet {
             alloc,
             names: BTreeSet::new(alloc),
         }

@@ -2,9 +2,9 @@
 ghost use Rattle.std.specs.Prelude.{ℕ, ◌≡◌, ◌<◌, ◌≤◌, ◌+◌, ◌++◌, [], length, vec_capacity, vec_len};
 ghost use Rattle.inode_tree.specs.Listed.{AreEmpty, IsCut, flat, starts_of, turned};
 
-use super::{Order, Piece, locate, part, renumber, take_empty};
+use super::{Piece, RowOrder, locate, part, renumber, take_empty};
 
-impl Order {
+impl RowOrder {
     /// Swaps the numbers from index `a` up to `b` with those from `b` up to `c`, in reserved
     /// memory. Moves whole pieces, so the time depends on the number of pieces.
     pub fn swap_runs(&mut self, a: usize, b: usize, c: usize)

@@ -9,7 +9,7 @@ use crate::climbs::{depth, past};
 use crate::hints::{Hints, place};
 use crate::names::copy_of;
 use crate::nodes::Nodes;
-use crate::order::Order;
+use crate::order::RowOrder;
 use crate::rows::{Link, Row};
 use hk_base::NoMemory;
 use name_calls::{Child, ChildList, NPath};
@@ -30,7 +30,7 @@ impl Tree {
 fn list(
     alloc: Global,
     nodes: &Nodes,
-    order: &Order,
+    order: &RowOrder,
     hints: &Hints,
     path: &NPath,
 ) -> Result<ChildList, NoMemory>
@@ -66,7 +66,7 @@ fn push(alloc: Global, list: &mut ChildList, link: &Link, row: &Row) -> Result<(
 }
 
 /// Returns the place after a row and after all rows below it.
-fn skip(alloc: Global, nodes: &Nodes, order: &Order, at: usize) -> Result<usize, NoMemory>
+fn skip(alloc: Global, nodes: &Nodes, order: &RowOrder, at: usize) -> Result<usize, NoMemory>
     requires tree { (ids : ℕ → Option ℕ) × IsTree nodes.now.items order.now.items ids }
     requires at { at < length order.now.items }
     ensures { IfOk result (λ next. IsSkip nodes.now.items order.now.items at next) }

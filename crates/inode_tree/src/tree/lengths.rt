@@ -8,7 +8,7 @@ use super::Tree;
 use crate::climbs::{depth, past};
 use crate::hints::{Hints, place};
 use crate::nodes::Nodes;
-use crate::order::Order;
+use crate::order::RowOrder;
 use name_calls::{MOST_BYTES, MOST_NAMES, NPath};
 
 impl Tree {
@@ -86,7 +86,7 @@ fn last_size(nodes: &Nodes, n: u32, count: usize) -> u16
 }
 
 /// Returns the most bytes and the most names of a path from a path down to a row below it.
-fn scan(nodes: &Nodes, order: &Order, hints: &Hints, path: &NPath) -> Longest
+fn scan(nodes: &Nodes, order: &RowOrder, hints: &Hints, path: &NPath) -> Longest
     requires tree { (ids : ℕ → Option ℕ) × IsTree nodes.now.items order.now.items ids }
     ensures bytes { result.bytes ≡ most_bytes (rows_of nodes.now.items order.now.items) path.now }
     ensures names { result.names ≡ most_names (rows_of nodes.now.items order.now.items) path.now }

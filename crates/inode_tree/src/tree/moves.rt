@@ -11,7 +11,7 @@ use crate::climbs::past;
 use crate::hints::{Hints, place};
 use crate::names::name_in;
 use crate::nodes::Nodes;
-use crate::order::Order;
+use crate::order::RowOrder;
 use hk_base::NoMemory;
 use name_calls::NPath;
 use std::alloc::Global;
@@ -71,7 +71,7 @@ impl Tree {
 }
 
 /// Moves the numbers of the rows at and below a path to the place of another path.
-fn shift(nodes: &Nodes, order: &mut Order, hints: &Hints, path: &NPath, to: &NPath)
+fn shift(nodes: &Nodes, order: &mut RowOrder, hints: &Hints, path: &NPath, to: &NPath)
     requires tree { (ids : ℕ → Option ℕ) × IsTree nodes.now.items order.old.items ids }
     requires can { CanMove (rows_of nodes.now.items order.old.items) path.now to.now }
     requires room { 0 < order.old.spare }
@@ -94,7 +94,7 @@ fn shift(nodes: &Nodes, order: &mut Order, hints: &Hints, path: &NPath, to: &NPa
 fn relocate(
     alloc: Global,
     nodes: &mut Nodes,
-    order: &mut Order,
+    order: &mut RowOrder,
     places: &HashMap<u64, u32>,
     free: &Vec<u32>,
     ready: &mut String,

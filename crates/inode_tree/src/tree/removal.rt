@@ -10,7 +10,7 @@ use super::{Tree, blank_node};
 use crate::climbs::past;
 use crate::hints::{Hints, place};
 use crate::nodes::Nodes;
-use crate::order::Order;
+use crate::order::RowOrder;
 use name_calls::NPath;
 use std::collections::HashMap;
 
@@ -43,7 +43,7 @@ fn forget(places: &mut HashMap<u64, u32>, id: u64)
 /// Removes the row at the place `at`, which must not be the root or have children.
 fn take_out(
     nodes: &mut Nodes,
-    order: &mut Order,
+    order: &mut RowOrder,
     places: &mut HashMap<u64, u32>,
     free: &mut Vec<u32>,
     at: usize,
@@ -65,7 +65,7 @@ fn take_out(
 /// Removes the row at a path and all rows below it, the last in path order first.
 fn clear(
     nodes: &mut Nodes,
-    order: &mut Order,
+    order: &mut RowOrder,
     places: &mut HashMap<u64, u32>,
     free: &mut Vec<u32>,
     hints: &Hints,

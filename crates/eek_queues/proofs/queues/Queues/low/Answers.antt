@@ -1,7 +1,7 @@
 use Rattle.std.proofs.Common.{◌≡◌, ◌∙◌, ℕ, List, Option, Some, None, ap, refl, subst}
 use Rattle.std.specs.Prelude.{min, slice_get}
 use Rattle.std.specs.Option.{option_map}
-use Rattle.eek_queues.specs.declared.order.Place.{Place}
+use Rattle.eek_queues.specs.declared.order.QueuePlace.{QueuePlace}
 use Rattle.eek_queues.specs.declared.rings.Ring.{Ring}
 use Rattle.eek_queues.specs.Queues.{AllQueues, IsLowest, Queue, limit, lowest}
 use Rattle.eek_queues.specs.Kept.{IsKept, queues_of}
@@ -10,10 +10,10 @@ use Rattle.eek_queues.proofs.RingLemmas.{seen}
 use Rattle.eek_queues.proofs.queues.Queues.low.Goals as goal
 
 -- the birth of the first place is that of the lowest queue
-module _ (old : AllQueues) (size watermark n : ℕ) (rings : List Ring) (places : List Place) (spare : ℕ) (k : IsKept size n rings places spare) (m : n ≡ min watermark size) (view : seen size watermark (queues_of rings) ≡ old) where
-  first : (o : Option Place) → o ≡ slice_get places 0 → option_map (λ (p : Place). p.birth) o ≡ option_map (λ (q : Queue). q.birth) (lowest (limit old) old.queues)
+module _ (old : AllQueues) (size watermark n : ℕ) (rings : List Ring) (places : List QueuePlace) (spare : ℕ) (k : IsKept size n rings places spare) (m : n ≡ min watermark size) (view : seen size watermark (queues_of rings) ≡ old) where
+  first : (o : Option QueuePlace) → o ≡ slice_get places 0 → option_map (λ (p : QueuePlace). p.birth) o ≡ option_map (λ (q : Queue). q.birth) (lowest (limit old) old.queues)
   first o e =
-      ap (option_map (λ (p : Place). p.birth)) (e ∙ ap (λ ps. slice_get ps 0) k.order ∙ first-place n (queues_of rings))
+      ap (option_map (λ (p : QueuePlace). p.birth)) (e ∙ ap (λ ps. slice_get ps 0) k.order ∙ first-place n (queues_of rings))
       ∙ birth-of-place (lowest n (queues_of rings))
       ∙ ap (λ (x : ℕ). option_map (λ (q : Queue). q.birth) (lowest x (queues_of rings))) m
       ∙ ap (λ (x : AllQueues). option_map (λ (q : Queue). q.birth) (lowest (limit x) x.queues)) view

@@ -4,7 +4,7 @@ use Rattle.std.specs.Vec.{vec_capacity}
 use Rattle.std.proofs.lemmas.List.{length-map}
 use Rattle.circular_buffer.specs.Buffer.{Buffer}
 use Rattle.hk_base.specs.declared.names.Edek.{Edek}
-use Rattle.eek_queues.specs.declared.order.Place.{Place}
+use Rattle.eek_queues.specs.declared.order.QueuePlace.{QueuePlace}
 use Rattle.eek_queues.specs.declared.rings.Ring.{Ring}
 use Rattle.eek_queues.specs.Queues.{has_queue, put_queue}
 use Rattle.eek_queues.specs.Order.{InOrder, place_of, with_place}
@@ -19,7 +19,7 @@ reserve-requires c =
 
 pub enter-requires-clause-order : goal.enter-requires-clause-order
 enter-requires-clause-order c =
-    subst (λ (ps : List Place). InOrder ps) (sym (c.reserve.ensures.places ∙ c.self.invariant.0.order)) (in_order-places_of c.self.inside.order.limit (queues_of c.self.inside.rings.items))
+    subst (λ (ps : List QueuePlace). InOrder ps) (sym (c.reserve.ensures.places ∙ c.self.invariant.0.order)) (in_order-places_of c.self.inside.order.limit (queues_of c.self.inside.rings.items))
 
 pub enter-requires-clause-room : goal.enter-requires-clause-room
 enter-requires-clause-room c =

@@ -2,7 +2,7 @@ use Rattle.std.proofs.Common.{◌||◌, not, ◌∙◌, ap, map}
 use Rattle.std.specs.Str.{bytes_eq}
 use Rattle.prop_text.specs.Properties.{is_among}
 use Rattle.prop_text.proofs.SeenLemmas.{has_bytes, put_bytes}
-use Rattle.prop_text.proofs.seen.Names.add.Goals as goal
+use Rattle.prop_text.proofs.seen.NameSet.add.Goals as goal
 
 pub returns-clause-new : goal.returns-clause-new
 returns-clause-new c =

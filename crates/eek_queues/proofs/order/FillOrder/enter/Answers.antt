@@ -1,10 +1,10 @@
 use Rattle.std.proofs.Common.{◌≡◌, ◌∙◌, List, cond, refl, Result, Ok, Err, arith}
 use Rattle.std.specs.Result.{IsOk, is_ok}
-use Rattle.eek_queues.specs.declared.order.Place.{Place}
+use Rattle.eek_queues.specs.declared.order.QueuePlace.{QueuePlace}
 use Rattle.eek_queues.proofs.Places.{with_place-insert}
-use Rattle.eek_queues.proofs.order.Order.enter.Goals as goal
+use Rattle.eek_queues.proofs.order.FillOrder.enter.Goals as goal
 
-succeeded : {T E : Type 0} (r : Result T E) (a b : List Place) → IsOk r → cond (is_ok r) a b ≡ a
+succeeded : {T E : Type 0} (r : Result T E) (a b : List QueuePlace) → IsOk r → cond (is_ok r) a b ≡ a
 succeeded (Ok x) a b h = refl
 succeeded (Err e) a b h = cc
 

@@ -12,7 +12,7 @@ use Rattle.name_store.specs.Updates.{AreFiles}
 use Rattle.name_store.proofs.FitsLemmas.{either}
 use Rattle.name_store.proofs.StatusLemmas.{Fit, fit-of}
 use Rattle.name_store.proofs.UpdateLemmas.{fit-updated, updated-files}
-use Rattle.name_store.proofs.names.Names.apply.Goals as goal
+use Rattle.name_store.proofs.names.NameTables.apply.Goals as goal
 
 pub invariant_of-self-in-Mkdir : goal.invariant_of-self-in-Mkdir
 invariant_of-self-in-Mkdir c =
