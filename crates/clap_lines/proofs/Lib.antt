@@ -1,1 +1,4 @@
+pub mod EnteredLemmas
 pub mod KindLemmas
+pub mod OrderLemmas
+pub mod ValueLemmas

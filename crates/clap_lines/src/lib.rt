@@ -1,6 +1,10 @@
-//! What holds of each command line that clap parses.
+//! Command lines that `clap` parses: what their words ask for, and what holds of each of them.
 #![tactic(auto)]
 
 mod laws;
+mod told;
+mod values;
 
 pub use laws::help_is_told_alone;
+pub use told::{OrderFault, Told, answer_without_command};
+pub use values::{copy_word, number_in, texts_of, user_in, word, word_in};

@@ -1,5 +1,3 @@
-mod EnteredLemmas
-mod KindLemmas
 mod OrderLemmas
 mod PlainLemmas
 mod SpellingLemmas

@@ -1,6 +1,7 @@
 -- The program's commands, as clap's parse of its words sees them.
 use Rattle.std.specs.Prelude.{codes, true}
-use Rattle.clap.specs.Words.{App, Rule, Text, new_app, new_rule, with_rule, with_subcommand}
+use Rattle.clap.specs.Words.{App, new_app, with_rule, with_subcommand}
+use Rattle.clap_lines.specs.Told.{word}
 
 -- the program's own name is not among the words, a command is required, and there is no command `help`
 abbrev pub top : App
@@ -9,10 +10,6 @@ top =
     record new {
       top = record new.top { no_binary_name = true; subcommand_required = true; disable_help_subcommand = true; has_version = true };
     }
-
--- a word that a command needs, under this id; clap takes any word for it
-abbrev pub word : Text → Rule
-word id = record (new_rule id) { value_names = 1; required = true }
 
 abbrev pub put : App
 put = with_rule (with_rule (new_app (codes "put")) (word (codes "user"))) (word (codes "path"))

@@ -1,10 +1,11 @@
 //! The commands of the program, as declared to `clap`.
-ghost use Rattle.std.specs.Prelude.{◌≡◌, IfOk, false};
-ghost use Rattle.clap.specs.Words.{app_of, rule_of};
+ghost use Rattle.std.specs.Prelude.{◌≡◌, IfOk};
+ghost use Rattle.clap.specs.Words.{app_of};
 ghost use Rattle.fs_command_line.specs.Line as line;
 
 use crate::help;
-use clap::{Arg, Command};
+use clap::Command;
+use clap_lines::word;
 use std::alloc::{AllocError, Global};
 
 /// Declares the program without its commands. A command is required, and `help` is not a command.
@@ -19,17 +20,6 @@ fn top<'a>(alloc: Global) -> Result<Command<'a>, AllocError>
         .subcommand_required(true)
         .disable_help_subcommand(true)
         .bin_name("hkfs")
-}
-
-/// Declares a word that a command needs. `clap` takes any word for it.
-fn word<'a>(alloc: Global, id: &'a str, name: &'a str, help: &'a str) -> Arg<'a>
-    ensures rule { rule_of result ≡ line.word id.entry.now }
-    ensures local { result.global ≡ false }
-{
-    Arg::new(alloc, id)
-        .value_name(name)
-        .help(help)
-        .required(true)
 }
 
 /// Declares `put` with its words.

@@ -2,7 +2,8 @@
 ghost use Rattle.std.specs.Prelude.{codes, [], ◌∷◌, ◌<◌, ◌≤◌, ◌^◌, ◌⊎◌, ◌≡◌, ℕ, List, length};
 ghost use Rattle.std.specs.Fmt.{decimal};
 ghost use Rattle.clap.specs.Words.{Text};
-ghost use Rattle.fs_command_line.specs.Orders.{HasRightValues, IsMistake, IsPlain, IsSpelled, Names, line_fault};
+ghost use Rattle.clap_lines.specs.Orders.{IsMistake, IsPlain};
+ghost use Rattle.fs_command_line.specs.Orders.{HasRightValues, IsSpelled, Names, line_fault};
 ghost use Rattle.fs_command_line.specs.declared.order.FsOrder.{FsOrder};
 ghost use Rattle.fs_command_line.specs.declared.order.FsOrder.TheVariants as order;
 

@@ -7,6 +7,7 @@ mod laws;
 mod order;
 mod reading;
 
+pub use clap_lines::OrderFault;
 pub use laws::{other_words_are_refused, words_name_their_order};
-pub use order::{FsOrder, OrderFault};
+pub use order::FsOrder;
 pub use reading::read_order;

@@ -1,6 +1,6 @@
 //! What a command line asks for.
-use hk_base::{NoMemory, Text};
-use std::alloc::AllocError;
+use clap_lines::Told;
+use hk_base::Text;
 
 /// What a command line asks for.
 #[derive(Drop)]
@@ -30,22 +30,16 @@ pub enum FsOrder {
     Version(String),
 }
 
-/// Why a command line asks for nothing.
-#[derive(Clone, Copy, Debug, PartialEq, Eq)]
-pub enum OrderFault {
-    /// The words are not a command line of the program.
-    Usage,
-    /// There is no memory to parse the words or to make a text.
-    NoMemory,
-}
-
-impl From<AllocError> for OrderFault {
+impl From<Told> for FsOrder {
     ghost use Rattle.std.specs.Prelude.{◌≡◌};
-    ghost use Rattle.fs_command_line.specs.declared.order.OrderFault.TheVariants as fault;
+    ghost use Rattle.fs_command_line.specs.Orders.{order_told};
 
-    ghost from_gives = { λ _ given. given ≡ fault.NoMemory };
+    ghost from_gives = { λ told given. given ≡ order_told told };
 
-    fn from(_: AllocError) -> Self {
-        OrderFault::NoMemory
+    fn from(told: Told) -> Self {
+        match told {
+            Told::Help(text) => FsOrder::Help(text),
+            Told::Version(text) => FsOrder::Version(text),
+        }
     }
 }

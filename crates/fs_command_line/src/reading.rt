@@ -1,79 +1,20 @@
 //! Parsing a command line.
-ghost use Rattle.std.specs.Prelude.{◌≡◌, ◌≢◌, ◌⊎◌, IfErr, IfOk, MatchResult, Ok, Err, None, Some, map, option_map};
+ghost use Rattle.std.specs.Prelude.{◌≡◌, ◌≢◌, ◌⊎◌, IfErr, IfOk, MatchResult, Ok, Err, None, Some, codes, map};
 ghost use Rattle.clap.specs.Words.{first_of, found_of, kind_of, rows_of, subcommand_rows_of};
-ghost use Rattle.fs_command_line.specs.Orders.{Answers, FindsHelp, FindsVersion, HasMistake, HasRightValues, IsHelp, IsMistake, IsShown, IsSpelled, IsVersion, ShownAs, line_fault, number_at, number_in, order_at, order_named, path_in, put_order, read_order_in, user_at, user_in};
+ghost use Rattle.clap_lines.specs.Orders.{HasMistake, IsMistake, IsShown, ShownAs, order_at, user_in};
+ghost use Rattle.fs_command_line.specs.Orders.{Answers, FindsHelp, FindsVersion, HasRightValues, IsHelp, IsSpelled, IsVersion, line_fault, order_named, path_in, put_order, read_order_in};
 ghost use Rattle.fs_command_line.specs.declared.order.FsOrder.{FsOrder as AnOrder};
 
 use crate::commands::hkfs;
-use crate::order::{FsOrder, OrderFault};
+use crate::order::FsOrder;
 use clap::error::ErrorKind;
 use clap::{ArgMatches, Error};
-use hk_base::{Text, read_number};
-use std::alloc::{AllocError, Global};
+use clap_lines::{
+    OrderFault, answer_without_command, copy_word, number_in, texts_of, user_in, word_in,
+};
+use hk_base::Text;
+use std::alloc::Global;
 use std::convert::AsStr;
-
-/// The most bytes of a user.
-const LONGEST_USER: usize = 255;
-
-/// Parses a number below 2^63, without a sign and without leading zeros.
-fn number_at(text: &str) -> Option<u64>
-    ensures { result ≡ number_at text.now }
-{
-    match read_number(text.as_bytes()) {
-        Some(number) => {
-            if number >= 1 << 63 {
-                return None;
-            }
-            Some(number)
-        }
-        None => None,
-    }
-}
-
-/// Returns the number with this name, if it is given in the right form.
-fn number_in(values: &ArgMatches, name: &str) -> Option<u64>
-    ensures { result ≡ number_in name.now (rows_of (found_of values.now)) }
-{
-    match values.get_str(name) {
-        Some(text) => number_at(text),
-        None => None,
-    }
-}
-
-/// Returns the word if it may be a user.
-fn user_at<'a>(text: &'a str) -> Option<&'a str>
-    ensures { option_map (λ user. user.now) result ≡ user_at text.entry.now }
-{
-    if text.len() < 1 || text.len() > LONGEST_USER {
-        return None;
-    }
-    Some(text)
-}
-
-/// Returns the user, if it has a right length.
-fn user_in<'a>(values: &ArgMatches<'a>) -> Option<&'a str>
-    ensures { option_map (λ user. user.now) result ≡ user_in (rows_of (found_of values.now)) }
-{
-    match values.get_str("user") {
-        Some(text) => user_at(text),
-        None => None,
-    }
-}
-
-/// Returns the path, if it is given.
-fn path_in<'a>(values: &ArgMatches<'a>) -> Option<&'a str>
-    ensures { option_map (λ path. path.now) result ≡ path_in (rows_of (found_of values.now)) }
-{
-    values.get_str("path")
-}
-
-/// Copies a word.
-fn copy(alloc: Global, word: &str) -> Result<Text, OrderFault>
-    ensures ok { IfOk result (λ text. text ≡ word.now) }
-    ensures err { IfErr result (λ fault. fault ≡ OrderFault.NoMemory) }
-{
-    Ok(Text::of(String::from_str(alloc, word)?))
-}
 
 /// Returns the order to put a file with these values.
 fn put_order(alloc: Global, values: &ArgMatches) -> Result<FsOrder, OrderFault>
@@ -88,11 +29,11 @@ fn put_order(alloc: Global, values: &ArgMatches) -> Result<FsOrder, OrderFault>
     let Some(user) = user_in(values) else {
         return Err(OrderFault::Usage);
     };
-    let Some(path) = path_in(values) else {
+    let Some(path) = word_in(values, "path") else {
         return Err(OrderFault::Usage);
     };
-    let user = copy(alloc, user)?;
-    let path = copy(alloc, path)?;
+    let user = copy_word(alloc, user)?;
+    let path = copy_word(alloc, path)?;
     Ok(FsOrder::Put { user, path })
 }
 
@@ -106,7 +47,7 @@ fn read_order_in(alloc: Global, values: &ArgMatches) -> Result<FsOrder, OrderFau
     let Some(user) = user_in(values) else {
         return Err(OrderFault::Usage);
     };
-    let Some(path) = path_in(values) else {
+    let Some(path) = word_in(values, "path") else {
         return Err(OrderFault::Usage);
     };
     let Some(from) = number_in(values, "from") else {
@@ -115,8 +56,8 @@ fn read_order_in(alloc: Global, values: &ArgMatches) -> Result<FsOrder, OrderFau
     let Some(count) = number_in(values, "count") else {
         return Err(OrderFault::Usage);
     };
-    let user = copy(alloc, user)?;
-    let path = copy(alloc, path)?;
+    let user = copy_word(alloc, user)?;
+    let path = copy_word(alloc, path)?;
     Ok(FsOrder::Read {
         user,
         path,
@@ -144,8 +85,8 @@ fn order_named(alloc: Global, name: &str, values: &ArgMatches) -> Result<FsOrder
 /// Returns the order that the matches name, unless a value in them has another form.
 fn order_of(alloc: Global, matches: &ArgMatches) -> Result<FsOrder, OrderFault>
     ensures { MatchResult result
-        (λ order. order_at (subcommand_rows_of matches.now) ≡ Some order)
-        (λ fault. fault ≡ OrderFault.Usage → order_at (subcommand_rows_of matches.now) ≡ None) }
+        (λ order. order_at order_named (subcommand_rows_of matches.now) ≡ Some order)
+        (λ fault. fault ≡ OrderFault.Usage → order_at order_named (subcommand_rows_of matches.now) ≡ None) }
 {
     match matches.subcommand() {
         Some((name, values)) => order_named(alloc, name, values),
@@ -153,28 +94,17 @@ fn order_of(alloc: Global, matches: &ArgMatches) -> Result<FsOrder, OrderFault>
     }
 }
 
-/// Returns the text of an error.
-fn text_of(alloc: Global, error: &Error) -> Result<String, OrderFault>
-    ensures { IfErr result (λ fault. fault ≡ OrderFault.NoMemory) }
-{
-    Ok(format!(in alloc; "{error}")?)
-}
-
-/// Returns what to do if there are no matches: show a text, or report a fault.
-fn without_matches(alloc: Global, error: &Error) -> Result<FsOrder, OrderFault>
-    ensures shown { IfOk result (λ order. IsShown order (kind_of error.now)) }
+/// Returns what to do where `clap` finds no command: show a text, or report a fault.
+fn order_without_command(alloc: Global, error: &Error) -> Result<FsOrder, OrderFault>
+    ensures shown { IfOk result (λ order. IsShown IsHelp IsVersion order (kind_of error.now)) }
     ensures usage { IfErr result
         (λ fault. fault ≡ OrderFault.Usage →
         (kind_of error.now ≢ ErrorKind.OutOfMemory) ×
         (kind_of error.now ≢ ErrorKind.DisplayHelp) ×
         (kind_of error.now ≢ ErrorKind.DisplayVersion)) }
 {
-    match error.kind() {
-        ErrorKind::OutOfMemory => Err(OrderFault::NoMemory),
-        ErrorKind::DisplayHelp => Ok(FsOrder::Help(text_of(alloc, error)?)),
-        ErrorKind::DisplayVersion => Ok(FsOrder::Version(text_of(alloc, error)?)),
-        _ => Err(OrderFault::Usage),
-    }
+    let told = answer_without_command(alloc, error)?;
+    Ok(FsOrder::from(told))
 }
 
 /// Does what `read_order` does, for words of any type.
@@ -186,15 +116,8 @@ fn read<'a, S: AsStr>(alloc: Global, words: &'a [S]) -> Result<FsOrder, OrderFau
     let command = hkfs(alloc)?;
     match command.try_get_matches_from(words) {
         Ok(matches) => order_of(alloc, &matches),
-        Err(error) => without_matches(alloc, &error),
+        Err(error) => order_without_command(alloc, &error),
     }
-}
-
-/// Returns the words as `clap` takes them.
-fn texts_of<'w>(alloc: Global, words: &'w [Text]) -> Result<Vec<&'w str>, AllocError>
-    ensures { IfOk result (λ texts. map (λ text. text.now) texts.items ≡ words.entry.now) }
-{
-    words.iter().map(Text::as_str).collect(alloc)
 }
 
 /// Parses the words of a command line, without the program's own name.

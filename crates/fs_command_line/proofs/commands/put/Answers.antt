@@ -2,11 +2,11 @@ use Rattle.std.proofs.Common.{ap, ap₂, codes, ◌≡◌, ◌∙◌}
 use Rattle.std.proofs.lemmas.Result.{IfOk-weaker}
 use Rattle.clap.specs.Simple.{app_of_fields}
 use Rattle.clap.specs.Words.{app_of, new_app, with_rule}
-use Rattle.fs_command_line.specs.Line as line
+use Rattle.clap_lines.specs.Told.{word}
 use Rattle.fs_command_line.proofs.commands.put.Goals as goal
 
 pub returns : goal.returns
 returns c =
     let plain_is : app_of c.after_help-plain.result ≡ new_app (codes "put") = ap app_of_fields c.after_help-plain.ensures ∙ ap app_of_fields c.about.ensures ∙ c.new.ensures.app in
-    let half_is : app_of c.in_ok-half.half ≡ with_rule (new_app (codes "put")) (line.word (codes "user")) = c.in_ok-half.ensures.shape c.word.ensures.local ∙ ap₂ with_rule plain_is c.word.ensures.rule in
+    let half_is : app_of c.in_ok-half.half ≡ with_rule (new_app (codes "put")) (word (codes "user")) = c.in_ok-half.ensures.shape c.word.ensures.local ∙ ap₂ with_rule plain_is c.word.ensures.rule in
     IfOk-weaker c.arg-2.result _ _ (λ r h. h.shape c.word-2.ensures.local ∙ ap₂ with_rule half_is c.word-2.ensures.rule) c.arg-2.ensures

@@ -2,8 +2,8 @@ use Rattle.std.proofs.Common.{ap, sym, ◌≡◌, ◌∙◌}
 use Rattle.std.specs.Prelude.{None, Some, option_and_then, option_map}
 use Rattle.clap.proofs.WalkLemmas.{first_value-rows}
 use Rattle.clap.specs.Words.{first_of, found_of, rows_of}
-use Rattle.fs_command_line.specs.Orders.{number_at}
-use Rattle.fs_command_line.proofs.reading.number_in.Goals as goal
+use Rattle.clap_lines.specs.Orders.{number_at}
+use Rattle.clap_lines.proofs.values.number_in.Goals as goal
 
 pub returns-in-Some : goal.returns-in-Some
 returns-in-Some c =

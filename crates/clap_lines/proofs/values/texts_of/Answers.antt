@@ -3,7 +3,7 @@ use Rattle.std.proofs.lemmas.Iterator.{YieldsList-from_slice, YieldsList-from_ma
 use Rattle.std.proofs.lemmas.Iterator.Consumers.{map_from_collect}
 use Rattle.std.proofs.lemmas.List.{map-id}
 use Rattle.std.proofs.lemmas.Result.{IfOk-weaker}
-use Rattle.fs_command_line.proofs.reading.texts_of.Goals as goal
+use Rattle.clap_lines.proofs.values.texts_of.Goals as goal
 
 pub returns : goal.returns
 returns c =

@@ -1,6 +1,6 @@
 use Rattle.std.proofs.Common.{rules, sym}
-use Rattle.fs_command_line.proofs.ValueLemmas.{number_read, number_refused}
-use Rattle.fs_command_line.proofs.reading.number_at.Goals as goal
+use Rattle.clap_lines.proofs.ValueLemmas.{number_read, number_refused}
+use Rattle.clap_lines.proofs.values.number_at.Goals as goal
 
 pub returns-then-number : goal.returns-then-number
 returns-then-number c = sym (number_refused c.in-Some.number c.args.text.now (search rules) (search rules) (search rules))
