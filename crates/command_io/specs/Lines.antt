@@ -1,11 +1,9 @@
 -- The lines of a text.
-use Rattle.std.specs.Prelude.{ℕ, ◌==◌, not, Bool, List, [], ◌∷◌, ◌++◌}
+use Rattle.std.specs.Prelude.{ℕ, not, Bool, List, [], ◌∷◌, ◌++◌}
 use Rattle.std.specs.List.{list_all, flat_map, slice_split}
+pub use Rattle.prop_text.specs.Properties.{is_lf}
 use Rattle.command_io.specs.declared.lines.LineEnd.{LineEnd}
 use Rattle.command_io.specs.declared.lines.LineEnd.TheVariants.{Line, End, TooLong, Past, Fault, NoMemory}
-
-abbrev pub is_lf : ℕ → Bool
-is_lf b = b == 10
 
 -- the lines of a text are separated by LF; the bytes after the last LF are one too
 abbrev pub lines_of : List ℕ → List (List ℕ)

@@ -6,6 +6,7 @@ use Rattle.prop_text.specs.declared.props.Props.{Props}
 use Rattle.world_run.specs.Ledger.{Past}
 use Rattle.world_run.specs.Starts.{FailsAt, OpensBoth}
 use Rattle.command_io.specs.Ends.{Reports, Shows, ended_by, ended_by_props}
+pub use Rattle.command_io.specs.Ends.{Refuses, ShowsText, WantsMemory}
 use Rattle.command_io.specs.Properties.{HasPropsFault, ReadsProperties}
 use Rattle.command_io.specs.declared.props.PropsFault.{PropsFault}
 use Rattle.hk_runs.specs.Headline.{Headline, known_after}
@@ -103,20 +104,6 @@ pub record ReadKept (past : Past) (user path : List ℕ) (from count : ℕ) (old
   pub wrote : (sent : ℕ) → range.how ≡ end.Read sent → TellsBodies vault → HasRead (known_after past (world_before range.worked) words range.worked.history) (last_world range.worked) path from count vault written range.body
 
 -- ---- the words
-
--- there is no memory to read the words: nothing else is done, as `same` says
-abbrev pub WantsMemory : Type 0 → Option (List ℕ) → Option (List ℕ) → ℕ → Type 0
-WantsMemory same written now status = same × Shows (codes "no memory\n") 6 written now status
-
--- the words have a mistake: nothing else is done, as `same` says
-abbrev pub Refuses : Type 0 → Option (List ℕ) → Option (List ℕ) → ℕ → Type 0
-Refuses same written now status = same × Shows (codes "usage refused\n") 2 written now status
-
--- some text is shown, and nothing else is done, as `same` says
-pub record ShowsText (same : Type 0) (written now : Option (List ℕ)) (status : ℕ) : Type 0 where
-  pub text : List ℕ
-  pub untouched : same
-  pub shows : Shows text 0 written now status
 
 -- what is done at an order: a file is put, a range is read, or a text is shown
 abbrev pub Obeys : Result FsOrder OrderFault → (List ℕ → List ℕ → Type 0) → (List ℕ → List ℕ → ℕ → ℕ → Type 0) → Type 0 → Option (List ℕ) → Option (List ℕ) → ℕ → Type 0

@@ -17,7 +17,8 @@ use Rattle.name_rest.specs.declared.operation.Operation.TheVariants as op
 use Rattle.name_rest.specs.declared.order.NameOrder.{NameOrder}
 use Rattle.name_rest.specs.Operations.{HasBadMethod, HasNoRoute}
 use Rattle.name_rest.specs.Orders.{Reading, and_then, any_path_in, delete_in, flag_or_false, key_in, needed, on_any_path, on_path, on_snapshot, only, order_of, path_in, path_of, recursive_in, rename_in, snapshot_name_of, zone_in}
-use Rattle.name_rest.specs.Requests.{HasBadPath, IsBadRequest, IsOf, Gives, Says, query_in}
+use Rattle.kms_rest.specs.Requests.{query_in}
+use Rattle.name_rest.specs.Requests.{HasBadPath, IsBadRequest, IsOf, Gives, Says}
 use Rattle.name_rest.specs.Laws.{SaysOneThing}
 use Rattle.name_rest.proofs.RouteLemmas.{same_operation}
 

@@ -1,8 +1,8 @@
 -- The order that a request gives the namesystem, and its user.
 use Rattle.std.specs.Prelude.{◌≡◌, ◌⊎◌, ℕ, List, Result, Ok, Err, ⊤}
 use Rattle.http_wire.specs.Message.{Message}
-use Rattle.path_routes.specs.declared.query.Parameter.{Parameter}
-use Rattle.path_routes.specs.Queries.{parameters, path_of, query_of}
+use Rattle.kms_rest.specs.Requests.{query_in}
+use Rattle.path_routes.specs.Queries.{path_of}
 use Rattle.path_routes.specs.Users.{NamesBadUser, NamesNoUser, NamesUser}
 use Rattle.name_rest.specs.declared.faults.NameRestFault.{NameRestFault}
 use Rattle.name_rest.specs.declared.faults.NameRestFault.TheVariants as fault
@@ -10,10 +10,6 @@ use Rattle.name_rest.specs.declared.operation.Operation.{Operation}
 use Rattle.name_rest.specs.declared.order.NameOrder.{NameOrder}
 use Rattle.name_rest.specs.Operations.{HasBadMethod, HasNoRoute, Routes}
 use Rattle.name_rest.specs.Orders.{order_of}
-
--- the parameters of a request's query
-abbrev pub query_in : Message → List Parameter
-query_in request = parameters (query_of request.target)
 
 -- the request's method and path are those of the operation
 abbrev pub IsOf : Message → Operation → Type 0

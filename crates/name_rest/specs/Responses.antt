@@ -1,5 +1,5 @@
 -- The responses of the namesystem: a status (RFC 9110, section 15) and a body, which is empty or JSON.
-use Rattle.std.specs.Prelude.{ℕ, Bool, List, [], codes, if◌then◌else◌}
+use Rattle.std.specs.Prelude.{ℕ, Bool, List, [], codes}
 use Rattle.serde_json.specs.Data.{Data, member, no_members, object, string}
 use Rattle.serde_json.specs.Written.{compact_text}
 use Rattle.name_calls.specs.declared.calls.NameRefusal.{NameRefusal}
@@ -9,6 +9,7 @@ use Rattle.name_calls.specs.declared.calls.NameReply.TheVariants as reply
 use Rattle.name_text.specs.Answers.{answer_text}
 use Rattle.name_text.specs.Refusals.{name_refusal_text, refusal_name}
 use Rattle.kms_rest.specs.Responses as kms
+use Rattle.kms_rest.specs.Responses.{done_status}
 use Rattle.kms_rest.specs.declared.faults.RestFault.TheVariants as rest
 use Rattle.name_rest.specs.declared.faults.NameRestFault.{NameRestFault}
 use Rattle.name_rest.specs.declared.faults.NameRestFault.TheVariants as fault
@@ -40,10 +41,6 @@ refusal_status why.NoMemory = 503
 refusal_status why.StoreFault = 500
 refusal_status why.NestedSnapshottable = 409
 refusal_status why.RootOrInside = 400
-
--- the status of what is done: 201 if a file was made
-abbrev pub done_status : Bool → ℕ
-done_status created = if created then 201 else 200
 
 abbrev pub reply_status : NameReply → Bool → ℕ
 reply_status reply.Done created = done_status created

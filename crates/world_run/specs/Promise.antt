@@ -9,6 +9,7 @@ use Rattle.inode_tree.specs.Rows.{Entry}
 pub use Rattle.inode_tree.specs.ZoneFiles.{edek_of}
 use Rattle.key_rows.specs.declared.rows.KeyRow.{KeyRow}
 use Rattle.kms_core.specs.Draws.{words_of_draw}
+pub use Rattle.reenc_update.specs.Laws.{In}
 use Rattle.kms_core.specs.Opening.{unseals}
 use Rattle.kms_core.specs.State.{settled}
 use Rattle.name_store.specs.Table.{NameTable, kept_rows, key_of_zone}
@@ -16,11 +17,6 @@ use Rattle.name_core.specs.State.{settled as settled_names}
 use Rattle.zone_table.specs.declared.statuses.StatusRow.{StatusRow}
 use Rattle.world_run.specs.World.{WorldState}
 use Rattle.world_run.specs.Ledger.{Draw, Hidden, Ledger, Past, Starts, past_of}
-
--- x is in the list
-abbrev pub In : {X : Type 0} → X → List X → Type 0
-In x [] = ⊥
-In x (y ∷ ys) = (x ≡ y) ⊎ In x ys
 
 -- the words of one draw end before those of the other begin
 abbrev pub EndsBefore : Draw → Draw → Type 0
