@@ -104,7 +104,11 @@ fn take(
     name: Text,
 ) -> Result<bool, NoMemory> {
     match tree.row(dir) {
-        Some(_) => {}
+        Some(row) => {
+            if !row.kind.is_dir() {
+                return Ok(false);
+            }
+        }
         None => return Ok(false),
     }
     match snaps.look(dir, &name, &NPath::root(alloc)) {

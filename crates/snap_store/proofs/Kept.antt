@@ -1,17 +1,19 @@
 -- What is always true of the snapshots is true after each change.
 use Rattle.std.proofs.Common.{◌≡◌, ℕ, ◌<◌, ◌≤◌, suc, Bool, true, false, cond, not, ◌&&◌, ◌||◌, List, [], ◌∷◌, length, Option, Some, None, is_some, refl, sym, ap, ◌∙◌, subst, arith}
 use Rattle.std.specs.Prelude.{◌==◌, Result, Ok, Err, OnOk, OnErr}
-use Rattle.std.specs.List.{filter, find, insert, list_all, list_any}
+use Rattle.std.specs.List.{AllByRecursion, filter, find, insert, list_all, list_any}
 use Rattle.std.specs.Ordering.{is_lt, nat_cmp}
 use Rattle.std.proofs.lemmas.Bool.Decides.{nat_tests}
 use Rattle.std.specs.Str.{bytes_eq}
 use Rattle.std.proofs.lemmas.Cmp.{nat_cmp_total}
+use Rattle.std.proofs.lemmas.List.Elements.{All-filter, All-from_recursion, recursion_from_All}
 use Rattle.std.proofs.lemmas.Slice.Eq.{bytes_eq-Decides}
 use Rattle.std.specs.Option.{option_map_or}
-use Rattle.inode_tree.specs.Rows.{row_at}
+use Rattle.inode_tree.specs.declared.rows.Row.{Row}
+use Rattle.inode_tree.specs.Rows.{is_dir_at, row_at}
 use Rattle.name_calls.proofs.PathLemmas.{and-parts}
 use Rattle.snap_store.specs.Ordered.{IsRisingBy, put_by}
-use Rattle.snap_store.specs.Snapshots.{IsSnapshots, Snapshot, count_of, is_among, is_named, is_of, key_of, put_snapshot, rows_in, snapshot_cmp, snapshot_named, with_id, without_id, without_snapshot}
+use Rattle.snap_store.specs.Snapshots.{IsFrozenTree, IsSnapshots, Snapshot, count_of, is_among, is_named, is_of, key_of, put_snapshot, rows_in, snapshot_cmp, snapshot_named, with_id, without_id, without_snapshot}
 use Rattle.snap_store.proofs.OrderLemmas.{Parted, put-insert, rising-filter, rising-put, seek}
 use Rattle.snap_store.proofs.Taken.{among-sought, named-sought, snapshot-total}
 
@@ -84,6 +86,22 @@ all-put p z (x ∷ xs) e h = go (is_lt (snapshot_cmp z x)) (and-parts (p x) (lis
     go : (t : Bool) → (p x ≡ true) × (list_all p xs ≡ true) → (list_all p xs ≡ true → list_all p (put_snapshot z xs) ≡ true) → list_all p (cond t (z ∷ x ∷ xs) (x ∷ put_snapshot z xs)) ≡ true
     go true w ih = both (p z) (p x && list_all p xs) e h
     go false w ih = both (p x) (list_all p (put_snapshot z xs)) w.0 (ih w.1)
+
+each-put : (P : Snapshot → Type 0) (z : Snapshot) (xs : List Snapshot) → P z → AllByRecursion P xs → AllByRecursion P (put_snapshot z xs)
+each-put P z [] e h = (e, tt)
+each-put P z (x ∷ xs) e h = go (is_lt (snapshot_cmp z x)) (each-put P z xs e h.1)
+  where
+    go : (t : Bool) → AllByRecursion P (put_snapshot z xs) → AllByRecursion P (cond t (z ∷ x ∷ xs) (x ∷ put_snapshot z xs))
+    go true ih = (e, h)
+    go false ih = (h.0, ih)
+
+-- the row of the directory itself is there
+own-row : (t : Snapshot) → IsFrozenTree t.rows → is_some (row_at t.rows []) ≡ true
+own-row t tree = go (row_at t.rows []) tree.rooted
+  where
+    go : (o : Option Row) → is_dir_at o ≡ true → is_some o ≡ true
+    go None h = cc
+    go (Some row) h = refl
 
 all-filter : (p q : Snapshot → Bool) (xs : List Snapshot) → list_all p xs ≡ true → list_all p (filter q xs) ≡ true
 all-filter p q [] h = refl
@@ -188,6 +206,7 @@ module _ (ids : List ℕ) (xs : List Snapshot) (s : IsSnapshots ids xs) where
     ids = rising;
     order = s.order;
     rooted = s.rooted;
+    trees = s.trees;
     housed = either (λ (is : List ℕ). list_all (λ t. is_among is t.dir) xs ≡ true) r new (with_id id ids) ids h k (all-from (λ t. is_among ids t.dir) (λ t. is_among (with_id id ids) t.dir) xs (λ x. among-with x.dir id ids) s.housed) s.housed;
     few = s.few;
   }
@@ -198,6 +217,7 @@ module _ (ids : List ℕ) (xs : List Snapshot) (s : IsSnapshots ids xs) where
     ids = rising-filter nat_cmp nat_cmp_total (λ i. not (p i)) ids s.ids;
     order = s.order;
     rooted = s.rooted;
+    trees = s.trees;
     housed = all-from (λ t. not (p t.dir) && is_among ids t.dir) (λ t. is_among (filter (λ i. not (p i)) ids) t.dir) xs
         (λ x b. let w = and-parts (not (p x.dir)) (is_among ids x.dir) b in among-kept p x.dir ids (not-true (p x.dir) w.0) w.1)
         (all-both (λ t. not (p t.dir)) (λ t. is_among ids t.dir) xs (none-any (λ t. p t.dir) xs h) s.housed);
@@ -213,15 +233,17 @@ module _ (ids : List ℕ) (xs : List Snapshot) (s : IsSnapshots ids xs) where
     order = rising-filter snapshot_cmp snapshot-total (λ t. not (is_named dir name t)) xs s.order;
     housed = all-filter (λ t. is_among ids t.dir) (λ t. not (is_named dir name t)) xs s.housed;
     rooted = all-filter (λ t. is_some (row_at t.rows [])) (λ t. not (is_named dir name t)) xs s.rooted;
+    trees = All-filter (λ t. not (is_named dir name t)) (λ t. IsFrozenTree t.rows) xs s.trees;
     few = λ d. let a = count-filter (λ t. not (is_named dir name t)) xs d in let b = s.few d in omega arith;
   }
 
-  pub put-kept : (t : Snapshot) → is_among ids t.dir ≡ true → snapshot_named xs t.dir t.name ≡ None → count_of xs t.dir < 65536 → is_some (row_at t.rows []) ≡ true → IsSnapshots ids (put_snapshot t xs)
-  put-kept t h n b own = record {
+  pub put-kept : (t : Snapshot) → is_among ids t.dir ≡ true → snapshot_named xs t.dir t.name ≡ None → count_of xs t.dir < 65536 → IsFrozenTree t.rows → IsSnapshots ids (put_snapshot t xs)
+  put-kept t h n b tree = record {
     ids = s.ids;
     order = rising-put snapshot_cmp snapshot-total t xs s.order (sym (named-sought xs t.dir t.name) ∙ n);
     housed = all-put (λ u. is_among ids u.dir) t xs h s.housed;
-    rooted = all-put (λ u. is_some (row_at u.rows [])) t xs own s.rooted;
+    rooted = all-put (λ u. is_some (row_at u.rows [])) t xs (own-row t tree) s.rooted;
+    trees = All-from_recursion (λ u. IsFrozenTree u.rows) (put_snapshot t xs) (each-put (λ u. IsFrozenTree u.rows) t xs tree (recursion_from_All (λ u. IsFrozenTree u.rows) xs s.trees));
     few = λ d. go d (t.dir == d) refl (count-put t xs d);
   }
     where

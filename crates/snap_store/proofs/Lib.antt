@@ -1,5 +1,6 @@
 pub mod Blocks
 pub mod Counts
+pub mod FrozenTrees
 pub mod Kept
 pub mod OrderLemmas
 pub mod PathsOf

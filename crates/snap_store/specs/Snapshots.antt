@@ -1,14 +1,15 @@
 -- Snapshots: the directories that may have them, and the rows as they were.
 use Rattle.std.specs.Prelude.{◌≡◌, ℕ, ◌<◌, ◌≤◌, Bool, true, not, ◌&&◌, ◌==◌, List, [], length, map, Option, Some, None, IsSome, is_some, if◌then◌else◌, bytes_eq}
 use Rattle.std.specs.declared.cmp.Ordering.{Ordering}
-use Rattle.std.specs.List.{filter, find, list_all, list_any}
+use Rattle.std.specs.List.{All, filter, find, list_all, list_any}
 use Rattle.std.specs.Option.{option_map, option_map_or}
 use Rattle.std.specs.Ordering.{nat_cmp, ordering_then}
 use Rattle.std.specs.Cmp.Lexicographic.{slice_cmp}
 use Rattle.name_calls.specs.declared.listing.Child.{Child}
+use Rattle.name_calls.specs.Paths.{is_relative, parent}
 use Rattle.inode_tree.specs.Below.{at_or_above, at_or_below, rows_below}
 use Rattle.inode_tree.specs.Listing.{children}
-use Rattle.inode_tree.specs.Rows.{Entry, entry_of, is_dir_at, row_at, zone_of}
+use Rattle.inode_tree.specs.Rows.{Entry, IsRising, entry_of, is_dir_at, row_at, zone_of}
 use Rattle.frozen_nodes.specs.Copies.{CopyRoom, FitsCopies}
 use Rattle.frozen_nodes.specs.Packed.{ForestRoom}
 use Rattle.snap_store.specs.Ordered.{IsRisingBy, put_by}
@@ -85,6 +86,23 @@ rows_in taken dir name = option_map_or (λ s. s.rows) (snapshot_named taken dir 
 -- the rows at and below the directory that has the id, seen from it
 abbrev pub frozen : List Entry → ℕ → List Entry
 frozen rows dir = option_map_or (λ e. rows_below rows e.path) (entry_of rows dir) []
+
+-- the id is that of a directory
+abbrev pub is_directory : List Entry → ℕ → Bool
+is_directory rows id = is_dir_at (option_map (λ e. e.row) (entry_of rows id))
+
+-- Rows at and below a directory, seen from it. They are a tree, and the directory is its root.
+pub record IsFrozenTree (rows : List Entry) : Type 0 where
+  -- they are in path order, and no path comes twice
+  pub rising : IsRising rows
+  -- each path keeps the rule
+  pub ruled : All (λ e. is_relative e.path ≡ true) rows
+  -- each id is that of one row
+  pub once : All (λ e. entry_of rows e.row.id ≡ Some e) rows
+  -- the directory's own row is there
+  pub rooted : is_dir_at (row_at rows []) ≡ true
+  -- and the parent of each row is a directory of them
+  pub housed : All (λ e. is_dir_at (row_at rows (parent e.path)) ≡ true) rows
 
 -- how many rows a snapshot of the directory has
 abbrev pub nodes_for : List Entry → ℕ → ℕ
@@ -172,5 +190,7 @@ pub record IsSnapshots (allowed : List ℕ) (taken : List Snapshot) : Type 0 whe
   pub housed : list_all (λ t. is_among allowed t.dir) taken ≡ true
   -- each has the row of the directory itself
   pub rooted : list_all (λ t. is_some (row_at t.rows [])) taken ≡ true
+  -- and the rows of each are a tree
+  pub trees : All (λ t. IsFrozenTree t.rows) taken
   -- a directory has at most 65,536
   pub few : (dir : ℕ) → count_of taken dir ≤ 65536

@@ -1,15 +1,15 @@
 //! The snapshots, ordered by directory and name.
-ghost use Rattle.std.specs.Prelude.{◌≡◌, ℕ, List, ◌<◌, ◌≤◌, ◌&&◌, ◌↔◌, None, Some, [], length, not, nat_lt, slice_get, true, false, is_some, vec_len, vec_capacity, IsOk, IsSome, IsTrue, IfOk, IfSome, OnOk, OnErr};
+ghost use Rattle.std.specs.Prelude.{◌≡◌, ℕ, List, ◌<◌, ◌≤◌, ◌&&◌, ◌↔◌, None, Some, [], length, not, nat_lt, slice_get, true, false, is_some, vec_len, vec_capacity, IsOk, IsTrue, IfOk, IfSome, OnOk, OnErr};
 ghost use Rattle.std.specs.List.{remove};
 ghost use Rattle.std.specs.List.Sorted.{IsPartitionPoint};
 ghost use Rattle.std.specs.Option.{option_map, option_map_or};
 ghost use Rattle.std.specs.Ordering.{nat_cmp};
 ghost use Rattle.inode_tree.specs.Below.{at_or_above, at_or_below};
-ghost use Rattle.inode_tree.specs.Rows.{entry_of, row_at};
+ghost use Rattle.inode_tree.specs.Rows.{row_at};
 ghost use Rattle.frozen_nodes.specs.Forest.{AllBelow};
 ghost use Rattle.frozen_nodes.specs.Moves.{AllReached};
 ghost use Rattle.snap_store.specs.Ordered.{IsRisingBy};
-ghost use Rattle.snap_store.specs.Snapshots.{IsReady, IsSnapshots, Snapshot, allowed_above, allowed_at_or_above, allowed_at_or_below, allowed_below, count_in, count_of, holds_snapshot, is_among, is_named, key_of, list_in, names_of, no_snaps, rows_in, snapshot_named, table_after_allow, table_after_disallow, table_after_disallow_below, table_after_remove, table_after_take, with_id, without_below, without_id, zone_depth};
+ghost use Rattle.snap_store.specs.Snapshots.{IsReady, IsSnapshots, Snapshot, allowed_above, allowed_at_or_above, allowed_at_or_below, allowed_below, count_in, count_of, holds_snapshot, is_among, is_directory, is_named, key_of, list_in, names_of, no_snaps, rows_in, snapshot_named, table_after_allow, table_after_disallow, table_after_disallow_below, table_after_remove, table_after_take, with_id, without_below, without_id, zone_depth};
 ghost use Rattle.snap_store.specs.Stored.{snapshots_of};
 
 use crate::order::{
@@ -257,7 +257,7 @@ impl Snaps {
     /// directory and the name, and neither the snapshots nor the rows at and below it have changed
     /// since.
     pub fn take(&mut self, tree: &Tree, dir: u64, name: &Text) -> Result<(), NoMemory>
-        requires stands { IsSome (entry_of tree.now.rows dir) }
+        requires stands { IsTrue (is_directory tree.now.rows dir) }
         requires allowed { IsTrue (is_among self.old.table.allowed dir) }
         requires free { snapshot_named self.old.table.taken dir name.now ≡ None }
         requires room { count_of self.old.table.taken dir < 65536 }
@@ -268,6 +268,8 @@ impl Snaps {
             snapshot_named self.new.table.taken d n ≡ snapshot_named self.old.table.taken d n }
         ensures spare { IsReady self.old.room tree.now.rows dir name.now → IsOk result }
     {
+        // The rows of the directory are a tree, as all are.
+        let _ = tree.rows();
         let kept = mem::replace(&mut self.name, None);
         let name = name_for(self.alloc, kept, name)?;
         reserve_place(&mut self.taken, &mut self.roots)?;

@@ -2,10 +2,13 @@ use Rattle.std.proofs.Common.{◌≡◌, ◌∙◌, ◌<◌, ℕ, List, ap, sym,
 use Rattle.frozen_nodes.specs.Forest.{AllBelow}
 use Rattle.snap_store.specs.Snapshots.{IsSnapshots, Snapshot, SnapState, count_of, frozen, is_among, key_of, put_snapshot, snapshot_named}
 use Rattle.snap_store.specs.Stored.{snapshots_of}
-use Rattle.snap_store.proofs.Blocks.{frozen-own}
+use Rattle.snap_store.proofs.FrozenTrees.{stands, tree-frozen}
 use Rattle.snap_store.proofs.Kept.{others-put, put-kept}
 use Rattle.snap_store.proofs.StoredLemmas.{below-more, free-key, put-taken, rising-keys}
 use Rattle.snap_store.proofs.snaps.Snaps.take.Goals as goal
+
+pub take-requires : goal.take-requires
+take-requires c = stands c.args.tree.now.rows c.args.dir c.requires.stands
 
 pub put_reserved-requires-clause-free : goal.put_reserved-requires-clause-free
 put_reserved-requires-clause-free c =
@@ -25,7 +28,7 @@ invariant_of-self-2 c =
     (ap (λ (s : SnapState). is_among s.table.allowed c.args.dir) c.self.view_is ∙ c.requires.allowed)
     (ap (λ (s : SnapState). snapshot_named s.table.taken c.args.dir c.args.name.now) c.self.view_is ∙ c.requires.free)
     (subst (λ (s : SnapState). count_of s.table.taken c.args.dir < 65536) (sym c.self.view_is) c.requires.room)
-    (frozen-own c.args.tree.now.rows c.args.dir c.requires.stands)) in
+    (tree-frozen c.args.tree.now.rows c.args.dir c.rows.ensures.rules c.requires.stands)) in
     record {
       snapshots = kept;
       rooted = record {
