@@ -1,0 +1,30 @@
+use Rattle.std.proofs.Common.{◌≡◌, ℕ, ◌+◌, ◌<◌, ◌≢◌, [], length, slice_index, below_more, get_or-set_other, get_or-set_same, refl, arith}
+use Rattle.std.proofs.Math.ListN.{length-set}
+use Rattle.std.proofs.lemmas.List.FromFn.{fill_by_all}
+use Rattle.aes_core.specs.Aes.{encrypted, with_last}
+use Rattle.aes_core.proofs.Columns.{sum_is}
+use Rattle.aes_core.proofs.LastByte.{two_rounds_are}
+use Rattle.aes_core.proofs.rounds.eight_encrypted.Goals as goal
+
+pub loop-i-init : goal.loop-i-init
+loop-i-init g c = record { long = refl; made = λ k below. absurd (omega arith) }
+
+pub loop-i-preserved : goal.loop-i-preserved
+loop-i-preserved g c =
+    let x : ℕ = slice_index c.args.block.now 15 + c.loop-i.i in
+    let start = two_rounds_are c.args.words.now c.args.block.now x c.first_columns-columns.result c.full_round-first.result c.full_round-second.result c.plus_column_0-sums.result c.plus_column_0-start.result _
+    c.first_columns-columns.ensures c.full_round-first.ensures c.full_round-second.ensures
+    (sum_is _ c.product_3-in-loop-i.result _ _ (rw (← c.byte_3.ensures) (sum_is _ c.product_3.result _ _ refl c.product_3.ensures)) c.product_3-in-loop-i.ensures)
+    c.plus_column_0-sums.ensures.column_0 c.plus_column_0-sums.ensures.column_1 c.plus_column_0-sums.ensures.column_2 c.plus_column_0-sums.ensures.column_3
+    c.plus_column_0-start.ensures.column_0 c.plus_column_0-start.ensures.column_1 c.plus_column_0-start.ensures.column_2 c.plus_column_0-start.ensures.column_3 in
+    record {
+      long = simp length-set c.loop-i.invariant.long;
+      made = below_more _ _
+          (λ k below. let other : k ≢ c.loop-i.i = omega arith in rw get_or-set_other (c.loop-i.invariant.made k below))
+          (rw get_or-set_same (c.finished-made.ensures (with_last c.args.block.now x) start));
+    }
+
+pub returns : goal.returns
+returns g c =
+    fill_by_all (λ k. encrypted c.args.words.now (g.row.NK + 6) (with_last c.args.block.now (slice_index c.args.block.now 15 + k))) _ 8 [] c.loop-i.invariant.long
+    (λ k below. c.loop-i.invariant.made k (omega arith))
