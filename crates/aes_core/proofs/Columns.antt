@@ -1,9 +1,9 @@
 -- Columns as words: their sums, and the columns of a round.
-use Rattle.std.proofs.Common.{◌≡◌, ℕ, ◌+◌, ◌*◌, ◌/◌, ◌%◌, ◌^◌, ◌<◌, List, [], ◌∷◌, ◌++◌, get_or, slice_index, slice_index_or, refl, ◌∙◌, arith, bit_xor}
+use Rattle.std.proofs.Common.{◌≡◌, ℕ, ◌+◌, ◌*◌, ◌/◌, ◌%◌, ◌^◌, ◌<◌, List, [], ◌∷◌, ◌++◌, slice_index, slice_index_or, refl, ◌∙◌, arith, bit_xor}
 use Rattle.std.proofs.lemmas.Nat.{xor_shr, xor_mod, xor_comm}
 use Rattle.std.specs.Int.Bits.{xor_assoc}
 use Rattle.std.specs.Int.{w32, from_le_bytes}
-use Rattle.aes_core.specs.Field.{field_product, s_box}
+use Rattle.aes_core.specs.Field.{field_product}
 use Rattle.aes_core.specs.Aes.{add_round_key, mixed, word, xor_word}
 use Rattle.aes_core.specs.Words.{byte_of, mixed_word, times_0, times_1, times_2, times_3, word_bytes}
 

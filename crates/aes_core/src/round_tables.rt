@@ -218,5 +218,9 @@ pub(crate) fn full_column(a: u32, b: u32, c: u32, d: u32, key: &[u8; 4]) -> u32
         (mixed_word (s_box (byte_of a 0)) (s_box (byte_of b 1)) (s_box (byte_of c 2))
         (s_box (byte_of d 3))) key.now }
 {
-    product_0(byte_0(a)) ^ product_1(byte_1(b)) ^ product_2(byte_2(c)) ^ product_3(byte_3(d)) ^ word_of(key)
+    product_0(byte_0(a))
+        ^ product_1(byte_1(b))
+        ^ product_2(byte_2(c))
+        ^ product_3(byte_3(d))
+        ^ word_of(key)
 }

@@ -1,4 +1,4 @@
-use Rattle.std.proofs.Common.{◌≡◌, ℕ, ◌+◌, ◌<◌, ◌≢◌, [], length, slice_index, slice_index_or, bit_xor, List, below_more, get_or-set_other, get_or-set_same, refl, ◌∙◌, arith}
+use Rattle.std.proofs.Common.{◌≡◌, ℕ, ◌+◌, ◌≢◌, [], slice_index, slice_index_or, bit_xor, List, below_more, get_or-set_other, get_or-set_same, refl, ◌∙◌, arith}
 use Rattle.std.proofs.Math.ListN.{length-set}
 use Rattle.std.proofs.lemmas.List.FromFn.{fill_by_all}
 use Rattle.aes_core.specs.Field.{s_box}
