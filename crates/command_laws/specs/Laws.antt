@@ -10,19 +10,7 @@ use Rattle.cell_server.specs.Connections.{ServesEnds}
 use Rattle.server_command.specs.Serve.{generated}
 use Rattle.command_laws.specs.Complete.{PipeIsComplete, ReplayIsComplete, ServeIsComplete}
 use Rattle.command_laws.specs.Good.{Counts}
-
--- all that a command works on
-pub record Given (D A S K W C P : Type 0) : Type 0 where
-  pub disk : D
-  pub acls : A
-  pub input : S
-  pub out : K
-  pub rand : W
-  pub clock : C
-  pub door : P
-
-abbrev pub given : {D A S K W C P : Type 0} → D → A → S → K → W → C → P → Given D A S K W C P
-given disk acls input out rand clock door = record { disk = disk; acls = acls; input = input; out = out; rand = rand; clock = clock; door = door }
+use Rattle.command_laws.specs.declared.given.Given.{Given}
 
 -- all but the output is unchanged, the door aside
 abbrev pub WritesAlone : {D A S K W C P : Type 0} → Given D A S K W C P → Given D A S K W C P → Type 0

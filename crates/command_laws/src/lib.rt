@@ -3,8 +3,11 @@
 //! are the laws. They follow from clauses of `hkms`, for any values before a call and after it.
 #![tactic(auto)]
 
-ghost use Rattle.command_laws.specs.Laws.{CompletesPipe, CompletesReplay, CompletesServe, given};
+ghost use Rattle.command_laws.specs.Laws.{CompletesPipe, CompletesReplay, CompletesServe};
 
+mod given;
+
+pub use given::Given;
 use hk_base::{Clock, Disk, Sink, Source, Words};
 use server_parts::{Door, Yard};
 
@@ -13,26 +16,12 @@ use server_parts::{Door, Yard};
 /// restart finds the last opening of its log used, then all lines are played and the status is 0; or
 /// the status is 6.
 pub fn replays_are_complete<A: Source, S: Source, K: Sink, D: Disk, W: Words, C: Clock, P: Door>(
-    acls: &A,
-    acls_after: &A,
-    input: &S,
-    input_after: &S,
-    out: &K,
-    out_after: &K,
-    disk: &D,
-    disk_after: &D,
-    rand: &W,
-    rand_after: &W,
-    clock: &C,
-    clock_after: &C,
-    door: &P,
-    door_after: &P,
+    before: &Given<D, A, S, K, W, C, P>,
+    after: &Given<D, A, S, K, W, C, P>,
     status: u8,
 )
     ensures { CompletesReplay D.Disk A.Source S.Source K.Sink W.Words P.Door
-        (given disk.now acls.now input.now out.now rand.now clock.now door.now)
-        (given disk_after.now acls_after.now input_after.now out_after.now rand_after.now
-        clock_after.now door_after.now) status }
+        before.now after.now status }
 {}
 
 /// The same of a connection, by the clause `pipe`: if the properties, the requests and both logs are
@@ -46,27 +35,9 @@ pub fn connections_are_complete<
     W: Words,
     C: Clock,
     P: Door,
->(
-    acls: &A,
-    acls_after: &A,
-    input: &S,
-    input_after: &S,
-    out: &K,
-    out_after: &K,
-    disk: &D,
-    disk_after: &D,
-    rand: &W,
-    rand_after: &W,
-    clock: &C,
-    clock_after: &C,
-    door: &P,
-    door_after: &P,
-    status: u8,
-)
+>(before: &Given<D, A, S, K, W, C, P>, after: &Given<D, A, S, K, W, C, P>, status: u8)
     ensures { CompletesPipe D.Disk A.Source S.Source K.Sink W.Words P.Door
-        (given disk.now acls.now input.now out.now rand.now clock.now door.now)
-        (given disk_after.now acls_after.now input_after.now out_after.now rand_after.now
-        clock_after.now door_after.now) status }
+        before.now after.now status }
 {}
 
 /// The same of a server that returns, by the clause `serve`: if the properties and both logs of the yard
@@ -83,29 +54,15 @@ pub fn servers_are_complete<
     C: Clock,
     P: Door,
 >(
-    acls: &A,
-    acls_after: &A,
-    input: &S,
-    input_after: &S,
-    out: &K,
-    out_after: &K,
-    disk: &D,
-    disk_after: &D,
+    before: &Given<D, A, S, K, W, C, P>,
+    after: &Given<D, A, S, K, W, C, P>,
     yard: &Y,
     yard_after: &Y,
-    rand: &W,
-    rand_after: &W,
-    clock: &C,
-    clock_after: &C,
-    door: &P,
-    door_after: &P,
     port: u16,
     conns: u32,
     status: u8,
 )
     ensures { CompletesServe D.Disk A.Source S.Source K.Sink W.Words P.Door
         Y.Yard Y.Own.Disk P.In.Source P.Out.Sink
-        (given disk.now acls.now input.now out.now rand.now clock.now door.now) yard.now
-        (given disk_after.now acls_after.now input_after.now out_after.now rand_after.now
-        clock_after.now door_after.now) yard_after.now port conns status }
+        before.now yard.now after.now yard_after.now port conns status }
 {}
