@@ -6,15 +6,15 @@ use Rattle.kms_acls.specs.Lists.{Lists}
 use Rattle.kms_acls.specs.Agreement.{AreListsOf}
 use Rattle.prop_text.specs.declared.lines.PropLine.{PropLine}
 use Rattle.hk_events.specs.declared.event.Event.{Event}
-use Rattle.hk_events.specs.declared.event.Event.TheVariants as event
 use Rattle.hk_events.specs.declared.event.Line.{Line}
 use Rattle.world_run.specs.Acknowledged.{Acknowledged, HoldsLogs, LeavesBoth, RunBoth, also, nothing_acknowledged}
 use Rattle.world_run.specs.World.{RunningWorld, WorldState, world_of}
 use Rattle.world_run.specs.Ledger.{Hidden, hidden_after, past_of}
-use Rattle.world_run.specs.Keeps.{KnowsWorld, LinkedStep, RestsNow, Steps}
+use Rattle.world_run.specs.Keeps.{LinkedStep, RestsNow, Steps}
 use Rattle.world_run.specs.Linked.{DrawsApart, LinkedWorld, SoundFiles}
 use Rattle.world_run.specs.Own.{SurvivesAtRest, SurvivesEvent}
 use Rattle.world_run.specs.Promise.{ZoneFilesOpen}
+use Rattle.world_run.proofs.KeySteps.{known-world}
 use Rattle.hk_runs.specs.Run.{FilesOpenThroughout, Happened, History, IsHidden, RestsAfter, Runs, StayApart, SurvivesIn, behind, drawn_in, faults_after, hidden_in, logged_in, world_after}
 use Rattle.hk_runs.specs.Steps.{HasLists, SameLists, Untouched, View}
 
@@ -133,34 +133,6 @@ abbrev pub happened_in : {props : List PropLine} {old new : DiskState} {r r' : R
 happened_in {props} {old} {new} {r} {r'} {words} {words'} {now} {e} {answer} s =
     record { event = e; now = now; reply = answer; drawn = s.drawn; logged = s.logged; world = world_of r'; faults = new.faults }
 
-knows : (e : Event) (T : Type 0) → T → KnowsWorld e T
-knows (event.Kms user c) T t = tt
-knows event.Ticket T t = tt
-knows (event.Deposit n) T t = tt
-knows event.RestartKms T t = t
-knows event.RestartName T t = t
-knows (event.Mkdir user path) T t = tt
-knows (event.Delete user path recursive) T t = tt
-knows (event.Rename user path to) T t = tt
-knows (event.Info user path) T t = tt
-knows (event.List user path) T t = tt
-knows (event.Allow user path) T t = tt
-knows (event.Disallow user path) T t = tt
-knows (event.Snap user path name) T t = tt
-knows (event.Unsnap user path name) T t = tt
-knows (event.Cancel user path) T t = tt
-knows (event.Status user path) T t = tt
-knows (event.Zones user) T t = tt
-knows (event.AskCreate user path) T t = tt
-knows (event.AskZone user path key) T t = tt
-knows (event.AskSubmit user path) T t = tt
-knows (event.Draw n) T t = tt
-knows (event.Finish n) T t = tt
-knows (event.Walk path) T t = tt
-knows (event.Serve n) T t = tt
-knows (event.Deliver n) T t = tt
-knows (event.GiveUp n) T t = tt
-
 -- a step is alike beside the same values
 same_step : (props : List PropLine) (T U : Type 0) (w v : WorldState) (words others : ℕ → ℕ) (f g after now drawn : ℕ) (e : Event) (answer : Line) (logged : Acknowledged) (w' : WorldState)
     → T ≡ U → w ≡ v → words ≡ others → f ≡ g
@@ -186,13 +158,13 @@ lived_more props old mid new first r r' words words' words'' earlier now e reply
   files_open = λ telling h hidden. (
     record {
       linked = linked_there telling h hidden.linked;
-      files_open = subst (λ (x : Hidden). ZoneFilesOpen (world_of r') x) (same_hidden (then h)) (s.step.files_open (knows e (Tells mid) (tells_now old mid so.run telling)) (then h) (so.linked telling h hidden.linked));
+      files_open = subst (λ (x : Hidden). ZoneFilesOpen (world_of r') x) (same_hidden (then h)) (s.step.files_open (known-world e (Tells mid) (tells_now old mid so.run telling)) (then h) (so.linked telling h hidden.linked));
     },
     so.files_open telling h hidden,
   );
   draws_apart = λ telling h linked apart. (
     subst DrawsApart (same_hidden (then h))
-        (s.step.draws_apart (knows e (Tells mid) (tells_now old mid so.run telling)) (then h) (so.linked telling h linked) (apart_last h one words earlier (so.draws_apart telling h linked apart)).words),
+        (s.step.draws_apart (known-world e (Tells mid) (tells_now old mid so.run telling)) (then h) (so.linked telling h linked) (apart_last h one words earlier (so.draws_apart telling h linked apart)).words),
     so.draws_apart telling h linked apart,
   );
   stands = λ telling done holds. subst (λ (l : Acknowledged). HoldsLogs new r' l) (also_also done (logged_in earlier) s.logged)
@@ -238,4 +210,4 @@ lived_more props old mid new first r r' words words' words'' earlier now e reply
 
     linked_there : Tells old → (h : Hidden) → LinkedWorld one h → LinkedWorld (world_of r') (hidden_after there here e reply s.drawn (world_of r') (then h))
     linked_there telling h linked =
-        subst (λ (x : Hidden). LinkedWorld (world_of r') x) (same_hidden (then h)) (s.step.linked (knows e (Tells mid) (tells_now old mid so.run telling)) (then h) (so.linked telling h linked))
+        subst (λ (x : Hidden). LinkedWorld (world_of r') x) (same_hidden (then h)) (s.step.linked (known-world e (Tells mid) (tells_now old mid so.run telling)) (then h) (so.linked telling h linked))

@@ -1,5 +1,5 @@
 -- The keys of zone files are decrypted, and ready keys are of the current version.
-use Rattle.std.proofs.Common.{◌≡◌, ℕ, zero, suc, ◌/◌, ◌<◌, Bool, true, false, List, [], ◌∷◌, length, Option, Some, None, slice_get, refl, sym, ap, subst, ◌∙◌, arith}
+use Rattle.std.proofs.Common.{◌≡◌, ℕ, zero, suc, ◌/◌, ◌<◌, Bool, true, false, List, [], ◌∷◌, length, Option, Some, None, Ok, slice_get, refl, sym, ap, subst, ◌∙◌, arith}
 use Rattle.std.specs.Prelude.{not, ◌||◌, ◌==◌, nat_le}
 use Rattle.std.specs.Option.{option_map}
 use Rattle.std.proofs.lemmas.Bool.Decides.{nat_tests}
@@ -7,29 +7,38 @@ use Rattle.std.proofs.lemmas.Slice.Eq.{bytes_eq-Decides}
 use Rattle.hk_base.specs.declared.names.Dek.{Dek}
 use Rattle.hk_base.specs.declared.names.Edek.{Edek}
 use Rattle.hk_base.specs.declared.names.Iv.{Iv}
+use Rattle.hk_base.specs.declared.texts.Text.{Text}
+use Rattle.hk_base.specs.Faults.{Rose}
 use Rattle.eek_queues.specs.Queues.{Queue, has_queue, ready_in}
 use Rattle.eek_queues.proofs.Births.{absent-ready}
 use Rattle.eek_seal.specs.Seal.{unseal}
 use Rattle.eek_seal.proofs.SealLemmas.{length-unseal}
+use Rattle.key_rows.specs.declared.rows.KeyCommand.{KeyCommand}
 use Rattle.key_rows.specs.declared.rows.KeyRow.{KeyRow}
 use Rattle.key_rows.specs.Sound.{IsTable}
 use Rattle.key_rows.specs.Table.{is_named, material_of}
 use Rattle.kms_calls.specs.declared.calls.KmsRefusal.{KmsRefusal}
+use Rattle.kms_acls.specs.declared.answers.Shown.{Shown}
+use Rattle.kms_acls.specs.Verdict.{verdict}
+use Rattle.kms_calls.specs.declared.calls.KmsCall.TheVariants as call
+use Rattle.kms_calls.specs.declared.calls.KmsReply.{KmsReply}
 use Rattle.kms_calls.specs.declared.calls.KmsReply.TheVariants as reply
+use Rattle.prop_text.specs.declared.lines.PropLine.{PropLine}
 use Rattle.kms_core.specs.Calls.{first_cause, is_malformed, is_of_other_key, lacks_version, row_of, sent_causes}
 use Rattle.kms_core.specs.Laws.{sent_of}
 use Rattle.kms_core.specs.Opening.{unseals}
-use Rattle.kms_core.specs.State.{KmsState}
+use Rattle.kms_core.specs.State.{IsService, KmsState, ServiceState}
+use Rattle.kms_core.specs.Users.{ServesUser}
 use Rattle.kms_core.proofs.DepositLemmas.{queue_stands}
 use Rattle.kms_core.proofs.QueueLemmas.{ready_are}
 use Rattle.kms_core.proofs.UserLemmas.{permitted_decrypt_opens}
 use Rattle.world_run.specs.Ledger.{Draw}
 use Rattle.world_run.specs.Linked.{Pairs, ReadyLinked}
 use Rattle.world_run.specs.Promise.{In}
-use Rattle.world_run.proofs.DrawLemmas.{only-named, opens-alone}
+use Rattle.world_run.proofs.DrawLemmas.{only-named, opens-alone, opens-among, opens-named}
 use Rattle.world_run.proofs.Members.{each-in, got-in, some-is}
 use Rattle.world_run.proofs.VersionLemmas.{opens-below}
-use Rattle.run_laws.specs.Keys.{ReadyKeysAreCurrent, ZoneFilesDecrypt}
+use Rattle.run_laws.specs.Keys.{OpenedKeysDecrypt, ReadyKeysAreCurrent, ZoneFilesDecrypt}
 
 -- a decryption that nothing refuses
 
@@ -76,6 +85,22 @@ sent-free s row e dek table i name opens long vector =
         neither (length e.sealed == row.bits / 8) (length e.iv == 16)
         (equal (length e.sealed) (row.bits / 8) (sealed-long (material_of s.table.rows e.version) e.iv e.sealed dek opens ∙ long)) (equal (length e.iv) 16 vector)
 
+module _ (s : ServiceState) (edek : Edek) (row : KeyRow) (lines : List PropLine) (user : Text) (shown : Shown) (words : ℕ → ℕ) (now before later : ℕ) (result : KmsReply) (drawn : ℕ) (logged : List KeyCommand) (s' : ServiceState)
+    (fit : IsService s) (j : In row s.keys.table.rows) (permitted : verdict lines user (call.Decrypt edek.version.key (sent_of edek)) ≡ Ok shown)
+    (serves : ServesUser lines user s words now (call.Decrypt edek.version.key (sent_of edek)) (Rose before later) result drawn logged s') where
+  decrypts : (dek : Dek) → row.name ≡ edek.version.key → unseals s.keys.table.rows edek ≡ Some dek → length dek ≡ row.bits / 8 → length edek.iv ≡ 16 → (result ≡ reply.Key dek) × (s' ≡ s)
+  decrypts dek name opens long vector =
+      let free = sent-free s.keys row edek dek fit.table j name opens long vector in
+      let answered = permitted_decrypt_opens lines user s words now edek.version.key (sent_of edek) before later result drawn logged s' shown permitted free serves in
+      let dek_is : Some answered.0.0 ≡ Some dek = sym answered.0.1 ∙ opens in
+      (answered.0.2 ∙ ap reply.Key (some-is answered.0.0 dek dek_is), answered.1)
+
+pub opened_keys_decrypt : OpenedKeysDecrypt
+opened_keys_decrypt s edek draw row lines user shown words now before later result drawn logged s' fit opens j born permitted serves =
+    let its = opens row j born in
+    decrypts s edek row lines user shown words now before later result drawn logged s' fit j permitted serves draw.dek
+    (opens-named row edek draw.dek its.opens) (opens-among s.keys.table.rows row edek draw.dek fit.table.names j its.opens) its.long its.vector
+
 pub zone_files_decrypt : ZoneFilesDecrypt
 zone_files_decrypt past names s file edek draw row lines user shown words now before later result drawn logged s' fit promise i is entered j born permitted serves =
     let its = promise.open_up file edek i is in
@@ -83,10 +108,8 @@ zone_files_decrypt past names s file edek draw row lines user shown words now be
     let born_its : row.birth ≡ its.draw.birth = born ∙ ap (λ (d : Draw). d.birth) (sym same) in
     let has = its.opens row j born_its in
     let long = its.long row j born_its in
-    let free = sent-free s.keys row edek its.draw.dek fit.table j (has.0 ∙ sym its.of_key) has.1 long.0 long.1 in
-    let answered = permitted_decrypt_opens lines user s words now edek.version.key (sent_of edek) before later result drawn logged s' shown permitted free serves in
-    let dek_is : Some answered.0.0 ≡ Some draw.dek = sym answered.0.1 ∙ has.1 ∙ ap (λ (d : Draw). Some d.dek) same in
-    (answered.0.2 ∙ ap reply.Key (some-is answered.0.0 draw.dek dek_is), answered.1)
+    let answered = decrypts s edek row lines user shown words now before later result drawn logged s' fit j permitted serves its.draw.dek (has.0 ∙ sym its.of_key) has.1 long.0 long.1 in
+    (answered.0 ∙ ap (λ (d : Draw). reply.Key d.dek) same, answered.1)
 
 -- ready keys
 

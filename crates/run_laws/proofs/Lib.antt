@@ -1,6 +1,7 @@
 pub mod DrawnKeys
 pub mod EventSteps
 pub mod KeyLaws
+pub mod OpenKeys
 pub mod RefusalLaw
 pub mod RunLaw
 pub mod ShownKeys

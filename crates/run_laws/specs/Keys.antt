@@ -27,8 +27,9 @@ use Rattle.name_store.specs.Table.{NameTable, kept_rows}
 use Rattle.prop_text.specs.declared.lines.PropLine.{PropLine}
 use Rattle.world_run.specs.Ledger.{Draw, Hidden, Past}
 use Rattle.world_run.specs.Linked.{LinkedWorld, OpensTo}
-use Rattle.world_run.specs.Promise.{FilesOpen, In}
+use Rattle.world_run.specs.Promise.{FilesOpen, In, OpensToItsDraw}
 use Rattle.world_run.specs.World.{WorldState}
+use Rattle.run_laws.specs.Runs.{Leads}
 
 -- A user who may decrypt opens each zone file. In a service that the promise on zone files speaks of, take a file that the table keeps,
 -- live or in a snapshot, and its draw in the ledger. While the key exists under which that was drawn, the decryption of the file's
@@ -49,6 +50,24 @@ abbrev pub ShownKeysAreKept : Type 0
 ShownKeysAreKept =
     (s : NameState) (path : ReadPath) (id : ℕ) (zone : Option NPath) (edek : Edek) (s' : NameState)
     → NameActs s (name_call.Info path) (name_reply.File id zone (Some edek)) s' → (file : Row) × In file (kept_rows s.table) × (file.id ≡ id) × (edek_of file.kind ≡ Some edek)
+
+-- The same of any encrypted key that opens to a draw's data key, as of a file's that was copied and that no row has any more.
+abbrev pub OpenedKeysDecrypt : Type 0
+OpenedKeysDecrypt =
+    (s : ServiceState) (edek : Edek) (draw : Draw) (row : KeyRow)
+    (lines : List PropLine) (user : Text) (shown : Shown) (words : ℕ → ℕ) (now before later : ℕ) (result : KmsReply) (drawn : ℕ) (logged : List KeyCommand) (s' : ServiceState)
+    → IsService s → OpensTo s.keys.table.rows draw edek → In row s.keys.table.rows → row.birth ≡ draw.birth
+    → verdict lines user (call.Decrypt edek.version.key (sent_of edek)) ≡ Ok shown
+    → ServesUser lines user s words now (call.Decrypt edek.version.key (sent_of edek)) (Rose before later) result drawn logged s'
+    → (result ≡ reply.Key draw.dek) × (s' ≡ s)
+
+-- In a run from a linked world, an encrypted key that opens to its draw's data key as the promise says does so in every later world,
+-- restarts included. No row needs to have it.
+abbrev pub OpenedKeysStayOpen : Type 0
+OpenedKeysStayOpen =
+    (w : WorldState) (h : Hidden) (id : ℕ) (edek : Edek) (between : List WorldState) (v : WorldState)
+    → IsService w.keys → LinkedWorld w h → Leads w between v → IsService v.keys
+    → OpensToItsDraw h.ledger w.keys.keys.table.rows id edek → OpensToItsDraw h.ledger v.keys.keys.table.rows id edek
 
 -- A ready key, and its draw: it is of the draw's version, which is the current one of the key with the queue's birth, which is the
 -- draw's; it has the draw's initialization vector, and opens to the draw's data key.

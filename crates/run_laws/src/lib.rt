@@ -4,7 +4,7 @@
 //! of batches. The functions do nothing: their contracts are the laws.
 #![tactic(auto)]
 
-ghost use Rattle.run_laws.specs.Keys.{ReadyKeysAreCurrent, ShownKeysAreKept, ZoneFilesDecrypt};
+ghost use Rattle.run_laws.specs.Keys.{OpenedKeysDecrypt, OpenedKeysStayOpen, ReadyKeysAreCurrent, ShownKeysAreKept, ZoneFilesDecrypt};
 ghost use Rattle.run_laws.specs.Names.{FilesKeepZones, RefusedForItsZone};
 ghost use Rattle.run_laws.specs.Runs.{RunsKeepSnapshots, RunsKeepZones, RunsRefuseForTheZone};
 ghost use Rattle.run_laws.specs.Walks.{BatchesAreOnce, BatchesShareNoFile, RepeatedIsIgnored};
@@ -44,6 +44,14 @@ pub fn files_keep_their_zones()
 pub fn zone_files_are_decrypted()
     ensures decrypted { ZoneFilesDecrypt }
     ensures shown { ShownKeysAreKept }
+{}
+
+/// In a run from a linked world, an encrypted key that opens to its draw's data key stays open, while
+/// the key exists under which that was drawn: also after no file has it any more, as one that was
+/// copied and whose source was re-encrypted or deleted. Its decryption then answers the data key.
+pub fn opened_keys_stay_open()
+    ensures open { OpenedKeysStayOpen }
+    ensures decrypted { OpenedKeysDecrypt }
 {}
 
 /// In a linked world each ready key is of the current version of the key with its queue's birth, and

@@ -24,6 +24,7 @@ pub mod KeepLemmas
 pub mod KeptLemmas
 pub mod KeptRows
 pub mod KeyLemmas
+pub mod KeySteps
 pub mod Laters
 pub mod LawLemmas
 pub mod Members
