@@ -1,7 +1,7 @@
 -- A command over a disk.
-use Rattle.std.proofs.Common.{◌≡◌, ◌≢◌, ◌≤◌, ◌⊎◌, inl, inr, ⊎_elim, ℕ, List, [], refl, sym, subst, arith}
+use Rattle.std.proofs.Common.{◌≡◌, ◌≢◌, ◌⊎◌, inl, inr, ℕ, List, [], refl, sym, subst}
 use Rattle.std.specs.Prelude.{Option}
-use Rattle.hk_base.specs.Disk.{DiskState, Image, Tells}
+use Rattle.hk_base.specs.Disk.{DiskState, Tells}
 use Rattle.hk_events.specs.declared.event.Event.{Event}
 use Rattle.hk_events.specs.declared.event.Line.{Line}
 use Rattle.prop_text.specs.declared.props.Props.{Props}
@@ -13,11 +13,10 @@ use Rattle.world_run.specs.Acknowledged.{LeavesBoth, RunBoth}
 use Rattle.world_run.specs.Drives.{Standing}
 use Rattle.world_run.specs.Keeps.{Begins, LeftByStarts}
 use Rattle.world_run.specs.Ledger.{Past}
-use Rattle.world_run.specs.Linked.{SoundFiles, StartsSound}
-use Rattle.world_run.proofs.KeptLemmas.{image_kept}
+use Rattle.world_run.specs.Linked.{StartsSound}
 use Rattle.hk_runs.specs.Headline.{NothingHappened}
 use Rattle.hk_runs.specs.Steps.{HasLists}
-use Rattle.hk_runs.proofs.HeadlineLemmas.{Ends, Unmoved, unmoved_keeps}
+use Rattle.hk_runs.proofs.HeadlineLemmas.{Ends, Unmoved, unmoved_keeps, unopened_keeps}
 use Rattle.file_orders.specs.Bodies.{Puts, Reads}
 use Rattle.file_orders.specs.Events.{Leading}
 use Rattle.file_orders.specs.declared.ends.FsEnd.{FsEnd}
@@ -84,17 +83,6 @@ module _ {D W : Type 0} (state : D → DiskState) (to_come : W → ℕ → ℕ) 
 -- ---- what is kept
 
 module _ (past : Past) (old new : DiskState) (tells : Tells old) (sound : StartsSound old past) (ends : Ends old new) where
-  -- a log could not be opened
-  unopened_keeps : {same : Type 0} → same → LeavesBoth old new (LeftByStarts old) → old.moment ≤ new.moment → NothingHappened same past old new
-  unopened_keeps untouched moments later = record {
-    untouched = untouched;
-    images = λ c since. image_kept past c (sound_of c since);
-    again = λ c is. sound_of c (ends.counts old.moment c later is);
-  }
-    where
-      sound_of : (c : Image) → new.left_since old.moment c → SoundFiles past c
-      sound_of c since = ⊎_elim (λ at_start. sound c (ends.only c at_start)) (λ (opening : LeftByStarts old c). opening.sound past sound) (moments.before old.moment c (omega arith) since)
-
   pub put_keeps : (same_disk same : Type 0) (user path : List ℕ) (acls acls' : Option (List ℕ)) (words words' : ℕ → ℕ) (left left' : Option (List ℕ)) (vault vault' : VaultState) (written now : Option (List ℕ)) (status : ℕ)
       → (same_disk → Unmoved old new) → PutsFile same_disk same user path old new acls acls' words words' left left' vault vault' written now status
       → NothingHappened same past old new ⊎ (PutKept past user path old new acls acls' words words' left left' vault vault' written now status)
@@ -114,7 +102,7 @@ module _ (past : Past) (old new : DiskState) (tells : Tells old) (sound : Starts
 
       under : PutUnder with.props same user path old new words words' left left' vault vault' written now status
           → NothingHappened same past old new ⊎ (PutKept past user path old new acls acls' words words' left left' vault vault' written now status)
-      under (inl not) = inl (unopened_keeps not.untouched (not.not_opened.any_moment tells) not.not_opened.run.later)
+      under (inl not) = inl (unopened_keeps past old new tells sound not.untouched ends (not.not_opened.any_moment tells) not.not_opened.run.later)
       under (inr put) = inr (on put)
 
   pub read_keeps : (same_disk same : Type 0) (user path : List ℕ) (from count : ℕ) (acls acls' : Option (List ℕ)) (words words' : ℕ → ℕ) (vault vault' : VaultState) (written now : Option (List ℕ)) (status : ℕ)
@@ -136,7 +124,7 @@ module _ (past : Past) (old new : DiskState) (tells : Tells old) (sound : Starts
 
       under : ReadUnder with.props same user path from count old new words words' vault vault' written now status
           → NothingHappened same past old new ⊎ (ReadKept past user path from count old new acls acls' words words' vault vault' written now status)
-      under (inl not) = inl (unopened_keeps not.untouched (not.not_opened.any_moment tells) not.not_opened.run.later)
+      under (inl not) = inl (unopened_keeps past old new tells sound not.untouched ends (not.not_opened.any_moment tells) not.not_opened.run.later)
       under (inr range) = inr (on range)
 
 -- ---- the status 2 is of refused words alone

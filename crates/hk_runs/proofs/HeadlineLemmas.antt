@@ -1,5 +1,5 @@
 -- What a run keeps of zone files and of verdicts follows from what holds of its lines that were played.
-use Rattle.std.proofs.Common.{◌≡◌, inl, inr, ⊎_elim, ℕ, ◌≤◌, List, [], ◌∷◌, ◌++◌, Option, refl, ap, sym, ◌∙◌, subst, append_assoc, append-nil, arith}
+use Rattle.std.proofs.Common.{◌≡◌, inl, inr, ⊎_elim, ℕ, ◌<◌, ◌≤◌, List, [], ◌∷◌, ◌++◌, Option, refl, ap, sym, ◌∙◌, subst, append_assoc, append-nil, arith}
 use Rattle.hk_base.specs.Disk.{DiskState, Image, IsImage, Tells}
 use Rattle.hk_base.specs.declared.ended.Ended.{Ended}
 use Rattle.hk_events.specs.declared.event.Event.{Event}
@@ -19,13 +19,15 @@ use Rattle.world_run.specs.World.{WorldState, first_world}
 use Rattle.world_run.proofs.KeptLemmas.{image_kept}
 use Rattle.world_run.proofs.PastLemmas.{deposit-past, draw-past, serve-past}
 use Rattle.command_io.specs.declared.ends.ReplayEnd.{ReplayEnd}
-use Rattle.hk_runs.specs.Headline.{ConnectionKeepsFiles, HasVerdict, Headline, IsPart, KeepsFiles, NothingHappened, WorldKept, known_after}
+use Rattle.hk_runs.specs.Headline.{ConnectionKeepsFiles, HasVerdict, Headline, IsPart, KeepsFiles, Lasts, NothingHappened, WorldKept, known_after}
+use Rattle.hk_runs.specs.KeyFacts.{FactOfDisk, FactOfLog, FactOfTable, KeyFact}
 use Rattle.hk_runs.specs.Logs.{HiddenBefore, NoRestart, OnDisk, SurvivesLast, SurvivesUntil, opened_logs}
 use Rattle.hk_runs.specs.Pipe.{Converses, Pipe, PipeUnder}
 use Rattle.hk_runs.specs.PlayedLines.{PlayedLine, events_of_lines, lines_in}
 use Rattle.command_io.specs.Ends.{status_of}
 use Rattle.hk_runs.specs.Replay.{CutAt, Played, Replay, ReplayUnder}
 use Rattle.hk_runs.specs.Run.{EventRuns, FilesOpenThroughout, Happened, History, IsHidden, Runs, StayApart, SurvivesIn, behind, drawn_in, faults_after, hidden_in, world_after}
+use Rattle.hk_runs.proofs.LastingLemmas.{last_holds, opening_holds, start_finds, until_holds, world_holds}
 use Rattle.hk_runs.proofs.VerdictLemmas.{step_judged}
 
 -- what is known after an event
@@ -101,6 +103,11 @@ module _ (before : Hidden) (first : WorldState) (words : ℕ → ℕ) where
   apart_at (x ∷ part) [] apart = apart.0
   apart_at part (x ∷ more) apart = apart_at part more apart.1
 
+-- a part of a run
+runs_part : (lines : List PropLine) (tells : Type 0) (first : WorldState) (words : ℕ → ℕ) (before : ℕ) (part more : History) → Runs lines tells first words before (more ++ part) → Runs lines tells first words before part
+runs_part lines tells first words before part [] runs = runs
+runs_part lines tells first words before part (x ∷ more) runs = runs_part lines tells first words before part more runs.1
+
 -- an event of a run
 runs_at : (lines : List PropLine) (tells : Type 0) (first : WorldState) (words : ℕ → ℕ) (before : ℕ) (h : Happened) (earlier more : History) → Runs lines tells first words before (more ++ h ∷ earlier)
     → EventRuns lines tells (world_after first earlier) (behind (drawn_in earlier) words) (faults_after before earlier) h
@@ -154,6 +161,7 @@ module _ (old : DiskState) (past : Past) (sound : StartsSound old past) (first :
 
 -- what the disk tells of its first moment, and of its last
 pub record Ends (old new : DiskState) : Type 0 where
+  pub reads : Tells old → (file : ℕ) → file < 2 → old.leaves file (old.reads file)
   pub only : (c : Image) → old.left_since old.moment c → IsImage old c
   pub counts : (t : ℕ) (c : Image) → t ≤ new.moment → IsImage new c → new.left_since t c
 
@@ -179,6 +187,10 @@ module _ (past : Past) (props : Props) (old new : DiskState) (words : ℕ → �
   before : HiddenBefore old (drawn_before past)
   before = record { past = past; sound = sound; is = refl }
 
+  -- a fact of the key log at the start is one of the table that the start found
+  found : (fact : KeyFact) → FactOfDisk old fact → FactOfTable fact table
+  found fact holds = start_finds old fact holds (ends.reads tells) disk.commands table disk.keys
+
   worlds : (part : History) → IsPart part history → WorldKept (known_after past first words part) (world_after first part)
   worlds part is =
       world_kept (world_after first part) (hidden_in (drawn_before past) first words part)
@@ -190,12 +202,31 @@ module _ (past : Past) (props : Props) (old new : DiskState) (words : ℕ → �
       (λ now. ⊎_elim (λ (opening : LeftByStarts old c). sound_start old past sound first words done c history (opening.sound past sound)) (λ run. sound_until old past sound first words done c Cut history run) now)
       (disk.moments.before old.moment c (omega arith) since)
 
+  lasts_since : (fact : KeyFact) → FactOfDisk old fact → (c : Image) → new.left_since old.moment c → FactOfLog fact (c 0)
+  lasts_since fact holds c since = ⊎_elim
+      (λ at_start. holds c (ends.only c at_start))
+      (λ now. ⊎_elim (λ (opening : LeftByStarts old c). opening_holds old fact holds (ends.reads tells) c opening)
+      (λ run. until_holds props.lines (Tells old) tells props.sizes table disk.commands (old.reads 0) disk.keys fact (found fact holds) first refl words k.before Cut done (HiddenBefore old) history c k.runs run) now)
+      (disk.moments.before old.moment c (omega arith) since)
+
+  lasts : (fact : KeyFact) → FactOfDisk old fact → Lasts old new first history fact
+  lasts fact holds = record {
+    worlds = λ part is.
+        world_holds props.lines (Tells old) tells props.sizes table disk.commands (old.reads 0) disk.keys fact (found fact holds) first refl words k.before part
+        (runs_part props.lines (Tells old) first words k.before part is.0 (subst (Runs props.lines (Tells old) first words k.before) is.1 k.runs));
+    on_disk = record {
+      images = lasts_since fact holds;
+      last = λ c is. last_holds props.lines (Tells old) tells props.sizes table disk.commands (old.reads 0) disk.keys fact (found fact holds) first refl words k.before Cut done (HiddenBefore old) history c k.runs (disk.last c is);
+    };
+  }
+
   pub headline_of : Headline past props.lines old new words first history
   headline_of = record {
     worlds = worlds;
     images = λ c since. let s = sound_since c since in (s.0, s.1, image_kept (known_after past first words s.0) c s.2);
     verdicts = judged_at props.lines (Tells old) first words k.before history k.runs;
     again = λ c is. sound_last old past sound first words done c Cut history (disk.last c is);
+    lasts = lasts;
     grows = λ part later is within. subst (λ (l : History). IsKnownLater (known_after past first words part) (known_after past first words l)) (sym is.1) (grows_to (drawn_before past) first words part is.0);
     apart = λ apart part is. apart_at (drawn_before past) first words part is.0 (subst (StayApart (drawn_before past) first words) is.1 (k.apart tells (drawn_before past) before apart));
   }
@@ -226,16 +257,20 @@ unmoved state d e only same = record {
 module _ (past : Past) (old new : DiskState) (tells : Tells old) (sound : StartsSound old past) where
   -- nothing was done
   pub unmoved_keeps : {same : Type 0} → same → Unmoved old new → NothingHappened same past old new
-  unmoved_keeps untouched u = record { untouched = untouched; images = λ c since. image_kept past c (sound c (u.since c since)); again = λ c is. sound c (u.images c is) }
+  unmoved_keeps untouched u = record { untouched = untouched; images = λ c since. image_kept past c (sound c (u.since c since)); again = λ c is. sound c (u.images c is); lasts = λ fact holds. record { images = λ c since. holds c (u.since c since); last = λ c is. holds c (u.images c is) } }
 
   -- a log could not be opened
-  unopened_keeps : {same : Type 0} → same → Ends old new → LeavesBoth old new (LeftByStarts old) → old.moment ≤ new.moment → NothingHappened same past old new
+  pub unopened_keeps : {same : Type 0} → same → Ends old new → LeavesBoth old new (LeftByStarts old) → old.moment ≤ new.moment → NothingHappened same past old new
   unopened_keeps untouched ends moments later = record {
     untouched = untouched;
     images = λ c since. image_kept past c (sound_of c since);
     again = λ c is. sound_of c (ends.counts old.moment c later is);
+    lasts = λ fact holds. record { images = fact_of fact holds; last = λ c is. fact_of fact holds c (ends.counts old.moment c later is) };
   }
     where
+      fact_of : (fact : KeyFact) → FactOfDisk old fact → (c : Image) → new.left_since old.moment c → FactOfLog fact (c 0)
+      fact_of fact holds c since = ⊎_elim (λ at_start. holds c (ends.only c at_start)) (λ (opening : LeftByStarts old c). opening_holds old fact holds (ends.reads tells) c opening) (moments.before old.moment c (omega arith) since)
+
       sound_of : (c : Image) → new.left_since old.moment c → SoundFiles past c
       sound_of c since = ⊎_elim (λ at_start. sound c (ends.only c at_start)) (λ (opening : LeftByStarts old c). opening.sound past sound) (moments.before old.moment c (omega arith) since)
 

@@ -5,6 +5,7 @@ mod FollowLemmas
 pub mod HeadlineLemmas
 pub mod HistoryLemmas
 pub mod LastLemmas
+pub mod LastingLemmas
 pub mod LivedLemmas
 pub mod PipeLemmas
 pub mod StageLemmas

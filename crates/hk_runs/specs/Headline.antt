@@ -30,6 +30,7 @@ use Rattle.world_run.specs.Verdicts.{IsJudged}
 use Rattle.world_run.specs.World.{WorldState, first_world, numbered}
 use Rattle.command_io.specs.Environment.{Environment}
 use Rattle.command_io.specs.declared.ends.ReplayEnd.{ReplayEnd}
+use Rattle.hk_runs.specs.KeyFacts.{FactOfDisk, FactOfWorld, KeyFact, LastsOnDisk}
 use Rattle.hk_runs.specs.Pipe.{Converses, connection_status}
 use Rattle.hk_runs.specs.PlayedLines.{events_of_lines}
 use Rattle.command_io.specs.Properties.{ReadsProperties}
@@ -70,6 +71,11 @@ HasVerdict lines w (event.Draw number) outcome = IsJudgedFor lines (noted_call (
 HasVerdict lines w (event.Serve number) outcome = IsJudgedFor lines (option_map batch_call (numbered w.kept.batches number)) outcome
 HasVerdict lines w _ outcome = ⊤
 
+-- A fact of a key lasts: it is true in each world on the way, in each key log that a crash leaves since, and in the end.
+pub record Lasts (old new : DiskState) (first : WorldState) (history : History) (fact : KeyFact) : Type 0 where
+  pub worlds : (part : History) → IsPart part history → FactOfWorld (world_after first part) fact
+  pub on_disk : LastsOnDisk old new fact
+
 -- What holds of a history of events from the first world on, under the properties of these lines, while the disk went from `old` to
 -- `new`: `past` is what is known of earlier runs, and these words were to come.
 pub record Headline (past : Past) (lines : List PropLine) (old new : DiskState) (words : ℕ → ℕ) (first : WorldState) (history : History) : Type 0 where
@@ -83,6 +89,9 @@ pub record Headline (past : Past) (lines : List PropLine) (old new : DiskState) 
   pub again : StartsSound new (known_after past first words history)
   -- what is known after a part stays known after each later part, and in the end
   pub grows : (part later : History) → IsPart part later → IsPart later history → IsKnownLater (known_after past first words part) (known_after past first words later)
+  -- A key's materials last while the key exists, and what it opened it opens. So an encrypted key that was copied still opens when no file
+  -- has it any more.
+  pub lasts : (fact : KeyFact) → FactOfDisk old fact → Lasts old new first history fact
   -- and if no two draws of earlier runs have a random word in common, no two draws have one
   pub apart : WordsApart (drawn_before past) → (part : History) → IsPart part history → DrawsApart (hidden_in (drawn_before past) first words part)
 
@@ -96,6 +105,7 @@ pub record NothingHappened (same : Type 0) (past : Past) (old new : DiskState) :
   pub untouched : same
   pub images : (c : Image) → new.left_since old.moment c → ImageKept past c
   pub again : StartsSound new past
+  pub lasts : (fact : KeyFact) → FactOfDisk old fact → LastsOnDisk old new fact
 
 -- The properties were read, and lines of the input were played under them until one of them ended the run (`PlaysOn`). The history of
 -- their events keeps the promise.

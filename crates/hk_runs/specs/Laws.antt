@@ -1,11 +1,16 @@
 -- Runs one after another.
-use Rattle.std.specs.Prelude.{◌≡◌, ◌≤◌, ℕ, List, [], length}
+use Rattle.std.specs.Prelude.{◌≡◌, ◌≤◌, ℕ, Bool, List, [], length, Some}
 use Rattle.hk_base.specs.Disk.{DiskState, Image, IsImage}
+use Rattle.hk_base.specs.declared.names.Edek.{Edek}
+use Rattle.inode_tree.specs.declared.rows.Row.{Row}
+use Rattle.name_store.specs.Table.{kept_rows, settled_log}
 use Rattle.prop_text.specs.declared.lines.PropLine.{PropLine}
-use Rattle.world_run.specs.Ledger.{Past, drawn_before}
+use Rattle.world_run.specs.Ledger.{Draw, Past, drawn_before}
 use Rattle.world_run.specs.Linked.{StartsSound, WordsApart}
+use Rattle.world_run.specs.Promise.{In, edek_of}
 use Rattle.world_run.specs.World.{WorldState}
 use Rattle.hk_runs.specs.Headline.{Headline, IsPart, known_after}
+use Rattle.hk_runs.specs.KeyFacts.{FactOfDisk, KeyFact, OpensKey}
 use Rattle.hk_runs.specs.Run.{History}
 
 -- nothing is known of earlier runs
@@ -46,3 +51,19 @@ FollowsCrash old new next =
 -- draws with no word in common before a run have none in what is known after a part of it
 abbrev pub DrawsStayApart : DiskState → DiskState → Type 0
 DrawsStayApart old new = (run : RunFrom old new) (part : History) → WordsApart (drawn_before run.past) → IsPart part run.history → WordsApart (drawn_before (known_in run part))
+
+-- A fact of a key before a run is one on a disk with the files that the run left in the end.
+abbrev pub FactsLast : DiskState → DiskState → DiskState → Type 0
+FactsLast old new next = (run : RunFrom old new) (fact : KeyFact) → FactOfDisk old fact → ((c : Image) → IsImage next c → IsImage new c) → FactOfDisk next fact
+
+-- and on a disk with the files that a crash left at any moment of it
+abbrev pub FactsSurvive : DiskState → DiskState → DiskState → Type 0
+FactsSurvive old new next = (run : RunFrom old new) (fact : KeyFact) (image : Image) → FactOfDisk old fact → new.left_since old.moment image → HasFiles next image → FactOfDisk next fact
+
+-- Of a file that each image of the edit log has, with its last record or without it: it is a fact that its encrypted key opens to the
+-- data key of its draw.
+abbrev pub KeptKeysOpen : DiskState → Type 0
+KeptKeysOpen d =
+    (known : Past) (sound : StartsSound d known) (file : Row) (edek : Edek) (draw : Draw) → edek_of file.kind ≡ Some edek → In (file.id, draw) known.ledger
+    → ((c : Image) (is : IsImage d c) → (found : Bool) × In file (kept_rows (settled_log found (sound c is).more_ops (sound c is).made).table))
+    → FactOfDisk d (OpensKey draw edek)

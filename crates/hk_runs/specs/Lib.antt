@@ -4,5 +4,6 @@ pub mod PlayedLines
 pub mod Replay
 pub mod Steps
 pub mod Pipe
+pub mod KeyFacts
 pub mod Headline
 pub mod Laws

@@ -1,5 +1,5 @@
-//! Laws of runs that follow one another. The function does nothing: its contract is the law.
-ghost use Rattle.hk_runs.specs.Laws.{DrawsStayApart, FollowsCrash, FollowsRun, IsUnwritten, nothing_known};
+//! Laws of runs that follow one another. The functions do nothing: their contracts are the laws.
+ghost use Rattle.hk_runs.specs.Laws.{DrawsStayApart, FactsLast, FactsSurvive, FollowsCrash, FollowsRun, IsUnwritten, KeptKeysOpen, nothing_known};
 ghost use Rattle.world_run.specs.Linked.{StartsSound};
 
 use hk_base::Disk;
@@ -14,4 +14,13 @@ pub fn runs_follow_one_another<D: Disk>(before: &D, after: &D, next: &D)
     ensures follows { FollowsRun (D.state before.now) (D.state after.now) (D.state next.now) }
     ensures after_crash { FollowsCrash (D.state before.now) (D.state after.now) (D.state next.now) }
     ensures apart { DrawsStayApart (D.state before.now) (D.state after.now) }
+{}
+
+/// The materials of a key last from run to run, after a crash too, while the key exists. So the
+/// encrypted key of a file opens to the data key drawn for the file in each later run, even if the
+/// file was deleted or has another encrypted key by then.
+pub fn keys_last_from_run_to_run<D: Disk>(before: &D, after: &D, next: &D)
+    ensures kept { KeptKeysOpen (D.state before.now) }
+    ensures last { FactsLast (D.state before.now) (D.state after.now) (D.state next.now) }
+    ensures after_crash { FactsSurvive (D.state before.now) (D.state after.now) (D.state next.now) }
 {}

@@ -7,6 +7,6 @@ mod pipe;
 mod replay;
 mod stage;
 
-pub use laws::runs_follow_one_another;
+pub use laws::{keys_last_from_run_to_run, runs_follow_one_another};
 pub use pipe::run_pipe;
 pub use replay::run_replay;

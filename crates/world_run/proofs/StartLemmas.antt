@@ -88,7 +88,7 @@ next-key-linked past t names (Roll birth number material) is may l = absurd (cc 
 next-key-linked past t names (Delete birth) is may l = absurd (cc is)
 
 -- the command that was pending, kept after all
-key-kept-after-all : (table : Table) (kept : Bool) (more : Option KeyCommand) (c : KeyCommand) → kept ≡ false → more ≡ Some c → after (settled_table kept more table) c ≡ settled_table true more table
+pub key-kept-after-all : (table : Table) (kept : Bool) (more : Option KeyCommand) (c : KeyCommand) → kept ≡ false → more ≡ Some c → after (settled_table kept more table) c ≡ settled_table true more table
 key-kept-after-all table kept more c dropped is =
     (λ i. after (settled_table (dropped i) (is i) table) c) ∙ ap (λ (p : Option KeyCommand). settled_table true p table) (sym is)
 
@@ -181,7 +181,7 @@ pub record Moment (d : DiskState) : Type 0 where
   pub is_one : Tells d → (file : ℕ) → file < 2 → d.leaves file (d.reads file)
 
 -- an opened key log is one that a start leaves
-by-start : (found bytes : List ℕ) → IsOpenedLog found bytes → IsLeftByStart found bytes
+pub by-start : (found bytes : List ℕ) → IsOpenedLog found bytes → IsLeftByStart found bytes
 by-start found bytes o =
     let command : KeyCommand = next_opening o.table in
     Opening o.commands o.table o.log

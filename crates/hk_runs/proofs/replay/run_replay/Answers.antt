@@ -20,12 +20,12 @@ pub returns-in-Err-clause-headline : goal.returns-in-Err-clause-headline
 returns-in-Err-clause-headline g c tells past sound =
     let r = returns-in-Err-clause-replay g c in
     replay_keeps past (g.D.Disk.state c.args.disk.now) (g.D.Disk.state c.args.disk.now) tells sound (c.args.disk.now ≡ c.args.disk.now) ((c.args.input.now ≡ c.args.input.now) × (c.args.rand.now ≡ c.args.rand.now)) _ _ _ _ _ _ _ r.0 _
-    (record { only = g.met.D.Disk.only_now c.args.disk.now; counts = g.met.D.Disk.counts_now c.args.disk.now }) r.1 (unmoved g.D.Disk.state c.args.disk.now c.args.disk.now (g.met.D.Disk.only_now c.args.disk.now)) r.2
+    (record { reads = λ tells file lt. g.met.D.Disk.is_one c.args.disk.now file tells lt; only = g.met.D.Disk.only_now c.args.disk.now; counts = g.met.D.Disk.counts_now c.args.disk.now }) r.1 (unmoved g.D.Disk.state c.args.disk.now c.args.disk.now (g.met.D.Disk.only_now c.args.disk.now)) r.2
 
 pub returns-clause-headline : goal.returns-clause-headline
 returns-clause-headline g c tells past sound =
     let r = returns-clause-replay g c in
     replay_keeps past (g.D.Disk.state c.args.disk.now) (g.D.Disk.state c.replay_under-end.new.disk) tells sound (c.replay_under-end.new.disk ≡ c.args.disk.now)
     ((c.replay_under-end.new.input ≡ c.args.input.now) × (c.replay_under-end.new.rand ≡ c.args.rand.now)) _ _ _ _ _ _ _ r.0 _
-    (record { only = g.met.D.Disk.only_now c.args.disk.now; counts = g.met.D.Disk.counts_now c.replay_under-end.new.disk }) r.1
+    (record { reads = λ tells file lt. g.met.D.Disk.is_one c.args.disk.now file tells lt; only = g.met.D.Disk.only_now c.args.disk.now; counts = g.met.D.Disk.counts_now c.replay_under-end.new.disk }) r.1
     (unmoved g.D.Disk.state c.args.disk.now c.replay_under-end.new.disk (g.met.D.Disk.only_now c.args.disk.now)) r.2

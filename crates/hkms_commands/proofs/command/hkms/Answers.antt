@@ -23,14 +23,14 @@ pub returns-clause-headline : goal.returns-clause-headline
 returns-clause-headline g c names tells past sound =
     order_keeps past (g.D.Disk.state c.args.disk.now) (g.D.Disk.state c.obey.new.disk) tells sound (c.obey.new.disk ≡ c.args.disk.now) (c.obey.new.acls ≡ c.args.acls.now) (c.obey.new.input ≡ c.args.input.now)
     (c.obey.new.rand ≡ c.args.rand.now) (c.obey.new.clock ≡ c.args.clock.now) _ _ _ _ _ _ _ _ _ _ _ c.obey.result c.read_order-order.result
-    (record { only = g.met.D.Disk.only_now c.args.disk.now; counts = g.met.D.Disk.counts_now c.obey.new.disk }) (unmoved g.D.Disk.state c.args.disk.now c.obey.new.disk (g.met.D.Disk.only_now c.args.disk.now))
+    (record { reads = λ tells file lt. g.met.D.Disk.is_one c.args.disk.now file tells lt; only = g.met.D.Disk.only_now c.args.disk.now; counts = g.met.D.Disk.counts_now c.obey.new.disk }) (unmoved g.D.Disk.state c.args.disk.now c.obey.new.disk (g.met.D.Disk.only_now c.args.disk.now))
     (named_so c.read_order-order.result c.args.words.now c.read_order-order.ensures.ok c.read_order-order.ensures.usage Replay names) c.obey.ensures.obeys
 
 pub returns-clause-headline_pipe : goal.returns-clause-headline_pipe
 returns-clause-headline_pipe g c names tells past sound =
     pipe_order_keeps past (g.D.Disk.state c.args.disk.now) (g.D.Disk.state c.obey.new.disk) tells sound (c.obey.new.disk ≡ c.args.disk.now) (c.obey.new.acls ≡ c.args.acls.now) (c.obey.new.input ≡ c.args.input.now)
     (c.obey.new.out ≡ c.args.out.now) (c.obey.new.rand ≡ c.args.rand.now) (c.obey.new.clock ≡ c.args.clock.now) _ _ _ _ _ _ _ _ _ _ _ c.obey.result c.read_order-order.result
-    (record { only = g.met.D.Disk.only_now c.args.disk.now; counts = g.met.D.Disk.counts_now c.obey.new.disk }) (unmoved g.D.Disk.state c.args.disk.now c.obey.new.disk (g.met.D.Disk.only_now c.args.disk.now))
+    (record { reads = λ tells file lt. g.met.D.Disk.is_one c.args.disk.now file tells lt; only = g.met.D.Disk.only_now c.args.disk.now; counts = g.met.D.Disk.counts_now c.obey.new.disk }) (unmoved g.D.Disk.state c.args.disk.now c.obey.new.disk (g.met.D.Disk.only_now c.args.disk.now))
     (named_so c.read_order-order.result c.args.words.now c.read_order-order.ensures.ok c.read_order-order.ensures.usage Pipe names) c.obey.ensures.obeys
 
 pub returns-clause-idle : goal.returns-clause-idle
