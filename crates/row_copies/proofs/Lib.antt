@@ -1,0 +1,4 @@
+mod AddLemmas
+mod EndLemmas
+mod NextLemmas
+mod PutLemmas
