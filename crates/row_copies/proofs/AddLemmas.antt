@@ -118,12 +118,16 @@ keeps-same a = record { source = cluster-same a.source; target = cluster-same a.
 pub keeps-rows : (a b : CopyState) → KeepsBoth a b → KeepsRows a b
 keeps-rows a b k = record { source = k.source; rows = k.target.rows; tells = k.target.bodies.tells; bodies = λ tells id has. k.target.bodies.bodies tells id }
 
+abbrev id-of : Option Row → ℕ
+id-of None = 0
+id-of (Some row) = row.id
+
 -- a directory is made, and marked
 pub makes-marks : (path : List (List ℕ)) (key : KeyName) (a b c : CopyState) → MakesDirectory path a b → MarksDirectory path key b c → MakesRow (Dir (Some key)) path a c
 makes-marks path key a b c m k =
     let made : row_at b.target.rows path ≡ Some (record { id = m.id; kind = Dir None }) =
         ap (λ (rows : List Entry). row_at rows path) m.rows ∙ row-of-put (directory_at m.id path None) a.target.rows m.absent in
-    let same : k.id ≡ m.id = let e = sym k.was ∙ made in cc in
+    let same : k.id ≡ m.id = ap id-of (sym k.was ∙ made) in
     record {
       source = cluster-join a.source b.source c.source m.source k.source;
       id = m.id;
@@ -255,7 +259,7 @@ module _ (to : List (List ℕ)) where
     adds = keeps-adds a a (keeps-same a);
     ends = record {
       unmarked = directory_at m.id x.path None ∷ [];
-      next = (refl, (zone, (refl, refl)));
+      next = (refl, zone, refl, refl);
       there = ap (λ (rows : List Entry). rows_below rows to) m.rows ∙ below-put to x.path (record { id = m.id; kind = Dir None }) a.target.rows rising before;
       removed_is = ap (removed to) m.rows ∙ removed-put to (directory_at m.id (to ++ x.path) None) a.target.rows (prefix-append to x.path);
       source = m.source;

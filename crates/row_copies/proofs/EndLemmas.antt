@@ -78,16 +78,16 @@ missing-keeps (Some row) path a b c m k = keeps-join a b c m k
 
 pub above-keeps : (n : ℕ) (to : List (List ℕ)) (a b c : CopyState) → MakesAbove n to a b → KeepsBoth b c → MakesAbove n to a c
 above-keeps zero to a b c m k = keeps-join a b c m k
-above-keeps (suc n) to a b c m k = (m.0, (m.1, missing-keeps (row_at m.0.target.rows (take (suc n) to)) (take (suc n) to) m.0 b c m.2 k))
+above-keeps (suc n) to a b c m k = (m.0, m.1, missing-keeps (row_at m.0.target.rows (take (suc n) to)) (take (suc n) to) m.0 b c m.2 k)
 
 pub above-since : (n : ℕ) (to : List (List ℕ)) (a b c : CopyState) → KeepsBoth a b → MakesAbove n to b c → MakesAbove n to a c
 above-since zero to a b c k m = keeps-join a b c k m
-above-since (suc n) to a b c k m = (m.0, (above-since n to a b m.0 k m.1, m.2))
+above-since (suc n) to a b c k m = (m.0, above-since n to a b m.0 k m.1, m.2)
 
 pub above-next : (n m : ℕ) (to path : List (List ℕ)) (a b c : CopyState) → m ≡ suc n → path ≡ take m to → MakesAbove n to a b → MakesMissing (row_at b.target.rows path) path b c → MakesAbove m to a c
 above-next n m to path a b c is is_path f g =
     let same : path ≡ take (suc n) to = is_path ∙ ap (λ (k : ℕ). take k to) is in
-    subst (λ (k : ℕ). MakesAbove k to a c) (sym is) (b, (f, subst (λ (q : List (List ℕ)). MakesMissing (row_at b.target.rows q) q b c) same g))
+    subst (λ (k : ℕ). MakesAbove k to a c) (sym is) (b, f, subst (λ (q : List (List ℕ)). MakesMissing (row_at b.target.rows q) q b c) same g)
 
 -- the end
 

@@ -41,7 +41,7 @@ row-there (e ∷ es) p row h = go (same_path e.path p) refl h (row-there es p ro
 pub there-row : (rows : List Entry) (e : Entry) → IsRising rows → In e rows → row_at rows e.path ≡ Some e.row
 there-row [] e r is = absurd is
 there-row (x ∷ xs) e r (inl is) = ap (λ (b : Bool). cond b (Some x.row) (row_at xs e.path)) (ap (λ (y : Entry). same_path y.path e.path) (sym is) ∙ same-itself e.path) ∙ ap (λ (y : Entry). Some y.row) (sym is)
-there-row (x ∷ xs) e r (inr is) = ap (λ (b : Bool). cond b (Some x.row) (row_at xs e.path)) (before-not-same x.path e.path (after-in e.path xs e r.0 is)) ∙ there-row xs e r.1 is
+there-row (x ∷ xs) e r (inr is) = ap (λ (b : Bool). cond b (Some x.row) (row_at xs e.path)) (before-not-same x.path e.path (after-in x.path xs e r.0 is)) ∙ there-row xs e r.1 is
 
 -- lists of children
 
@@ -59,7 +59,7 @@ take-next [] k d h = absurd (omega (arith, h))
 take-next (x ∷ kids) zero d h = refl
 take-next (x ∷ kids) (suc k) d h = ap (λ (l : List Entry). x ∷ l) (take-next kids k d (omega (arith, h)))
 
-pub kids-of : List Entry → List (List ℕ) → List Entry
+abbrev pub kids-of : List Entry → List (List ℕ) → List Entry
 kids-of rows p = filter (λ (e : Entry). is_child p e.path) rows
 
 in-filter : (test : Entry → Bool) (es : List Entry) (x : Entry) → In x (filter test es) → In x es × (test x ≡ true)
@@ -146,23 +146,29 @@ all-before from to s n t =
     (subst IsRising (sym (ap (λ (l : List Entry). n.done ++ (l ++ n.rest)) (sym (block-is s.source.rows from n.row t n.is_row)) ∙ n.whole)) t.rising)
     n.there
 
+-- the blocks of the first k children, of the next, and of those after it
+pub blocks-at : (rows : List Entry) (from : List (List ℕ)) (row : Row) (k : ℕ) (d : Entry) → IsTree rows → row_at rows from ≡ Some row → k < length (kids-of rows from)
+    → below rows from ≡ (entry_at from row ∷ belows (take k (kids-of rows from)) rows) ++ (below rows (get_or (kids-of rows from) k d).path ++ belows (drop (suc k) (kids-of rows from)) rows)
+blocks-at rows from row k d t at h =
+    let kids = kids-of rows from in
+    let kid = get_or kids k d in
+    block-is rows from row t at
+    ∙ ap (λ (l : List Entry). entry_at from row ∷ l) (ap (λ (l : List Entry). belows l rows) (split-at kids k d h) ∙ belows-join (take k kids) (kid ∷ drop (suc k) kids) rows)
+
 -- after the first k children of a directory the next is the next row
-pub next-kid : (from to : List (List ℕ)) (k : ℕ) (d : Entry) (a b : CopyState) (n : IsNext from to a) → IsTree a.source.rows → k < length (kids-of a.source.rows from)
-    → Adds to (entry_at from n.row ∷ belows (take k (kids-of a.source.rows from)) a.source.rows) a b → IsNext (get_or (kids-of a.source.rows from) k d).path to b
-next-kid from to k d a b n t h f =
+pub next-kid : (from to : List (List ℕ)) (row : Row) (k : ℕ) (d : Entry) (a b : CopyState) (n : IsNext from to a) → IsTree a.source.rows → row_at a.source.rows from ≡ Some row → k < length (kids-of a.source.rows from)
+    → Adds to (entry_at from row ∷ belows (take k (kids-of a.source.rows from)) a.source.rows) a b → IsNext (get_or (kids-of a.source.rows from) k d).path to b
+next-kid from to row k d a b n t at h f =
     let rows = a.source.rows in
     let kids = kids-of rows from in
     let kid = get_or kids k d in
-    let first = entry_at from n.row ∷ belows (take k kids) rows in
+    let first = entry_at from row ∷ belows (take k kids) rows in
     let later = belows (drop (suc k) kids) rows in
-    let blocks : below rows from ≡ first ++ (below rows kid.path ++ later) =
-        block-is rows from n.row t n.is_row
-        ∙ ap (λ (l : List Entry). entry_at from n.row ∷ l) (ap (λ (l : List Entry). belows l rows) (split-at kids k d h) ∙ belows-join (take k kids) (kid ∷ drop (suc k) kids) rows) in
     let whole : (n.done ++ first) ++ (below rows kid.path ++ (later ++ n.rest)) ≡ rows =
         append_assoc n.done first (below rows kid.path ++ (later ++ n.rest))
         ∙ ap (λ (l : List Entry). n.done ++ (first ++ l)) (sym (append_assoc (below rows kid.path) later n.rest))
         ∙ ap (λ (l : List Entry). n.done ++ l) (sym (append_assoc first (below rows kid.path ++ later) n.rest))
-        ∙ ap (λ (l : List Entry). n.done ++ (l ++ n.rest)) (sym blocks)
+        ∙ ap (λ (l : List Entry). n.done ++ (l ++ n.rest)) (sym (blocks-at rows from row k d t at h))
         ∙ n.whole in
     record {
       row = kid.row;

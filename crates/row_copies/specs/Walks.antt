@@ -1,14 +1,15 @@
 -- What each step of a walk over the source adds to the target.
-use Rattle.std.specs.Prelude.{◌≡◌, ◌+◌, ℕ, Bool, List, [], ◌∷◌, ◌++◌, count_by, Some, None}
+use Rattle.std.specs.Prelude.{◌≡◌, ◌+◌, ℕ, Bool, true, false, not, List, [], ◌∷◌, ◌++◌, count_by, Some, None}
 use Rattle.std.specs.List.{AllByRecursion}
 use Rattle.body_stream.specs.Vaults.{KeepsBodies}
 use Rattle.inode_tree.specs.declared.rows.Kind.{Kind}
+use Rattle.inode_tree.specs.declared.rows.Kind.TheVariants.{Dir, File}
 use Rattle.inode_tree.specs.declared.rows.Row.{Row}
 use Rattle.inode_tree.specs.Below.{rows_below}
 use Rattle.inode_tree.specs.Rows.{Entry, entry_of, is_dir, put, removed, row_at}
 use Rattle.row_blocks.specs.Below.{below}
 use Rattle.row_copies.specs.declared.walk.Copied.{Copied}
-use Rattle.row_copies.specs.Clusters.{CopyState, KeepsCluster}
+use Rattle.row_copies.specs.Clusters.{CopiesFile, CopyState, KeepsCluster}
 use Rattle.row_copies.specs.Copies.{AreCopies, BodiesCopied, IsUnmarked, OthersKept, OwnKept, is_file}
 
 abbrev pub entry_at : List (List ℕ) → Row → Entry
@@ -71,10 +72,25 @@ pub record MakesRow (kind : Kind) (path : List (List ℕ)) (old new : CopyState)
   pub rows : new.target.rows ≡ put (entry_at path (record { id = id; kind = kind })) old.target.rows
   pub bodies : KeepsBodies old.target.bodies new.target.bodies
 
+-- a row of the target is made that is a copy of a row of the source
+abbrev pub MakesKind : Kind → ℕ → List (List ℕ) → (old new : CopyState) → Type 0
+MakesKind (Dir key) from path old new = MakesRow (Dir key) path old new
+MakesKind (File edek) from path old new = CopiesFile from path edek old new
+
+abbrev pub MakesCopy : Row → List (List ℕ) → Bool → (old new : CopyState) → Type 0
+MakesCopy row path directory old new = (directory ≡ is_dir row.kind) × MakesKind row.kind row.id path old new
+
 -- the row of the source at a path is copied
-pub record CopiesRow (from to : List (List ℕ)) (directory : Bool) (old new : CopyState) (counts counts' : Copied) : Type 0 where
+pub record CopiesRow (from to : List (List ℕ)) (directory : Bool) (old new : CopyState) : Type 0 where
   pub row : Row
   pub is_row : row_at old.source.rows from ≡ Some row
   pub kind : directory ≡ is_dir row.kind
   pub adds : Adds to (entry_at from row ∷ []) old new
-  pub counts_are : Counts (entry_at from row ∷ []) counts counts'
+
+abbrev pub one_if : Bool → ℕ
+one_if true = 1
+one_if false = 0
+
+-- a directory or a file is counted
+abbrev pub CountsOne : Bool → Copied → Copied → Type 0
+CountsOne directory old new = (new.files ≡ old.files + one_if (not directory)) × (new.directories ≡ old.directories + one_if directory)

@@ -3,9 +3,9 @@ ghost use Rattle.std.specs.Prelude.{◌≡◌, ◌⊎◌, ◌+◌, Some, None, i
 ghost use Rattle.inode_tree.specs.declared.rows.Kind.TheVariants.{Dir};
 ghost use Rattle.inode_tree.specs.Rows.{is_marked, row_at};
 ghost use Rattle.row_blocks.specs.Below.{below};
-ghost use Rattle.row_copies.specs.Clusters.{KeepsBoth, MakesDirectory};
+ghost use Rattle.row_copies.specs.Clusters.{KeepsBoth, KeepsRows, MakesDirectory};
 ghost use Rattle.row_copies.specs.Copies.{CopiesAll, Steps, StopsEarly, is_file};
-ghost use Rattle.row_copies.specs.Walks.{Adds, CopiesRow, Counts, IsNext, MakesRow, Stops, is_directory};
+ghost use Rattle.row_copies.specs.Walks.{Adds, CopiesRow, Counts, CountsOne, IsNext, MakesCopy, MakesRow, Stops, is_directory};
 
 use crate::clusters::Clusters;
 use crate::parents::{check_absent, make_parents};
@@ -55,19 +55,45 @@ fn make<C: Clusters>(clusters: &mut C, path: &NPath, key: Option<KeyName>) -> Re
     }
 }
 
+/// Makes a row of the target of the same kind as a row of the source, and copies the body of a file.
+/// Returns whether it is a directory.
+fn make_row<C: Clusters>(clusters: &mut C, row: Row, path: &NPath) -> Result<bool, FsEnd>
+    requires ready { C.ready clusters.old }
+    ensures ok { IfOk result
+        (λ directory. MakesCopy row path.now directory (C.state clusters.old)
+        (C.state clusters.new)) }
+    ensures err { OnErr result
+        (KeepsRows (C.state clusters.old) (C.state clusters.new) ⊎
+        ((is_marked row ≡ true) ×
+        MakesDirectory path.now (C.state clusters.old) (C.state clusters.new))) }
+    ensures ready { C.ready clusters.new }
+    ensures steps { Steps C.follows clusters.old clusters.new }
+{
+    let Row { id, kind } = row;
+    match kind {
+        Kind::Dir { key } => match make(clusters, path, key) {
+            Ok(()) => Ok(true),
+            Err(end) => Err(end),
+        },
+        Kind::File { edek } => match clusters.copy_file(id, path, edek) {
+            Ok(()) => Ok(false),
+            Err(end) => Err(end),
+        },
+    }
+}
+
 /// Copies the row of the source at a path. Returns whether it is a directory.
 fn copy_row<C: Clusters>(
     alloc: Global,
     clusters: &mut C,
     from: &NPath,
     to: &NPath,
-    counts: &mut Copied,
 ) -> Result<bool, FsEnd>
     requires ready { C.ready clusters.old }
     requires next { IsNext from.now to.now (C.state clusters.old) }
     ensures ok { IfOk result
         (λ directory. CopiesRow from.now to.now directory (C.state clusters.old)
-        (C.state clusters.new) counts.old counts.new) }
+        (C.state clusters.new)) }
     ensures err { OnErr result
         (Stops to.now (below (C.state clusters.old).source.rows from.now) (C.state clusters.old)
         (C.state clusters.new)) }
@@ -79,21 +105,31 @@ fn copy_row<C: Clusters>(
         Ok(row) => row,
         Err(end) => return Err(end),
     };
-    let at = join(alloc, to, from)?;
-    match row.kind {
-        Kind::Dir { key } => {
-            let more = next(counts.directories)?;
-            make(clusters, &at, key)?;
-            counts.directories = more;
-            Ok(true)
-        }
-        Kind::File { edek } => {
-            let more = next(counts.files)?;
-            clusters.copy_file(row.id, &at, edek)?;
-            counts.files = more;
-            Ok(false)
-        }
+    match join(alloc, to, from) {
+        Ok(path) => make_row(clusters, row, &path),
+        Err(end) => Err(end),
     }
+}
+
+/// Counts a row that was copied.
+fn count(counts: &mut Copied, directory: bool) -> Result<(), FsEnd>
+    ensures { OnOk result (CountsOne directory counts.old counts.new) }
+{
+    let before = *counts;
+    if directory {
+        let directories = next(before.directories)?;
+        *counts = Copied {
+            files: before.files,
+            directories,
+        };
+    } else {
+        let files = next(before.files)?;
+        *counts = Copied {
+            files,
+            directories: before.directories,
+        };
+    }
+    Ok(())
 }
 
 /// Copies the rows of the source at and below a path.
@@ -118,14 +154,30 @@ fn copy_block<C: Clusters>(
     ensures steps { Steps C.follows clusters.old clusters.new }
 {
     clusters.facts();
-    let directory = copy_row(alloc, clusters, from, to, counts)?;
+    let directory = match copy_row(alloc, clusters, from, to) {
+        Ok(directory) => directory,
+        Err(end) => return Err(end),
+    };
+    match count(counts, directory) {
+        Ok(()) => {}
+        Err(end) => return Err(end),
+    }
     if !directory {
         return Ok(());
     }
-    let children = clusters.list(from)?;
+    let children = match clusters.list(from) {
+        Ok(children) => children,
+        Err(end) => return Err(end),
+    };
     for child in children.as_slice() {
-        let path = child_path(alloc, from, &child.name)?;
-        copy_block(alloc, clusters, &path, to, counts)?;
+        let path = match child_path(alloc, from, &child.name) {
+            Ok(path) => path,
+            Err(end) => return Err(end),
+        };
+        match copy_block(alloc, clusters, &path, to, counts) {
+            Ok(()) => {}
+            Err(end) => return Err(end),
+        }
     }
     Ok(())
 }
