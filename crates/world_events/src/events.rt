@@ -1,7 +1,7 @@
 //! Both services over a disk, as events.
 ghost use Rattle.std.specs.Prelude.{◌≡◌};
 ghost use Rattle.world_desk.specs.Worlds.{IsReady};
-ghost use Rattle.data_stream.specs.Runs.{HoldsSame, LeadsAt, standing_of};
+ghost use Rattle.world_events.specs.Events.{HoldsSame, LeadsAt, standing_of};
 
 use file_orders::Events;
 use hk_base::{Disk, Words};
@@ -11,7 +11,7 @@ use world_run::World;
 /// Both services, with the disk that they were started on, and random words. All events happen at one
 /// time.
 #[derive(Drop)]
-pub(crate) struct WorldEvents<'a, D, W> {
+pub struct WorldEvents<'a, D, W> {
     world: &'a mut World,
     disk: &'a mut D,
     words: &'a mut W,
@@ -20,7 +20,7 @@ pub(crate) struct WorldEvents<'a, D, W> {
 
 impl<'a, D, W> WorldEvents<'a, D, W> {
     /// Creates events over these.
-    pub(crate) fn new(
+    pub fn new(
         world: &'a mut World,
         disk: &'a mut D,
         words: &'a mut W,

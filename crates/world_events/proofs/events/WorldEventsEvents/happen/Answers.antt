@@ -1,5 +1,5 @@
 use Rattle.world_run.proofs.ReadyLemmas.{ready-after-step}
-use Rattle.data_stream.proofs.events.WorldEventsEvents.happen.Goals as goal
+use Rattle.world_events.proofs.events.WorldEventsEvents.happen.Goals as goal
 
 pub returns-clause-ready : goal.returns-clause-ready
 returns-clause-ready g c =
