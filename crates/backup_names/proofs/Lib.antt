@@ -1,5 +1,4 @@
 mod AskedLemmas
 mod FinishLemmas
-mod LookLemmas
 mod MakeLemmas
 pub mod OrderLemmas

@@ -22,8 +22,8 @@ fn change_end(reply: NameReply) -> Result<(), FsEnd>
     }
 }
 
-/// Makes a directory for a user. Its parent must be there. After an error the table is as before, but
-/// after a fault of the disk the directory may come with the next change.
+/// Makes a directory for a user. Its parent must exist. After an error the table is as before. If
+/// the disk failed, the directory may be pending, and then the next change settles it.
 pub fn make_directory<E: Disk>(
     alloc: Global,
     name: &mut Name,

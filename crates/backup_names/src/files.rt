@@ -12,9 +12,8 @@ use name_calls::{Ask, KeyAnswer, NPath};
 use name_core::Name;
 use std::alloc::Global;
 
-/// Asks for a new file for a user, and returns its id, under which its body may be written before the
-/// file is there. It does not use the disk, and the table stays as it is. After an error the
-/// namesystem is as before.
+/// Asks for a new file for a user, and returns its id. The body may be written under the id before
+/// the ask is finished. This does not use the disk, and the table stays as it is.
 pub fn ask_file(alloc: Global, name: &mut Name, user: &Text, path: &NPath) -> Result<u64, FsEnd>
     ensures asked { IfOk result (IsAsked (ask.Create path.now) name.new) }
     ensures only { OnlyAsks user.now (ask.Create path.now) name.old name.new }
@@ -31,9 +30,9 @@ pub fn ask_file(alloc: Global, name: &mut Name, user: &Text, path: &NPath) -> Re
     }
 }
 
-/// Finishes the ask for a file with the encrypted key that the file gets, or with none outside every
-/// zone. After an error the table is as before, but after a fault of the disk the file may come with the
-/// next change.
+/// Finishes the ask for a file with the encrypted key that the file gets, or with none outside all
+/// zones. After an error the table is as before. If the disk failed, the file may be pending, and
+/// then the next change settles it.
 pub fn finish_file<E: Disk>(
     name: &mut Name,
     disk: &mut E,

@@ -1,5 +1,5 @@
-//! Changes of the namesystem that gets a copy: directories, zones with their keys, and files with their
-//! encrypted keys.
+//! Changes of the namesystem that gets a copy: directories, zones with their keys, and files with
+//! their encrypted keys.
 #![tactic(auto)]
 
 mod directories;

@@ -1,5 +1,5 @@
 //! Entries of a copy.
-ghost use Rattle.std.specs.Prelude.{◌≡◌, Err, IfOk, None, Some};
+ghost use Rattle.std.specs.Prelude.{◌≡◌, Err, IfOk, IsErrOf, None, Some};
 ghost use Rattle.std.specs.Option.{option_map};
 ghost use Rattle.backup_names.specs.Ends.{row_end};
 ghost use Rattle.backup_names.specs.Orders.{HoldsNames, IsSettled, OrdersNames};
@@ -58,6 +58,7 @@ pub fn look<E: Disk>(
     ensures none { result ≡ Err (FsEnd.NameRefused NameRefusal.NoSuchPath) →
         row_at name.old.store.table.rows path.now ≡ None }
     ensures same { service_of name.new ≡ service_of name.old }
+    ensures fault { IsErrOf result FsEnd.StoreFault → ⊥ }
     ensures orders { OrdersNames (E.state disk.old) (E.state disk.new) name.old name.new }
 {
     let path = match path.copy(alloc) {
@@ -72,8 +73,8 @@ pub fn look<E: Disk>(
     row_end(reply)
 }
 
-/// Returns whether the row at a path is a directory, or `None` if there is none, for a user. It changes
-/// nothing.
+/// Returns whether the row at a path is a directory, or `None` if there is none, for a user. It
+/// changes nothing.
 pub fn is_directory<E: Disk>(
     alloc: Global,
     name: &mut Name,
@@ -87,6 +88,7 @@ pub fn is_directory<E: Disk>(
         (λ found. found ≡
         option_map (λ row. is_dir row.kind) (row_at name.old.store.table.rows path.now)) }
     ensures same { service_of name.new ≡ service_of name.old }
+    ensures fault { IsErrOf result FsEnd.StoreFault → ⊥ }
     ensures orders { OrdersNames (E.state disk.old) (E.state disk.new) name.old name.new }
 {
     match look(alloc, name, disk, user, path) {

@@ -23,8 +23,8 @@ pub(crate) fn finish_end(finished: Result<(), NameRefusal>) -> Result<(), FsEnd>
     }
 }
 
-/// Asks for a directory to become a zone of a key, for a user, and returns the id of the ask. It does not
-/// use the disk, and the table stays as it is. After an error the namesystem is as before.
+/// Asks for a directory to become a zone of a key, for a user, and returns the id of the ask. This
+/// does not use the disk, and the table stays as it is.
 pub fn ask_zone(
     alloc: Global,
     name: &mut Name,
@@ -47,9 +47,10 @@ pub fn ask_zone(
     }
 }
 
-/// Finishes the ask for a zone with the reply of the key management service to the call for the metadata
-/// of its key. If that refused the call, its refusal is returned. After an error the table is as before,
-/// but after a fault of the disk the mark may come with the next change.
+/// Finishes the ask for a zone with the reply of the key management service to the call for the
+/// metadata of its key. If the service refused that call, its refusal is returned. After an error
+/// the table is as before. If the disk failed, the mark may be pending, and then the next change
+/// settles it.
 pub fn finish_zone<E: Disk>(
     name: &mut Name,
     disk: &mut E,

@@ -74,12 +74,12 @@ fn copy_piece<V: Vault, U: Vault>(
     }
 }
 
-/// Copies the stored bytes of a body of one vault to another, as the body of another id. The copy is
+/// Copies the stored bytes of the body `from` of one vault into another, as the body `to`. They are
 /// written in pieces of at most 65,536 bytes. No other body changes.
 ///
-/// Returns `VaultFault` if a vault fails, if `copies` has a body with the id `to` already, or if a vault
-/// that promises nothing ends the body before the size that it returned. After an error what was
-/// appended to the body of `to` is a prefix of the source.
+/// Returns `VaultFault` if a vault fails, if `copies` has a body `to` already, or if a vault that
+/// promises nothing ends the body before the size that it returned. After an error a prefix of the
+/// body may have been appended to `to`.
 pub fn copy_body<V: Vault, U: Vault>(
     vault: &mut V,
     from: u64,
