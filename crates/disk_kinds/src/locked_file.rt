@@ -71,6 +71,20 @@ pub(crate) fn open_logs<R: Files<File = File>>(
     Ok((keys, names))
 }
 
+/// Opens and locks one file of a folder and syncs the folder. `path` is that of the file from the
+/// current folder, and names it in reports.
+pub(crate) fn open_names<R: Files<File = File>>(
+    files: &R,
+    alloc: Global,
+    folder: &str,
+    path: &'static str,
+    errors: Stderr,
+) -> io::Result<LockedFile> {
+    let log = open_log(files, alloc, ".", path, errors)?;
+    File::open(files, folder)?.sync_all()?;
+    Ok(log)
+}
+
 impl LockedFile {
     /// Sets the alarm that the first failed sync raises.
     pub(crate) fn set_alarm(&mut self, alarm: Arc<Alarm, Global>) {

@@ -4,7 +4,7 @@ ghost use Rattle.hk_base.specs.Faults.{Rose};
 ghost use Rattle.disk_kinds.specs.Opaque.{opaque};
 
 use crate::alarm::Alarm;
-use crate::locked_file::{LockedFile, open_logs};
+use crate::locked_file::{LockedFile, open_logs, open_names};
 use hk_base::{Disk, Failed};
 use std::alloc::Global;
 use std::fs::File;
@@ -56,6 +56,23 @@ impl LogFile {
         keys.set_alarm(Arc::try_clone(alarm)?);
         names.set_alarm(Arc::try_clone(alarm)?);
         Ok((LogFile::over(keys), LogFile::over(names)))
+    }
+
+    /// Opens and locks one log of a folder, and creates it if it is missing. `path` is that of the log
+    /// from the current folder, such as `backup/names.log`, and names it in reports. If another process
+    /// or another disk of this one holds it, it fails at once with `ErrorKind::WouldBlock`. It does not
+    /// change an existing file. It reports later failures on `errors`, and raises no alarm.
+    pub fn open_names<R: Files<File = File>>(
+        files: &R,
+        alloc: Global,
+        folder: &str,
+        path: &'static str,
+        errors: Stderr,
+    ) -> io::Result<LogFile>
+        ensures { IfOk result (λ log. log.faults ≡ 0) }
+    {
+        let locked = open_names(files, alloc, folder, path, errors)?;
+        Ok(LogFile::over(locked))
     }
 
     fn over(locked: LockedFile) -> LogFile
