@@ -2,7 +2,6 @@
 ghost use Rattle.std.specs.Prelude.{◌≡◌};
 ghost use Rattle.copy_target.specs.Targets.{CanCopy, WorksOn, state_of};
 
-use crate::source::SourceRows;
 use backup_names::{
     ask_file, ask_zone, finish_file, finish_zone, is_directory, keeps_rules, make_directory,
 };
@@ -14,6 +13,7 @@ use inode_tree::Row;
 use name_calls::{ChildList, NPath};
 use name_core::Name;
 use row_copies::Clusters;
+use source_rows::SourceRows;
 use std::alloc::Global;
 
 /// A cluster that is read, the namesystem of another that gets the copy, with its disk, and the vaults

@@ -2,7 +2,5 @@
 #![tactic(auto)]
 
 mod both;
-mod source;
 
 pub use both::BothClusters;
-pub use source::SourceRows;
