@@ -31,6 +31,14 @@ relative-join p q rp rq bytes names =
     both (list_all is_component (p ++ q)) (is_short (p ++ q)) all
     (both (nat_le (length (path_text (p ++ q))) 8000) (nat_le (length (p ++ q)) 100) (le-yes _ _ (text-short (p ++ q) text)) (le-yes _ _ count))
 
+le-is : (a b : ℕ) → nat_le a b ≡ true → a ≤ b
+le-is a b h = grind (arith, nat_tests)
+
+pub may-join : (p q : List (List ℕ)) → is_relative p ≡ true → is_relative q ≡ true → (nat_le (length (names_text p) + length (names_text q)) 8000 && nat_le (length p + length q) 100) ≡ true → is_relative (p ++ q) ≡ true
+may-join p q rp rq h =
+    let parts = and-parts (nat_le (length (names_text p) + length (names_text q)) 8000) (nat_le (length p + length q) 100) h in
+    relative-join p q rp rq (le-is (length (names_text p) + length (names_text q)) 8000 parts.0) (le-is (length p + length q) 100 parts.1)
+
 pub relative-left : (p q : List (List ℕ)) → is_relative (p ++ q) ≡ true → is_relative p ≡ true
 relative-left p [] h = ap is_relative (sym (append-nil p)) ∙ h
 relative-left p (c ∷ q) h = relative-front p c (relative-left (p ++ c ∷ []) q (ap is_relative (append_assoc p (c ∷ []) q) ∙ h))
