@@ -7,8 +7,9 @@ use Rattle.body_stream.specs.Vaults.{KeepsBodies, TellsBodies, VaultState}
 use Rattle.name_calls.specs.Paths.{is_before, is_prefix, same_path}
 use Rattle.inode_tree.specs.declared.rows.Row.{Row}
 use Rattle.inode_tree.specs.Below.{rows_below}
-use Rattle.inode_tree.specs.Rows.{Entry, IsRows, entry_of, is_dir_at, put, removed, row_at}
+use Rattle.inode_tree.specs.Rows.{Entry, IsRows, entry_of, is_dir_at, is_marked, put, removed, row_at}
 use Rattle.row_blocks.specs.Below.{below}
+use Rattle.row_blocks.proofs.Blocks.{both}
 use Rattle.row_copies.specs.Clusters.{ClusterState, CopyState, IsTree, KeepsBoth, KeepsCluster, MakesDirectory, directory_at}
 use Rattle.row_copies.specs.Copies.{AreCopies, CopiesAll, CopiesPart, HasBodyOf, Makes, MakesAbove, MakesMissing, MakesParents, Pairs, StopsEarly, above, has_file}
 use Rattle.row_copies.specs.Walks.{Adds, IsNext, Stops}
@@ -227,3 +228,12 @@ module _ (to root : List (List ℕ)) (a b c p : CopyState) (is_root : root ≡ [
 
   pub whole-absent : row_at a.target.rows to ≡ None
   whole-absent = was-absent to a p p made rows absent
+
+abbrev marks : Option Row → Bool
+marks None = false
+marks (Some row) = is_marked row
+
+-- a directory that is marked is not without a mark
+pub marked-not : (rows : List Entry) (root : List (List ℕ)) (row : Row) → root ≡ [] → ((found : Row) × (row_at rows root ≡ Some found) × (is_marked found ≡ true)) → row_at rows [] ≡ Some row → is_marked row ≡ false → ⊥
+marked-not rows root row is_root found at plain =
+    both (is_marked row) (ap marks (sym at ∙ ap (row_at rows) (sym is_root) ∙ found.1) ∙ found.2) plain

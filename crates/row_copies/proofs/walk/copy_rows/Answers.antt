@@ -3,7 +3,7 @@ use Rattle.inode_tree.specs.declared.rows.Row.{Row}
 use Rattle.inode_tree.specs.Rows.{is_marked, row_at}
 use Rattle.row_copies.specs.Copies.{is_file}
 use Rattle.row_copies.specs.Walks.{is_directory}
-use Rattle.row_copies.proofs.EndLemmas.{absent-stops, parents-stop, whole-absent, whole-all, whole-count, whole-next, whole-part, zone-stops}
+use Rattle.row_copies.proofs.EndLemmas.{absent-stops, marked-not, parents-stop, whole-absent, whole-all, whole-count, whole-next, whole-part, zone-stops}
 use Rattle.row_copies.proofs.StepLemmas.{one, steps-join}
 use Rattle.row_copies.proofs.walk.copy_rows.Goals as goal
 
@@ -66,3 +66,22 @@ returns-clause-part g c =
 pub returns-clause-steps : goal.returns-clause-steps
 returns-clause-steps g c =
     steps-join g.C.Clusters.follows c.args.clusters.now c.check_absent.new.clusters c.copy_block.new.clusters (steps-join g.C.Clusters.follows c.args.clusters.now c.make_parents.new.clusters c.check_absent.new.clusters (steps-join g.C.Clusters.follows c.args.clusters.now c.check_zone.new.clusters c.make_parents.new.clusters (one g.C.Clusters.follows c.args.clusters.now c.check_zone.new.clusters c.check_zone.ensures.follows) c.make_parents.ensures.steps) (one g.C.Clusters.follows c.make_parents.new.clusters c.check_absent.new.clusters c.check_absent.ensures.follows)) c.copy_block.ensures.steps
+
+pub returns-in-Err-clause-unmarked : goal.returns-in-Err-clause-unmarked
+returns-in-Err-clause-unmarked g c row at plain = c.check_zone.ensures.keeps
+
+pub returns-in-Err-make_parents-clause-unmarked : goal.returns-in-Err-make_parents-clause-unmarked
+returns-in-Err-make_parents-clause-unmarked g c row at plain =
+    absurd (marked-not (g.C.Clusters.state c.args.clusters.now).source.rows c.root-root.result row c.root-root.ensures c.in-Ok.ensures.ok at plain)
+
+pub returns-in-Err-check_absent-clause-unmarked : goal.returns-in-Err-check_absent-clause-unmarked
+returns-in-Err-check_absent-clause-unmarked g c row at plain =
+    absurd (marked-not (g.C.Clusters.state c.args.clusters.now).source.rows c.root-root.result row c.root-root.ensures c.in-Ok.ensures.ok at plain)
+
+pub returns-in-Ok-copy_block-clause-unmarked : goal.returns-in-Ok-copy_block-clause-unmarked
+returns-in-Ok-copy_block-clause-unmarked g c row at plain =
+    absurd (marked-not (g.C.Clusters.state c.args.clusters.now).source.rows c.root-root.result row c.root-root.ensures c.in-Ok.ensures.ok at plain)
+
+pub returns-clause-unmarked : goal.returns-clause-unmarked
+returns-clause-unmarked g c row at plain =
+    absurd (marked-not (g.C.Clusters.state c.args.clusters.now).source.rows c.root-root.result row c.root-root.ensures c.in-Ok.ensures.ok at plain)
