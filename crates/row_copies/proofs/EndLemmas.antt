@@ -1,17 +1,17 @@
 -- What a whole copy comes to.
-use Rattle.std.proofs.Common.{◌≡◌, ◌⊎◌, inl, inr, arith, ℕ, zero, suc, Bool, true, false, cond, List, [], ◌∷◌, ◌++◌, take, Option, Some, None, refl, sym, ap, ◌∙◌, subst}
+use Rattle.std.proofs.Common.{◌≡◌, inl, inr, arith, ℕ, zero, suc, Bool, true, false, cond, List, [], ◌∷◌, ◌++◌, take, Option, Some, None, refl, sym, ap, ◌∙◌, subst}
 use Rattle.std.specs.Prelude.{count_by, is_some}
 use Rattle.std.specs.List.{AllByRecursion}
 use Rattle.std.proofs.lemmas.List.{append-nil}
-use Rattle.body_stream.specs.Vaults.{KeepsBodies, TellsBodies, VaultState}
+use Rattle.body_stream.specs.Vaults.{KeepsBodies}
 use Rattle.name_calls.specs.Paths.{is_before, is_prefix, same_path}
 use Rattle.inode_tree.specs.declared.rows.Row.{Row}
 use Rattle.inode_tree.specs.Below.{rows_below}
-use Rattle.inode_tree.specs.Rows.{Entry, IsRows, entry_of, is_dir_at, is_marked, put, removed, row_at}
+use Rattle.inode_tree.specs.Rows.{Entry, IsRows, entry_of, is_dir_at, is_marked, put, row_at}
 use Rattle.row_blocks.specs.Below.{below}
 use Rattle.row_blocks.proofs.Blocks.{both}
-use Rattle.row_copies.specs.Clusters.{ClusterState, CopyState, IsTree, KeepsBoth, KeepsCluster, MakesDirectory, directory_at}
-use Rattle.row_copies.specs.Copies.{AreCopies, CopiesAll, CopiesPart, HasBodyOf, Makes, MakesAbove, MakesMissing, MakesParents, Pairs, StopsEarly, above, has_file}
+use Rattle.row_copies.specs.Clusters.{CopyState, IsTree, KeepsBoth, KeepsCluster, MakesDirectory, directory_at}
+use Rattle.row_copies.specs.Copies.{AreCopies, CopiesAll, CopiesPart, HasBodyOf, MakesAbove, MakesMissing, MakesParents, Pairs, StopsEarly, above}
 use Rattle.row_copies.specs.Walks.{Adds, IsNext, Stops}
 use Rattle.row_copies.proofs.AddLemmas.{all-right, all-same, cluster-join, keeps-join, makes-keeps, not-new, rebody, tells-too}
 use Rattle.row_copies.proofs.NextLemmas.{all-below, none-below, none-removed, none-to-see}
@@ -145,8 +145,8 @@ module _ (to : List (List ℕ)) (a p b : CopyState) (made : MakesAbove (above to
       let f = s.adds in
       let m = s.mid in
       let has : AllByRecursion (λ (y : Entry). entry_of m.target.rows y.row.id ≡ None → ⊥) f.made =
-          all-right (λ (y : Entry). entry_of m.target.rows y.row.id ≡ None → ⊥) (rows_below p.target.rows to) f.made
-          (subst (λ (ys : List Entry). AllByRecursion (λ (y : Entry). entry_of m.target.rows y.row.id ≡ None → ⊥) ys) f.there (below-has m.target.rows to)) in
+      all-right (λ (y : Entry). entry_of m.target.rows y.row.id ≡ None → ⊥) (rows_below p.target.rows to) f.made
+      (subst (λ (ys : List Entry). AllByRecursion (λ (y : Entry). entry_of m.target.rows y.row.id ≡ None → ⊥) ys) f.there (below-has m.target.rows to)) in
       record {
         done = s.part;
         rest = s.more;

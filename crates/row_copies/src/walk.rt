@@ -209,11 +209,7 @@ fn check_zone<C: Clusters>(clusters: &mut C, root: &NPath) -> Result<(), FsEnd>
 /// path, `Exists` is returned. The rows are copied in path order, and a directory is marked right after
 /// it was made. Returns `BadPath` at a path that would be too long. The first call that is refused or
 /// fails ends the copy. What was copied until then stays, each file with its whole body.
-pub fn copy_rows<C: Clusters>(
-    alloc: Global,
-    clusters: &mut C,
-    to: &NPath,
-) -> Result<Copied, FsEnd>
+pub fn copy_rows<C: Clusters>(alloc: Global, clusters: &mut C, to: &NPath) -> Result<Copied, FsEnd>
     requires ready { C.ready clusters.old }
     ensures all { OnOk result
         (CopiesAll to.now (C.state clusters.old) (C.state clusters.new)) }
