@@ -1,21 +1,21 @@
 -- Copies that come one after another.
-use Rattle.std.proofs.Common.{◌≡◌, ◌≢◌, ◌⊎◌, inl, inr, ℕ, Bool, true, false, cond, ◌&&◌, ◌||◌, IsTrue, List, [], ◌∷◌, ◌++◌, Option, Some, None, refl, sym, ap, ◌∙◌, subst, arith, append_assoc}
-use Rattle.std.specs.Prelude.{⊤, ◌==◌, not, is_some}
+use Rattle.std.proofs.Common.{◌≡◌, ℕ, Bool, true, false, ◌&&◌, ◌||◌, IsTrue, List, [], ◌∷◌, ◌++◌, Option, Some, None, refl, sym, ap, ◌∙◌, subst, arith, append_assoc}
+use Rattle.std.specs.Prelude.{◌==◌}
 use Rattle.std.specs.List.{AllByRecursion}
 use Rattle.std.proofs.lemmas.Bool.Decides.{nat_tests}
 use Rattle.std.proofs.lemmas.List.{append-nil}
 use Rattle.hk_base.specs.declared.names.Edek.{Edek}
 use Rattle.hk_base.specs.declared.names.KeyName.{KeyName}
-use Rattle.body_stream.specs.Vaults.{KeepsBodies, TellsBodies, VaultState}
+use Rattle.body_stream.specs.Vaults.{TellsBodies, VaultState}
 use Rattle.inode_tree.specs.declared.rows.Kind.{Kind}
 use Rattle.inode_tree.specs.declared.rows.Kind.TheVariants.{Dir, File}
 use Rattle.inode_tree.specs.declared.rows.Row.{Row}
 use Rattle.inode_tree.specs.Below.{rows_below}
-use Rattle.inode_tree.specs.Rows.{Entry, IsRising, entry_of, is_dir, is_marked, put, removed, row_at, set_kind}
+use Rattle.inode_tree.specs.Rows.{Entry, IsRising, entry_of, is_dir, is_marked, removed, row_at, set_kind}
 use Rattle.inode_tree.proofs.MovedPaths.{prefix-append}
 use Rattle.row_blocks.proofs.Blocks.{both}
 use Rattle.row_copies.specs.Clusters.{ClusterState, CopiesFile, CopyState, KeepsBoth, KeepsCluster, KeepsRows, MakesDirectory, MarksDirectory, directory_at, file_at}
-use Rattle.row_copies.specs.Copies.{AreCopies, BodiesCopied, HasBodyOf, IsCopyOf, IsUnmarked, OthersKept, Pairs, has_file, is_file}
+use Rattle.row_copies.specs.Copies.{HasBodyOf, IsCopyOf, IsUnmarked, Pairs, has_file, is_file}
 use Rattle.row_copies.specs.Walks.{Adds, Ends, MakesRow, Stops, entry_at}
 use Rattle.row_copies.proofs.PutLemmas.{AllBefore, below-has, below-put, free-put, removed-put, row-of-put, set-put}
 
@@ -126,7 +126,7 @@ id-of (Some row) = row.id
 pub makes-marks : (path : List (List ℕ)) (key : KeyName) (a b c : CopyState) → MakesDirectory path a b → MarksDirectory path key b c → MakesRow (Dir (Some key)) path a c
 makes-marks path key a b c m k =
     let made : row_at b.target.rows path ≡ Some (record { id = m.id; kind = Dir None }) =
-        ap (λ (rows : List Entry). row_at rows path) m.rows ∙ row-of-put (directory_at m.id path None) a.target.rows m.absent in
+    ap (λ (rows : List Entry). row_at rows path) m.rows ∙ row-of-put (directory_at m.id path None) a.target.rows m.absent in
     let same : k.id ≡ m.id = ap id-of (sym k.was ∙ made) in
     record {
       source = cluster-join a.source b.source c.source m.source k.source;
@@ -170,8 +170,8 @@ module _ (to : List (List ℕ)) where
   adds-join xs ys a b c f g =
       let source = cluster-join a.source b.source c.source f.source g.source in
       let has : AllByRecursion (λ (y : Entry). entry_of b.target.rows y.row.id ≡ None → ⊥) f.made =
-          all-right (λ (y : Entry). entry_of b.target.rows y.row.id ≡ None → ⊥) (rows_below a.target.rows to) f.made
-          (subst (λ (ys : List Entry). AllByRecursion (λ (y : Entry). entry_of b.target.rows y.row.id ≡ None → ⊥) ys) f.there (below-has b.target.rows to)) in
+      all-right (λ (y : Entry). entry_of b.target.rows y.row.id ≡ None → ⊥) (rows_below a.target.rows to) f.made
+      (subst (λ (ys : List Entry). AllByRecursion (λ (y : Entry). entry_of b.target.rows y.row.id ≡ None → ⊥) ys) f.there (below-has b.target.rows to)) in
       record {
         made = f.made ++ g.made;
         there = g.there ∙ ap (λ (l : List Entry). l ++ g.made) f.there ∙ append_assoc (rows_below a.target.rows to) f.made g.made;

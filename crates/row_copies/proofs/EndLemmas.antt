@@ -1,16 +1,17 @@
 -- What a whole copy comes to.
-use Rattle.std.proofs.Common.{◌≡◌, ℕ, zero, suc, Bool, true, false, cond, List, [], ◌∷◌, ◌++◌, take, Option, Some, None, refl, sym, ap, ◌∙◌, subst}
-use Rattle.std.specs.Prelude.{is_some}
+use Rattle.std.proofs.Common.{◌≡◌, inl, inr, arith, ℕ, zero, suc, Bool, true, false, cond, List, [], ◌∷◌, ◌++◌, take, Option, Some, None, refl, sym, ap, ◌∙◌, subst}
+use Rattle.std.specs.Prelude.{count_by, is_some}
 use Rattle.std.specs.List.{AllByRecursion}
 use Rattle.std.proofs.lemmas.List.{append-nil}
-use Rattle.body_stream.specs.Vaults.{KeepsBodies, TellsBodies, VaultState}
+use Rattle.body_stream.specs.Vaults.{KeepsBodies}
 use Rattle.name_calls.specs.Paths.{is_before, is_prefix, same_path}
 use Rattle.inode_tree.specs.declared.rows.Row.{Row}
 use Rattle.inode_tree.specs.Below.{rows_below}
-use Rattle.inode_tree.specs.Rows.{Entry, IsRows, entry_of, put, removed, row_at}
+use Rattle.inode_tree.specs.Rows.{Entry, IsRows, entry_of, is_dir_at, is_marked, put, row_at}
 use Rattle.row_blocks.specs.Below.{below}
-use Rattle.row_copies.specs.Clusters.{ClusterState, CopyState, KeepsBoth, KeepsCluster, MakesDirectory, directory_at}
-use Rattle.row_copies.specs.Copies.{AreCopies, CopiesAll, CopiesPart, HasBodyOf, Makes, MakesAbove, MakesMissing, Pairs, above, has_file}
+use Rattle.row_blocks.proofs.Blocks.{both}
+use Rattle.row_copies.specs.Clusters.{CopyState, IsTree, KeepsBoth, KeepsCluster, MakesDirectory, directory_at}
+use Rattle.row_copies.specs.Copies.{AreCopies, CopiesAll, CopiesPart, HasBodyOf, MakesAbove, MakesMissing, MakesParents, Pairs, StopsEarly, above}
 use Rattle.row_copies.specs.Walks.{Adds, IsNext, Stops}
 use Rattle.row_copies.proofs.AddLemmas.{all-right, all-same, cluster-join, keeps-join, makes-keeps, not-new, rebody, tells-too}
 use Rattle.row_copies.proofs.NextLemmas.{all-below, none-below, none-removed, none-to-see}
@@ -114,7 +115,7 @@ module _ (to : List (List ℕ)) (a p b : CopyState) (made : MakesAbove (above to
   empty : rows_below p.target.rows to ≡ []
   empty = none-to-see p.target.rows to none
 
-  source-rows : below p.source.rows [] ≡ a.source.rows
+  pub source-rows : below p.source.rows [] ≡ a.source.rows
   source-rows = all-below p.source.rows ∙ l.source.rows
 
   pub was-absent : row_at a.target.rows to ≡ None
@@ -144,8 +145,8 @@ module _ (to : List (List ℕ)) (a p b : CopyState) (made : MakesAbove (above to
       let f = s.adds in
       let m = s.mid in
       let has : AllByRecursion (λ (y : Entry). entry_of m.target.rows y.row.id ≡ None → ⊥) f.made =
-          all-right (λ (y : Entry). entry_of m.target.rows y.row.id ≡ None → ⊥) (rows_below p.target.rows to) f.made
-          (subst (λ (ys : List Entry). AllByRecursion (λ (y : Entry). entry_of m.target.rows y.row.id ≡ None → ⊥) ys) f.there (below-has m.target.rows to)) in
+      all-right (λ (y : Entry). entry_of m.target.rows y.row.id ≡ None → ⊥) (rows_below p.target.rows to) f.made
+      (subst (λ (ys : List Entry). AllByRecursion (λ (y : Entry). entry_of m.target.rows y.row.id ≡ None → ⊥) ys) f.there (below-has m.target.rows to)) in
       record {
         done = s.part;
         rest = s.more;
@@ -187,3 +188,52 @@ module _ (to : List (List ℕ)) (a p b : CopyState) (made : MakesAbove (above to
     whole = append-nil (below p.source.rows []) ∙ all-below p.source.rows;
     there = subst (λ (ys : List Entry). AreCopies [] ys) (sym empty) tt;
   }
+
+-- the whole copy: the check of the source, the directories above, the check of the target, and the rows
+
+root-row : (o : Option Row) → is_dir_at o ≡ true → (row : Row) × (o ≡ Some row)
+root-row None h = cc
+root-row (Some row) h = (row, refl)
+
+pub zone-stops : (to : List (List ℕ)) (a b : CopyState) → KeepsBoth a b → StopsEarly to a b
+zone-stops to a b k = inl (record { count = 0; few = omega arith; made = k })
+
+pub parents-stop : (to : List (List ℕ)) (a b c : CopyState) → KeepsBoth a b → MakesParents to b c → StopsEarly to a c
+parents-stop to a b c k m = inl (record { count = m.count; few = m.few; made = above-since m.count to a b c k m.made })
+
+pub absent-stops : (to : List (List ℕ)) (a b c d : CopyState) → KeepsBoth a b → MakesAbove (above to) to b c → KeepsBoth c d → StopsEarly to a d
+absent-stops to a b c d k m l = inl (record { count = above to; few = omega arith; made = above-keeps (above to) to a c d (above-since (above to) to a b c k m) l })
+
+module _ (to root : List (List ℕ)) (a b c p : CopyState) (is_root : root ≡ []) (k : KeepsBoth a b) (m : MakesAbove (above to) to b c) (l : KeepsBoth c p) (none_at : row_at c.target.rows to ≡ None)
+    (t : IsTree p.source.rows) (rows : IsRows p.target.rows) where
+  made : MakesAbove (above to) to a p
+  made = above-keeps (above to) to a c p (above-since (above to) to a b c k m) l
+
+  absent : row_at p.target.rows to ≡ None
+  absent = ap (λ (es : List Entry). row_at es to) l.target.rows ∙ none_at
+
+  pub whole-next : IsNext root to p
+  whole-next =
+      let row = root-row (row_at p.source.rows []) t.rooted in
+      subst (λ (q : List (List ℕ)). IsNext q to p) (sym is_root) (first-next to a p p made rows absent row.0 row.1)
+
+  pub whole-all : (e : CopyState) → Adds to (below p.source.rows root) p e → CopiesAll to a e
+  whole-all e f = copies-all to a p e made rows absent (subst (λ (q : List (List ℕ)). Adds to (below p.source.rows q) p e) is_root f)
+
+  pub whole-part : (e : CopyState) → Stops to (below p.source.rows root) p e → StopsEarly to a e
+  whole-part e s = inr (copies-part to a p e made rows absent (subst (λ (q : List (List ℕ)). Stops to (below p.source.rows q) p e) is_root s))
+
+  pub whole-count : (test : Entry → Bool) → count_by test (below p.source.rows root) ≡ count_by test a.source.rows
+  whole-count test = ap (λ (q : List (List ℕ)). count_by test (below p.source.rows q)) is_root ∙ ap (count_by test) (source-rows to a p p made rows absent)
+
+  pub whole-absent : row_at a.target.rows to ≡ None
+  whole-absent = was-absent to a p p made rows absent
+
+abbrev marks : Option Row → Bool
+marks None = false
+marks (Some row) = is_marked row
+
+-- a directory that is marked is not without a mark
+pub marked-not : (rows : List Entry) (root : List (List ℕ)) (row : Row) → root ≡ [] → ((found : Row) × (row_at rows root ≡ Some found) × (is_marked found ≡ true)) → row_at rows [] ≡ Some row → is_marked row ≡ false → ⊥
+marked-not rows root row is_root found at plain =
+    both (is_marked row) (ap marks (sym at ∙ ap (row_at rows) (sym is_root) ∙ found.1) ∙ found.2) plain

@@ -1,26 +1,23 @@
 -- Which rows of the source are next.
-use Rattle.std.proofs.Common.{◌≡◌, ◌⊎◌, inl, inr, ℕ, zero, suc, ◌+◌, ◌<◌, ◌≤◌, Bool, true, false, cond, ◌&&◌, List, [], ◌∷◌, ◌++◌, length, take, drop, map, get_or, Option, Some, None, refl, sym, ap, ◌∙◌, subst, arith, append_assoc}
-use Rattle.std.specs.Prelude.{⊤, ◌==◌, ◌-◌, not}
-use Rattle.std.specs.List.{All, AllByRecursion, filter}
+use Rattle.std.proofs.Common.{◌≡◌, inl, inr, ℕ, zero, suc, ◌+◌, ◌<◌, ◌≤◌, Bool, true, false, cond, List, [], ◌∷◌, ◌++◌, length, take, drop, map, get_or, Some, None, refl, sym, ap, ◌∙◌, subst, arith, append_assoc}
+use Rattle.std.specs.Prelude.{◌==◌, ◌-◌, not}
+use Rattle.std.specs.List.{AllByRecursion, filter}
 use Rattle.std.specs.Str.{bytes_eq}
 use Rattle.std.proofs.lemmas.Bool.Decides.{nat_tests}
-use Rattle.std.proofs.lemmas.List.{append-nil}
 use Rattle.std.proofs.lemmas.Slice.Eq.{bytes_eq-Decides}
-use Rattle.name_calls.specs.Paths.{is_before, is_child, is_prefix, is_relative, last_name, parent, same_path}
-use Rattle.name_calls.specs.declared.listing.Child.{Child}
+use Rattle.name_calls.specs.Paths.{is_before, is_child, is_prefix, last_name, parent, same_path}
 use Rattle.name_calls.proofs.PathLemmas.{and-parts}
 use Rattle.inode_tree.specs.declared.rows.Row.{Row}
 use Rattle.inode_tree.specs.Below.{rows_below, seen_from}
-use Rattle.inode_tree.specs.Listing.{child_of, children}
-use Rattle.inode_tree.specs.Rows.{AllAfter, Entry, IsRising, IsRows, is_dir, is_dir_at, removed, row_at}
+use Rattle.inode_tree.specs.Rows.{Entry, IsRising, IsRows, is_dir, is_dir_at, removed, row_at}
 use Rattle.inode_tree.proofs.ZoneLemmas.{prefix-length}
 use Rattle.inode_tree.proofs.Seeks.{before-not-same, same-is, same-itself}
 use Rattle.row_blocks.specs.Below.{In, IsWalkable, below, belows}
 use Rattle.row_blocks.proofs.Blocks.{after-in, both, is-false}
-use Rattle.row_blocks.proofs.Groups.{filter-no, filter-none, filter-yes}
+use Rattle.row_blocks.proofs.Groups.{filter-none, filter-yes}
 use Rattle.row_blocks.proofs.Rows.{all-in, ancestor, below-blocks, prefix-take}
 use Rattle.row_copies.specs.Clusters.{CopyState, IsTree}
-use Rattle.row_copies.specs.Copies.{AreCopies, IsCopyOf, Pairs}
+use Rattle.row_copies.specs.Copies.{AreCopies, IsCopyOf}
 use Rattle.row_copies.specs.Walks.{Adds, IsNext, entry_at}
 use Rattle.row_copies.proofs.AddLemmas.{pairs-join}
 use Rattle.row_copies.proofs.PutLemmas.{AllBefore}
@@ -165,11 +162,11 @@ next-kid from to row k d a b n t at h f =
     let first = entry_at from row ∷ belows (take k kids) rows in
     let later = belows (drop (suc k) kids) rows in
     let whole : (n.done ++ first) ++ (below rows kid.path ++ (later ++ n.rest)) ≡ rows =
-        append_assoc n.done first (below rows kid.path ++ (later ++ n.rest))
-        ∙ ap (λ (l : List Entry). n.done ++ (first ++ l)) (sym (append_assoc (below rows kid.path) later n.rest))
-        ∙ ap (λ (l : List Entry). n.done ++ l) (sym (append_assoc first (below rows kid.path ++ later) n.rest))
-        ∙ ap (λ (l : List Entry). n.done ++ (l ++ n.rest)) (sym (blocks-at rows from row k d t at h))
-        ∙ n.whole in
+    append_assoc n.done first (below rows kid.path ++ (later ++ n.rest))
+    ∙ ap (λ (l : List Entry). n.done ++ (first ++ l)) (sym (append_assoc (below rows kid.path) later n.rest))
+    ∙ ap (λ (l : List Entry). n.done ++ l) (sym (append_assoc first (below rows kid.path ++ later) n.rest))
+    ∙ ap (λ (l : List Entry). n.done ++ (l ++ n.rest)) (sym (blocks-at rows from row k d t at h))
+    ∙ n.whole in
     record {
       row = kid.row;
       is_row = ap (λ (es : List Entry). row_at es kid.path) f.source.rows ∙ there-row rows kid t.rising (kid-at rows from k d h).is_in;

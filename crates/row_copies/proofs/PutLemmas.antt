@@ -1,6 +1,6 @@
 -- A row put in after all that are at and below a path.
-use Rattle.std.proofs.Common.{◌≡◌, ◌⊎◌, inl, inr, ℕ, zero, suc, Bool, true, false, cond, List, [], ◌∷◌, ◌++◌, length, drop, map, Option, Some, None, refl, sym, ap, ◌∙◌, subst, arith}
-use Rattle.std.specs.Prelude.{⊤, ◌==◌, not}
+use Rattle.std.proofs.Common.{◌≡◌, ℕ, Bool, true, false, cond, List, [], ◌∷◌, ◌++◌, length, drop, map, Some, None, refl, sym, ap, ◌∙◌, subst, arith}
+use Rattle.std.specs.Prelude.{◌==◌, not}
 use Rattle.std.specs.List.{AllByRecursion, filter}
 use Rattle.std.proofs.lemmas.Bool.Decides.{nat_tests}
 use Rattle.name_calls.specs.Paths.{is_before, is_prefix, same_path}
@@ -11,10 +11,9 @@ use Rattle.inode_tree.specs.Rows.{AllAfter, Entry, IsRising, entry_of, put, remo
 use Rattle.inode_tree.proofs.MovedPaths.{before-append, prefix-append, prefix-split}
 use Rattle.inode_tree.proofs.Puts.{absent-parts, not-both}
 use Rattle.inode_tree.proofs.Ranks.{before-trans}
-use Rattle.inode_tree.proofs.Seeks.{same-is, same-itself}
+use Rattle.inode_tree.proofs.Seeks.{same-itself}
 use Rattle.row_blocks.proofs.Blocks.{both, is-false}
 use Rattle.row_blocks.proofs.Groups.{filter-no, filter-yes}
-use Rattle.row_copies.specs.Clusters.{directory_at}
 
 pub drop-join : (p q : List (List ℕ)) → drop (length p) (p ++ q) ≡ q
 drop-join [] q = refl
@@ -77,7 +76,7 @@ module _ (to : List (List ℕ)) where
       go true ih = filter-no (λ (y : Entry). not (is_prefix to y.path)) e (x ∷ es) (not-no (is_prefix to e.path) h)
       go false ih = split (not (is_prefix to x.path)) ih
 
--- seen from `to`
+  -- seen from `to`
 
   -- each of the rows at and below `to`, as they are seen from it, is before the path
   abbrev pub AllBefore : List (List ℕ) → List Entry → Type 0

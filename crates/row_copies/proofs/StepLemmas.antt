@@ -1,5 +1,4 @@
 -- Steps that follow one another, and results.
-use Rattle.std.proofs.Common.{◌≡◌, ℕ, refl}
 use Rattle.std.specs.Prelude.{Result, Ok, Err, OnOk, OnErr, IfOk}
 use Rattle.row_copies.specs.Copies.{Done, Steps, Then}
 

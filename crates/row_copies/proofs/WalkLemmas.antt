@@ -1,7 +1,6 @@
 -- The steps of the walk.
-use Rattle.std.proofs.Common.{◌≡◌, ◌⊎◌, inl, inr, ℕ, zero, suc, ◌+◌, ◌<◌, ◌≤◌, Bool, true, false, cond, List, [], ◌∷◌, ◌++◌, length, take, drop, map, get_or, Option, Some, None, refl, sym, ap, ◌∙◌, subst, arith, append_assoc, take_all}
+use Rattle.std.proofs.Common.{◌≡◌, ◌⊎◌, inl, inr, ℕ, zero, suc, ◌+◌, ◌<◌, ◌≤◌, Bool, true, false, cond, List, [], ◌∷◌, ◌++◌, length, take, drop, map, get_or, Some, None, refl, sym, ap, ◌∙◌, subst, arith, take_all}
 use Rattle.std.specs.Prelude.{not, count_by}
-use Rattle.std.specs.List.{sum_by}
 use Rattle.std.proofs.lemmas.List.{append-nil}
 use Rattle.std.proofs.lemmas.List.Sums.{sum_by-append}
 use Rattle.name_calls.specs.declared.listing.Child.{Child}
@@ -19,7 +18,7 @@ use Rattle.row_copies.specs.Clusters.{CopyState, IsTree, KeepsBoth, KeepsRows, M
 use Rattle.row_copies.specs.Copies.{is_file}
 use Rattle.row_copies.specs.Walks.{Adds, CopiesRow, Counts, CountsOne, IsNext, MakesCopy, MakesKind, Stops, entry_at, is_directory, one_if}
 use Rattle.row_copies.proofs.AddLemmas.{adds-directory, adds-file, adds-join, keeps-adds, keeps-rows, stops-half, stops-here, stops-more, stops-then}
-use Rattle.row_copies.proofs.NextLemmas.{IsKid, all-before, block-is, blocks-at, kid-at, kids-of, next-kid, no-kids, take-next, belows-join}
+use Rattle.row_copies.proofs.NextLemmas.{all-before, block-is, blocks-at, kid-at, kids-of, next-kid, no-kids, take-next, belows-join}
 use Rattle.row_copies.proofs.PutLemmas.{AllBefore}
 
 -- counts
@@ -99,8 +98,8 @@ module _ (from to : List (List ℕ)) (k : ℕ) (a b : CopyState) (counts now : C
       let rows = a.source.rows in
       let kid = get_or kids k no_entry in
       let more : first ++ below rows kid.path ≡ entry_at from w.row ∷ belows (take (suc k) kids) rows =
-          ap (λ (l : List Entry). entry_at from w.row ∷ l)
-          (ap (λ (l : List Entry). belows (take k kids) rows ++ l) (sym (append-nil (below rows kid.path))) ∙ sym (belows-join (take k kids) (kid ∷ []) rows) ∙ ap (λ (l : List Entry). belows l rows) (sym (take-next kids k no_entry h))) in
+      ap (λ (l : List Entry). entry_at from w.row ∷ l)
+      (ap (λ (l : List Entry). belows (take k kids) rows ++ l) (sym (append-nil (below rows kid.path))) ∙ sym (belows-join (take k kids) (kid ∷ []) rows) ∙ ap (λ (l : List Entry). belows l rows) (sym (take-next kids k no_entry h))) in
       record {
         row = w.row;
         is_row = w.is_row;
@@ -132,7 +131,7 @@ pub file-done : (from to : List (List ℕ)) (directory : Bool) (a b : CopyState)
     → Adds to (below a.source.rows from) a b × Counts (below a.source.rows from) counts now
 file-done from to directory a b counts now t f one file =
     let whole : entry_at from f.row ∷ [] ≡ below a.source.rows from =
-        sym (block-is a.source.rows from f.row t f.is_row ∙ ap (λ (l : List Entry). entry_at from f.row ∷ belows l a.source.rows) (no-kids a.source.rows from f.row t f.is_row (sym f.kind ∙ file))) in
+    sym (block-is a.source.rows from f.row t f.is_row ∙ ap (λ (l : List Entry). entry_at from f.row ∷ belows l a.source.rows) (no-kids a.source.rows from f.row t f.is_row (sym f.kind ∙ file))) in
     (subst (λ (l : List Entry). Adds to l a b) whole f.adds, subst (λ (l : List Entry). Counts l counts now) whole (counts-one (entry_at from f.row) directory counts now f.kind one))
 
 -- a walk that ends right after a row
@@ -160,7 +159,7 @@ pub kid-path : (rows : List Entry) (from : List (List ℕ)) (items : List Child)
 kid-path rows from items k c child is h is_child =
     let few : k < length (kids-of rows from) = omega (arith, h, many-kids rows from items is) in
     let name : child.name ≡ last_name (get_or (kids-of rows from) k no_entry).path =
-        ap (λ (x : Child). x.name) (is_child ∙ ap (λ (l : List Child). get_or l k c) is ∙ get-map (kids-of rows from) k c no_entry few) in
+    ap (λ (x : Child). x.name) (is_child ∙ ap (λ (l : List Child). get_or l k c) is ∙ get-map (kids-of rows from) k c no_entry few) in
     ap (λ (x : List ℕ). from ++ x ∷ []) name ∙ sym (kid-at rows from k no_entry few).path
 
 pub kid-ruled : (rows : List Entry) (from : List (List ℕ)) (k : ℕ) → IsTree rows → k < length (kids-of rows from) → is_relative (get_or (kids-of rows from) k no_entry).path ≡ true

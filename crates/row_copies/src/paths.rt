@@ -1,5 +1,5 @@
 //! Paths of the rows that are copied.
-ghost use Rattle.std.specs.Prelude.{◌≡◌, ◌<◌, ◌≤◌, ◌+◌, ◌++◌, ◌∷◌, [], take, length, slice_index_or, true, IsTrue, IfOk, OnOk};
+ghost use Rattle.std.specs.Prelude.{◌≡◌, ◌≤◌, ◌+◌, ◌++◌, ◌∷◌, ◌&&◌, [], nat_le, length, true, IfOk, OnOk};
 ghost use Rattle.name_calls.specs.Paths.{is_relative, names_text};
 
 use file_orders::FsEnd;
@@ -31,7 +31,11 @@ fn text_len(path: &NPath) -> usize
 
 /// Returns whether the names of a path may follow another path.
 fn can_follow(path: &NPath, names: &NPath) -> bool
-    ensures { IsTrue result → is_relative (path.now ++ names.now) ≡ true }
+    ensures short { result ≡
+        (nat_le (length (names_text path.now) + length (names_text names.now)) 8000 &&
+        nat_le (length path.now + length names.now) 100) }
+    ensures path { is_relative path.now ≡ true }
+    ensures names { is_relative names.now ≡ true }
 {
     let bytes = text_len(path) + text_len(names);
     let count = path.len() + names.len();

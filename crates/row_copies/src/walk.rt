@@ -1,5 +1,5 @@
 //! The walk of a copy.
-ghost use Rattle.std.specs.Prelude.{◌≡◌, ◌⊎◌, ◌+◌, Some, None, is_some, [], true, count_by, IfOk, OnOk, OnErr};
+ghost use Rattle.std.specs.Prelude.{◌≡◌, ◌⊎◌, ◌+◌, Some, None, is_some, [], true, false, count_by, IfOk, OnOk, OnErr};
 ghost use Rattle.inode_tree.specs.declared.rows.Kind.TheVariants.{Dir};
 ghost use Rattle.inode_tree.specs.Rows.{is_marked, row_at};
 ghost use Rattle.row_blocks.specs.Below.{below};
@@ -16,14 +16,14 @@ use inode_tree::{Kind, Row};
 use name_calls::{NPath, NameRefusal};
 use std::alloc::Global;
 
-/// The numbers of the files and directories that were copied.
+/// The numbers of the files and directories that were copied. The directory of the source counts too.
 #[derive(Clone, Copy)]
 pub struct Copied {
     pub files: u64,
     pub directories: u64,
 }
 
-/// Returns the next number. The end of the numbers counts as want of memory.
+/// Returns the next number, or `NoMemory` if there is none.
 fn next(count: u64) -> Result<u64, FsEnd>
     ensures { IfOk result (λ more. more ≡ count + 1) }
 {
@@ -201,17 +201,15 @@ fn check_zone<C: Clusters>(clusters: &mut C, root: &NPath) -> Result<(), FsEnd>
     }
 }
 
-/// Copies all rows of the source, with their bodies, to a path of the target at which nothing is.
+/// Copies all rows of the source, with their bodies, to a path of the target. Returns how many there
+/// are.
 ///
-/// Directories above the path that are missing are made first. Then the rows come in path order, and a
-/// directory is marked right after it was made. The directory of the source must be an encryption zone,
-/// else `NotAZoneRoot` is returned and nothing is made. The first call that is refused or fails ends
-/// the copy; what was copied until then stays, each file with its whole body.
-pub fn copy_rows<C: Clusters>(
-    alloc: Global,
-    clusters: &mut C,
-    to: &NPath,
-) -> Result<Copied, FsEnd>
+/// The directory of the source must be an encryption zone, else `NotAZoneRoot` is returned and nothing
+/// is made. Directories above the path that are missing are made first. If there is an entry at the
+/// path, `Exists` is returned. The rows are copied in path order, and a directory is marked right after
+/// it was made. Returns `BadPath` at a path that would be too long. The first call that is refused or
+/// fails ends the copy. What was copied until then stays, each file with its whole body.
+pub fn copy_rows<C: Clusters>(alloc: Global, clusters: &mut C, to: &NPath) -> Result<Copied, FsEnd>
     requires ready { C.ready clusters.old }
     ensures all { OnOk result
         (CopiesAll to.now (C.state clusters.old) (C.state clusters.new)) }
@@ -223,6 +221,8 @@ pub fn copy_rows<C: Clusters>(
     ensures zone { OnOk result
         ((row : _) × (row_at (C.state clusters.old).source.rows [] ≡ Some row) ×
         (is_marked row ≡ true)) }
+    ensures unmarked { (row : _) → row_at (C.state clusters.old).source.rows [] ≡ Some row →
+        is_marked row ≡ false → KeepsBoth (C.state clusters.old) (C.state clusters.new) }
     ensures absent { OnOk result (row_at (C.state clusters.old).target.rows to.now ≡ None) }
     ensures part { OnErr result
         (StopsEarly to.now (C.state clusters.old) (C.state clusters.new)) }

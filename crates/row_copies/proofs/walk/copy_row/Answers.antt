@@ -1,4 +1,4 @@
-use Rattle.std.proofs.Common.{◌≡◌, ◌⊎◌, ◌++◌, ℕ, Bool, List, true, subst}
+use Rattle.std.proofs.Common.{◌≡◌, ◌⊎◌, ℕ, Bool, List, true, subst}
 use Rattle.inode_tree.specs.Rows.{is_marked}
 use Rattle.row_blocks.specs.Below.{below}
 use Rattle.row_copies.specs.Clusters.{KeepsRows, MakesDirectory}

@@ -1,9 +1,9 @@
-use Rattle.std.proofs.Common.{◌≡◌, sym, subst, refl, inl, inr, ap}
-use Rattle.std.specs.Prelude.{Option, Some, is_some, true}
+use Rattle.std.proofs.Common.{sym, subst}
+use Rattle.std.specs.Prelude.{Option}
 use Rattle.hk_base.specs.declared.names.KeyName.{KeyName}
 use Rattle.inode_tree.specs.declared.rows.Kind.TheVariants.{Dir}
 use Rattle.row_copies.specs.Walks.{MakesRow}
-use Rattle.row_copies.proofs.AddLemmas.{makes-keeps, makes-marks, makes-plain}
+use Rattle.row_copies.proofs.AddLemmas.{makes-marks}
 use Rattle.row_copies.proofs.StepLemmas.{on-ok, one, two}
 use Rattle.row_copies.proofs.walk.make.Goals as goal
 
