@@ -4,7 +4,6 @@
 
 mod command;
 mod ends;
-mod events;
 mod laws;
 mod put;
 mod read;

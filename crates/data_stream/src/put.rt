@@ -11,13 +11,13 @@ ghost use Rattle.data_stream.specs.Runs.{LeadsAt, standing_of};
 ghost use Rattle.data_stream.specs.Files.{PutKeeps, PutsBody, PutsUnder, files};
 
 use crate::ends::close;
-use crate::events::WorldEvents;
 use body_stream::Vault;
 use command_io::{ended_by, ended_by_props, read_properties, report};
 use file_orders::{FsEnd, put_file};
 use hk_base::{Clock, Disk, Sink, Source, Text, Words};
 use prop_text::Props;
 use std::alloc::Global;
+use world_events::WorldEvents;
 use world_run::World;
 
 /// Puts a file over events. They still hold both services afterwards.

@@ -9,13 +9,13 @@ ghost use Rattle.data_stream.specs.Runs.{LeadsAt, standing_of};
 ghost use Rattle.data_stream.specs.Files.{ReadKeeps, ReadsBody, ReadsUnder, files};
 
 use crate::ends::close;
-use crate::events::WorldEvents;
 use body_stream::Vault;
 use command_io::{ended_by, ended_by_props, read_properties, report};
 use file_orders::{FsEnd, read_file};
 use hk_base::{Clock, Disk, Sink, Source, Text, Words};
 use prop_text::Props;
 use std::alloc::Global;
+use world_events::WorldEvents;
 use world_run::World;
 
 /// Reads a range of a file over events. They still hold both services afterwards.

@@ -56,7 +56,7 @@ fn end_of_refused(refused: KmsRefusal, why: NameRefusal) -> FsEnd
 }
 
 /// Returns the end by a refusal of the namesystem.
-pub(crate) fn end_of_names(why: NameRefusal) -> FsEnd
+pub fn end_of_names(why: NameRefusal) -> FsEnd
     ensures { result ≡ end_of_names why }
 {
     match why {

@@ -7,7 +7,7 @@ mod open;
 mod put;
 mod read;
 
-pub use ends::FsEnd;
+pub use ends::{FsEnd, end_of_names};
 pub use events::Events;
 pub use open::{OpenFile, ShownFile};
 pub use put::put_file;

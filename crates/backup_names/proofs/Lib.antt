@@ -1,0 +1,4 @@
+mod AskedLemmas
+mod FinishLemmas
+mod MakeLemmas
+pub mod OrderLemmas

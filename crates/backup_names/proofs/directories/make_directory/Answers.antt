@@ -1,0 +1,18 @@
+use Rattle.std.proofs.Common.{sym, subst}
+use Rattle.backup_names.specs.Changes.{Changes, MakesDirectory}
+use Rattle.backup_names.specs.Ends.{change_end}
+use Rattle.backup_names.proofs.MakeLemmas.{directory_ended}
+use Rattle.backup_names.proofs.OrderLemmas.{no_orders, orders_of_logs}
+use Rattle.backup_names.proofs.directories.make_directory.Goals as goal
+
+pub returns-in-Err-clause-orders : goal.returns-in-Err-clause-orders
+returns-in-Err-clause-orders g c = no_orders _ _
+
+pub returns-clause-makes : goal.returns-clause-makes
+returns-clause-makes g c =
+    let ended = directory_ended c.args.name.now c.act-reply.new.self c.args.user.now c.in-Ok.path _ c.act-reply.result c.act-reply.ensures.logged c.invariants.ensures.names c.requires.settled c.act-reply.ensures.serves in
+    subst (λ x. Changes x (MakesDirectory c.args.path.now) c.args.name.now c.act-reply.new.self) (sym c.change_end.ensures)
+    (subst (λ p. Changes (change_end c.act-reply.result) (MakesDirectory p) c.args.name.now c.act-reply.new.self) c.in-Ok.ensures ended.changes)
+
+pub returns-clause-orders : goal.returns-clause-orders
+returns-clause-orders g c = orders_of_logs _ _ _ _ _ _ c.requires.settled c.act-reply.ensures.disk

@@ -1,0 +1,8 @@
+use Rattle.backup_names.proofs.OrderLemmas.{no_orders, orders_of_logs}
+use Rattle.backup_names.proofs.looks.look.Goals as goal
+
+pub returns-in-Err-clause-orders : goal.returns-in-Err-clause-orders
+returns-in-Err-clause-orders g c = no_orders _ _
+
+pub returns-clause-orders : goal.returns-clause-orders
+returns-clause-orders g c = orders_of_logs _ _ _ _ _ _ c.requires.settled c.act-reply.ensures.disk

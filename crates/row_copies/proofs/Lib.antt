@@ -1,0 +1,7 @@
+mod AddLemmas
+mod EndLemmas
+mod NextLemmas
+mod PathLemmas
+mod PutLemmas
+mod StepLemmas
+mod WalkLemmas

@@ -1,0 +1,8 @@
+use Rattle.row_copies.proofs.StepLemmas.{one}
+use Rattle.row_copies.proofs.walk.make_row.Goals as goal
+
+pub returns-in-Ok-copy_file-clause-steps : goal.returns-in-Ok-copy_file-clause-steps
+returns-in-Ok-copy_file-clause-steps g c = one g.C.Clusters.follows c.args.clusters.now c.copy_file.new.self c.copy_file.ensures.follows
+
+pub returns-in-Err-copy_file-clause-steps : goal.returns-in-Err-copy_file-clause-steps
+returns-in-Err-copy_file-clause-steps g c = one g.C.Clusters.follows c.args.clusters.now c.copy_file.new.self c.copy_file.ensures.follows

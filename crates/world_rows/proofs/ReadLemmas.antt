@@ -1,0 +1,184 @@
+-- What the events that only read tell, and that they leave the world as it was.
+use Rattle.std.proofs.Common.{◌≡◌, ◌≤◌, inl, inr, ℕ, Bool, true, false, cond, not, List, [], ◌∷◌, ◌++◌, refl, sym, ap, ◌∙◌, subst, arith}
+use Rattle.std.specs.Prelude.{◌⊎◌, Option, Some, None, Result, Ok, Err, is_none}
+use Rattle.edit_ops.specs.declared.ops.EditOp.{EditOp}
+use Rattle.hk_base.specs.Disk.{DiskState, Tells}
+use Rattle.hk_base.specs.Faults.{Rose}
+use Rattle.hk_base.specs.declared.names.Edek.{Edek}
+use Rattle.hk_base.specs.declared.names.KeyName.{KeyName}
+use Rattle.hk_base.specs.declared.texts.Text.{Text}
+use Rattle.hk_events.specs.declared.event.Event.{Event}
+use Rattle.hk_events.specs.declared.event.Event.TheVariants as event
+use Rattle.hk_events.specs.declared.event.Line.{Line}
+use Rattle.hk_events.specs.declared.event.Line.TheVariants as line
+use Rattle.inode_tree.specs.Listing.{children}
+use Rattle.inode_tree.specs.Rows.{Entry, is_dir_at, row_at}
+use Rattle.inode_tree.specs.declared.rows.Kind.{Kind}
+use Rattle.inode_tree.specs.declared.rows.Kind.TheVariants.{Dir, File}
+use Rattle.inode_tree.specs.declared.rows.Row.{Row}
+use Rattle.key_rows.specs.declared.rows.KeyCommand.{KeyCommand}
+use Rattle.kms_acls.specs.Verdict.{verdict}
+use Rattle.kms_acls.specs.declared.answers.Denied.{Denied}
+use Rattle.kms_acls.specs.declared.answers.Shown.{Shown}
+use Rattle.kms_calls.specs.declared.calls.KmsCall.{KmsCall}
+use Rattle.kms_calls.specs.declared.calls.KmsCall.TheVariants as call
+use Rattle.kms_calls.specs.declared.calls.KmsReply.{KmsReply}
+use Rattle.kms_core.specs.State.{ServiceState}
+use Rattle.kms_core.specs.Users.{ServesUnder}
+use Rattle.name_calls.specs.ReadPaths.{read_any_path}
+use Rattle.name_calls.specs.Paths.{is_relative}
+use Rattle.name_calls.specs.declared.calls.NameCall.{NameCall}
+use Rattle.name_calls.specs.declared.calls.NameCall.TheVariants as name_call
+use Rattle.name_calls.specs.declared.calls.NameRefusal.{NameRefusal}
+use Rattle.name_calls.specs.declared.calls.NameReply.{NameReply}
+use Rattle.name_calls.specs.declared.calls.NameReply.TheVariants as reply
+use Rattle.name_calls.specs.declared.listing.Child.{Child}
+use Rattle.name_calls.specs.declared.paths.NPath.{NPath}
+use Rattle.name_calls.specs.declared.read_paths.ReadPath.{ReadPath}
+use Rattle.name_core.specs.Calls as names
+use Rattle.name_core.specs.Reads.{info_of, list_causes, path_read, rows_read, shown_at, snapshot_causes, zone_read}
+use Rattle.name_core.specs.Service as service
+use Rattle.name_core.specs.State.{NameService, NameState}
+use Rattle.name_store.specs.Causes.{first_cause}
+use Rattle.name_store.specs.Table.{NameTable}
+use Rattle.prop_text.specs.declared.lines.PropLine.{PropLine}
+use Rattle.file_orders.specs.declared.ends.FsEnd.{FsEnd}
+use Rattle.place_texts.specs.Places.{place_below, read_path_text}
+use Rattle.place_texts.proofs.PlaceLemmas.{only-back}
+use Rattle.source_looks.specs.Looks.{Lists, Looks, AsksKey, children_by, children_in, row_by, row_in}
+use Rattle.world_desk.specs.Worlds.{IsReady}
+use Rattle.world_events.specs.Events.{LeadsAt}
+use Rattle.world_run.specs.Acknowledged.{Acknowledged}
+use Rattle.world_run.specs.Drives.{Standing}
+use Rattle.world_run.specs.Step.{NamesAct, PathActs, Step}
+use Rattle.world_run.specs.World.{RunningWorld, WorldState, world_of}
+use Rattle.world_rows.specs.Rows.{AsksMetadata, IsPlace, OnlyReads, ReadsOnce, place_rows, table_of}
+use Rattle.world_rows.proofs.SeenLemmas.{children-of-place, row-of-place}
+
+-- ---- an info
+
+shows : (id : ℕ) (kind : Kind) (lying : Option NPath) (row : Row) → row_by (info_of id lying kind) ≡ Ok row → record { id = id; kind = kind } ≡ row
+shows id (Dir key) lying row e = cc
+shows id (File edek) lying row e = cc
+
+shows_row : (found : Option Row) (lying : Option NPath) (row : Row) → row_by (shown_at lying found) ≡ Ok row → found ≡ Some row
+shows_row None lying row e = absurd cc
+shows_row (Some x) lying row e = ap Some (shows x.id x.kind lying row e)
+
+module _ (s : NameState) (p : ReadPath) (row : Row) where
+  unless_so : (why : Option NameRefusal) (given : NameReply) (s' : NameState) → record { reply = given; state = s' } ≡ names.unless_refused why s (names.deed s (name_call.Info p)) → row_by given ≡ Ok row
+      → row_at (rows_read s.table p) (path_read p) ≡ Some row
+  unless_so (Some why) given s' e is = let r : given ≡ reply.Refused why = ap (λ (o : names.Outcome). o.reply) e in let bad = sym (ap row_by r) ∙ is in absurd cc
+  unless_so None given s' e is = shows_row (row_at (rows_read s.table p) (path_read p)) (zone_read s.table p) row (sym (ap (λ (o : names.Outcome). row_by o.reply) e) ∙ is)
+
+  acts_so : (given : NameReply) (s' : NameState) → names.NameActs s (name_call.Info p) given s' → row_by given ≡ Ok row → row_at (rows_read s.table p) (path_read p) ≡ Some row
+  acts_so given s' (names.Plain, may, e) is = unless_so (names.first_cause (names.causes s (name_call.Info p))) given s' e is
+  acts_so given s' (names.NoRoom, may, e) is = let r = ap (λ (o : names.Outcome). row_by o.reply) e in let bad = sym r ∙ is in absurd cc
+
+served_so : (why : Option NameRefusal) (s : NameService) (p : ReadPath) (fault : Type 0) (given : NameReply) (ops : List EditOp) (s' : NameService) (row : Row)
+    → service.ServesUnless why s (name_call.Info p) fault given ops s' → row_by given ≡ Ok row → row_at (rows_read s.names.table p) (path_read p) ≡ Some row
+served_so (Some why) s p fault given ops s' row refused is = let bad = sym (ap row_by refused.reply_is) ∙ is in absurd cc
+served_so None s p fault given ops s' row only is = acts_so s.names p row given s.names only.acts is
+
+-- an answer that shows a row tells the row at the path that was read
+pub row_told : (lines : List PropLine) (w : WorldState) (words : ℕ → ℕ) (now : ℕ) (user path : List ℕ) (fault tells : Type 0) (answer : Line) (drawn : ℕ) (logged : Acknowledged) (w' : WorldState)
+    → Step lines w words now (event.Info user path) fault tells answer drawn logged w' → (row : Row) → row_in answer ≡ Ok row
+    → (p : ReadPath) × (read_any_path path ≡ Some p) × (row_at (rows_read w.names.names.table p) (path_read p) ≡ Some row)
+row_told lines w words now user path fault tells answer drawn logged w' step row is = go (read_any_path path) refl step
+  where
+    go : (read : Option ReadPath) → read_any_path path ≡ read → PathActs w user name_call.Info read fault answer drawn logged w'
+        → (p : ReadPath) × (read_any_path path ≡ Some p) × (row_at (rows_read w.names.names.table p) (path_read p) ≡ Some row)
+    go None read unread = let bad = sym (ap row_in unread.reply_is) ∙ is in absurd cc
+    go (Some p) read (inr unread) = let bad = sym (ap row_in unread.reply_is) ∙ is in absurd cc
+    go (Some p) read (inl acts) =
+        (p, read, served_so (names.first_cause (names.early_causes user (name_call.Info p))) w.names p fault acts.reply acts.ops acts.names row acts.serves (sym (ap row_in acts.reply_is) ∙ is))
+
+-- ---- a list
+
+last_passes : (xs : List (Bool × NameRefusal)) (a b : Bool) (x y : NameRefusal) → first_cause (xs ++ ((a, x) ∷ (not b, y) ∷ [])) ≡ None → b ≡ true
+last_passes [] true b x y h = absurd cc
+last_passes [] false true x y h = refl
+last_passes [] false false x y h = absurd cc
+last_passes ((true, z) ∷ xs) a b x y h = absurd cc
+last_passes ((false, z) ∷ xs) a b x y h = last_passes xs a b x y h
+
+-- a list tells the entries of a directory
+abbrev Told : NameTable → ReadPath → List Child → Type 0
+Told t p list = (list ≡ children (rows_read t p) (path_read p)) × (is_dir_at (row_at (rows_read t p) (path_read p)) ≡ true)
+
+module _ (s : NameState) (p : ReadPath) (list : List Child) where
+  list_so : (why : Option NameRefusal) → first_cause (list_causes s.table p) ≡ why → (given : NameReply) (s' : NameState) → record { reply = given; state = s' } ≡ names.unless_refused why s (names.deed s (name_call.List p)) → children_by given ≡ Ok list
+      → Told s.table p list
+  list_so (Some why) cause given s' e is = let r : given ≡ reply.Refused why = ap (λ (o : names.Outcome). o.reply) e in let bad = sym (ap children_by r) ∙ is in absurd cc
+  list_so None cause given s' e is =
+      let own : Ok (children (rows_read s.table p) (path_read p)) ≡ Ok list = sym (ap (λ (o : names.Outcome). children_by o.reply) e) ∙ is in
+      let same : children (rows_read s.table p) (path_read p) ≡ list = cc in
+      (sym same, last_passes (snapshot_causes s.table p) (is_none (row_at (rows_read s.table p) (path_read p))) (is_dir_at (row_at (rows_read s.table p) (path_read p))) _ _ cause)
+
+  list_acts : (given : NameReply) (s' : NameState) → names.NameActs s (name_call.List p) given s' → children_by given ≡ Ok list → Told s.table p list
+  list_acts given s' (names.Plain, may, e) is = list_so (names.first_cause (names.causes s (name_call.List p))) refl given s' e is
+  list_acts given s' (names.NoRoom, may, e) is = let r = ap (λ (o : names.Outcome). children_by o.reply) e in let bad = sym r ∙ is in absurd cc
+
+list_served : (why : Option NameRefusal) (s : NameService) (p : ReadPath) (fault : Type 0) (given : NameReply) (ops : List EditOp) (s' : NameService) (list : List Child)
+    → service.ServesUnless why s (name_call.List p) fault given ops s' → children_by given ≡ Ok list → Told s.names.table p list
+list_served (Some why) s p fault given ops s' list refused is = let bad = sym (ap children_by refused.reply_is) ∙ is in absurd cc
+list_served None s p fault given ops s' list only is = list_acts s.names p list given s.names only.acts is
+
+pub list_told : (lines : List PropLine) (w : WorldState) (words : ℕ → ℕ) (now : ℕ) (user path : List ℕ) (fault tells : Type 0) (answer : Line) (drawn : ℕ) (logged : Acknowledged) (w' : WorldState)
+    → Step lines w words now (event.List user path) fault tells answer drawn logged w' → (list : List Child) → children_in answer ≡ Ok list
+    → (p : ReadPath) × (read_any_path path ≡ Some p) × Told w.names.names.table p list
+list_told lines w words now user path fault tells answer drawn logged w' step list is = go (read_any_path path) refl step
+  where
+    go : (read : Option ReadPath) → read_any_path path ≡ read → PathActs w user name_call.List read fault answer drawn logged w' → (p : ReadPath) × (read_any_path path ≡ Some p) × Told w.names.names.table p list
+    go None read unread = let bad = sym (ap children_in unread.reply_is) ∙ is in absurd cc
+    go (Some p) read (inr unread) = let bad = sym (ap children_in unread.reply_is) ∙ is in absurd cc
+    go (Some p) read (inl acts) =
+        (p, read, list_served (names.first_cause (names.early_causes user (name_call.List p))) w.names p fault acts.reply acts.ops acts.names list acts.serves (sym (ap children_in acts.reply_is) ∙ is))
+
+-- ---- the world stays
+
+-- nothing was drawn, and the world is as before
+abbrev Quiet : WorldState → ℕ → WorldState → Type 0
+Quiet w drawn w' = (drawn ≡ 0) × (w' ≡ w)
+
+info_same : (why : Option NameRefusal) (s : NameService) (p : ReadPath) (fault : Type 0) (given : NameReply) (ops : List EditOp) (s' : NameService) → service.ServesUnless why s (name_call.Info p) fault given ops s' → s' ≡ s
+info_same (Some why) s p fault given ops s' refused = refused.same
+info_same None s p fault given ops s' only = only.same
+
+list_same : (why : Option NameRefusal) (s : NameService) (p : ReadPath) (fault : Type 0) (given : NameReply) (ops : List EditOp) (s' : NameService) → service.ServesUnless why s (name_call.List p) fault given ops s' → s' ≡ s
+list_same (Some why) s p fault given ops s' refused = refused.same
+list_same None s p fault given ops s' only = only.same
+
+key_same : (judged : Result Shown Denied) (s : ServiceState) (words : ℕ → ℕ) (now : ℕ) (name : KeyName) (fault : Type 0) (given : KmsReply) (drawn : ℕ) (logged : List KeyCommand) (s' : ServiceState)
+    → ServesUnder judged s words now (call.Metadata name) fault given drawn logged s' → (drawn ≡ 0) × (s' ≡ s)
+key_same (Err denied) s words now name fault given drawn logged s' denies = (denies.none_drawn, denies.same)
+key_same (Ok shown) s words now name fault given drawn logged s' permits = (none permits.serves.acts, permits.serves.same)
+  where
+    unless : (why : _) (given : KmsReply) (s' : _) → record { reply = given; drawn = drawn; state = s' } ≡ Rattle.kms_core.specs.Calls.unless_refused why s.keys (Rattle.kms_core.specs.Calls.deed s.keys words now (call.Metadata name)) → drawn ≡ 0
+    unless (Some why) given s' e = ap (λ (o : Rattle.kms_core.specs.Calls.Outcome). o.drawn) e
+    unless None given s' e = ap (λ (o : Rattle.kms_core.specs.Calls.Outcome). o.drawn) e
+
+    none : {given : KmsReply} {s' : _} → Rattle.kms_core.specs.Calls.KmsActs s.keys words now (call.Metadata name) given drawn s' → drawn ≡ 0
+    none {given} {s'} (Rattle.kms_core.specs.Calls.Plain, may, e) = unless (Rattle.kms_core.specs.Calls.first_cause (Rattle.kms_core.specs.Calls.causes s.keys (call.Metadata name))) given s' e
+    none {given} {s'} (Rattle.kms_core.specs.Calls.NoRoom count, may, e) =
+        let few : count ≤ 0 = may.2 in
+        let is : drawn ≡ count = ap (λ (o : Rattle.kms_core.specs.Calls.Outcome). o.drawn) e in
+        omega (arith, few, is)
+
+pub quiet : (lines : List PropLine) (w : WorldState) (words : ℕ → ℕ) (now : ℕ) (e : Event) (fault tells : Type 0) (answer : Line) (drawn : ℕ) (logged : Acknowledged) (w' : WorldState)
+    → Step lines w words now e fault tells answer drawn logged w' → OnlyReads e → Quiet w drawn w'
+quiet lines w words now (event.Info user path) fault tells answer drawn logged w' step only = go (read_any_path path) step
+  where
+    go : (read : Option ReadPath) → PathActs w user name_call.Info read fault answer drawn logged w' → Quiet w drawn w'
+    go None unread = (unread.quiet.0, unread.same)
+    go (Some p) (inr unread) = (unread.quiet.0, unread.same)
+    go (Some p) (inl acts) = (acts.none_drawn, acts.left ∙ ap (λ (n : NameService). record w { names = n }) (info_same (names.first_cause (names.early_causes user (name_call.Info p))) w.names p fault acts.reply acts.ops acts.names acts.serves))
+quiet lines w words now (event.List user path) fault tells answer drawn logged w' step only = go (read_any_path path) step
+  where
+    go : (read : Option ReadPath) → PathActs w user name_call.List read fault answer drawn logged w' → Quiet w drawn w'
+    go None unread = (unread.quiet.0, unread.same)
+    go (Some p) (inr unread) = (unread.quiet.0, unread.same)
+    go (Some p) (inl acts) = (acts.none_drawn, acts.left ∙ ap (λ (n : NameService). record w { names = n }) (list_same (names.first_cause (names.early_causes user (name_call.List p))) w.names p fault acts.reply acts.ops acts.names acts.serves))
+quiet lines w words now (event.Kms user (call.Metadata name)) fault tells answer drawn logged w' step only =
+    let k = key_same (verdict lines user (call.Metadata name)) w.keys words now name fault step.reply drawn step.commands step.keys step.serves in
+    (k.0, step.left ∙ ap (λ (k : ServiceState). record w { keys = k }) k.1)
