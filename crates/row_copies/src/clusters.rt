@@ -65,7 +65,7 @@ pub trait Clusters {
         requires ready { ready self.old }
         ensures ok { OnOk result (MakesDirectory path.now (state self.old) (state self.new)) }
         ensures err { OnErr result (KeepsBoth (state self.old) (state self.new)) }
-        ensures ready { ready self.new }
+        ensures ready { OnOk result (ready self.new) }
         ensures follows { follows self.old self.new };
 
     /// Marks an empty directory of the target with a key.
@@ -73,7 +73,7 @@ pub trait Clusters {
         requires ready { ready self.old }
         ensures ok { OnOk result (MarksDirectory path.now key (state self.old) (state self.new)) }
         ensures err { OnErr result (KeepsBoth (state self.old) (state self.new)) }
-        ensures ready { ready self.new }
+        ensures ready { OnOk result (ready self.new) }
         ensures follows { follows self.old self.new };
 
     /// Makes a file in the target, with this encrypted key and the body of the file of the source that
@@ -83,6 +83,6 @@ pub trait Clusters {
         ensures ok { OnOk result
             (CopiesFile from path.now edek (state self.old) (state self.new)) }
         ensures err { OnErr result (KeepsRows (state self.old) (state self.new)) }
-        ensures ready { ready self.new }
+        ensures ready { OnOk result (ready self.new) }
         ensures follows { follows self.old self.new };
 }

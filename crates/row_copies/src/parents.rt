@@ -17,7 +17,7 @@ fn make_missing<C: Clusters>(clusters: &mut C, path: &NPath) -> Result<(), FsEnd
         (MakesMissing (row_at (C.state clusters.old).target.rows path.now) path.now
         (C.state clusters.old) (C.state clusters.new)) }
     ensures err { OnErr result (KeepsBoth (C.state clusters.old) (C.state clusters.new)) }
-    ensures ready { C.ready clusters.new }
+    ensures ready { OnOk result (C.ready clusters.new) }
     ensures steps { Steps C.follows clusters.old clusters.new }
 {
     match clusters.is_directory(path) {
@@ -37,7 +37,7 @@ pub(crate) fn make_parents<C: Clusters>(
     ensures ok { OnOk result
         (MakesAbove (above to.now) to.now (C.state clusters.old) (C.state clusters.new)) }
     ensures err { OnErr result (MakesParents to.now (C.state clusters.old) (C.state clusters.new)) }
-    ensures ready { C.ready clusters.new }
+    ensures ready { OnOk result (C.ready clusters.new) }
     ensures steps { Steps C.follows clusters.old clusters.new }
 {
     let mut path = NPath::root(alloc);

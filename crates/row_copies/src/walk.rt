@@ -42,7 +42,7 @@ fn make<C: Clusters>(clusters: &mut C, path: &NPath, key: Option<KeyName>) -> Re
         (KeepsBoth (C.state clusters.old) (C.state clusters.new) ⊎
         ((is_some key ≡ true) ×
         MakesDirectory path.now (C.state clusters.old) (C.state clusters.new))) }
-    ensures ready { C.ready clusters.new }
+    ensures ready { OnOk result (C.ready clusters.new) }
     ensures steps { Steps C.follows clusters.old clusters.new }
 {
     match clusters.make_directory(path) {
@@ -66,7 +66,7 @@ fn make_row<C: Clusters>(clusters: &mut C, row: Row, path: &NPath) -> Result<boo
         (KeepsRows (C.state clusters.old) (C.state clusters.new) ⊎
         ((is_marked row ≡ true) ×
         MakesDirectory path.now (C.state clusters.old) (C.state clusters.new))) }
-    ensures ready { C.ready clusters.new }
+    ensures ready { OnOk result (C.ready clusters.new) }
     ensures steps { Steps C.follows clusters.old clusters.new }
 {
     let Row { id, kind } = row;
@@ -97,7 +97,7 @@ fn copy_row<C: Clusters>(
     ensures err { OnErr result
         (Stops to.now (below (C.state clusters.old).source.rows from.now) (C.state clusters.old)
         (C.state clusters.new)) }
-    ensures ready { C.ready clusters.new }
+    ensures ready { OnOk result (C.ready clusters.new) }
     ensures steps { Steps C.follows clusters.old clusters.new }
 {
     clusters.facts();
@@ -150,7 +150,7 @@ fn copy_block<C: Clusters>(
     ensures err { OnErr result
         (Stops to.now (below (C.state clusters.old).source.rows from.now) (C.state clusters.old)
         (C.state clusters.new)) }
-    ensures ready { C.ready clusters.new }
+    ensures ready { OnOk result (C.ready clusters.new) }
     ensures steps { Steps C.follows clusters.old clusters.new }
 {
     clusters.facts();
@@ -226,7 +226,7 @@ pub fn copy_rows<C: Clusters>(alloc: Global, clusters: &mut C, to: &NPath) -> Re
     ensures absent { OnOk result (row_at (C.state clusters.old).target.rows to.now ≡ None) }
     ensures part { OnErr result
         (StopsEarly to.now (C.state clusters.old) (C.state clusters.new)) }
-    ensures ready { C.ready clusters.new }
+    ensures ready { OnOk result (C.ready clusters.new) }
     ensures steps { Steps C.follows clusters.old clusters.new }
 {
     let root = NPath::root(alloc);

@@ -1,6 +1,6 @@
 -- What the events that only read tell, and that they leave the world as it was.
 use Rattle.std.proofs.Common.{◌≡◌, ◌≤◌, inl, inr, ℕ, Bool, true, false, cond, not, List, [], ◌∷◌, ◌++◌, refl, sym, ap, ◌∙◌, subst, arith}
-use Rattle.std.specs.Prelude.{◌⊎◌, Option, Some, None, Result, Ok, Err, is_none}
+use Rattle.std.specs.Prelude.{◌⊎◌, Option, Some, None, Result, Ok, Err, IfOk, OnOk, is_none}
 use Rattle.edit_ops.specs.declared.ops.EditOp.{EditOp}
 use Rattle.hk_base.specs.Disk.{DiskState, Tells}
 use Rattle.hk_base.specs.Faults.{Rose}
@@ -36,6 +36,7 @@ use Rattle.name_calls.specs.declared.listing.Child.{Child}
 use Rattle.name_calls.specs.declared.paths.NPath.{NPath}
 use Rattle.name_calls.specs.declared.read_paths.ReadPath.{ReadPath}
 use Rattle.name_core.specs.Calls as names
+use Rattle.name_core.specs.Calls.{superuser}
 use Rattle.name_core.specs.Reads.{info_of, list_causes, path_read, rows_read, shown_at, snapshot_causes, zone_read}
 use Rattle.name_core.specs.Service as service
 use Rattle.name_core.specs.State.{NameService, NameState}
@@ -47,7 +48,8 @@ use Rattle.place_texts.specs.Places.{place_below, read_path_text}
 use Rattle.place_texts.proofs.PlaceLemmas.{only-back}
 use Rattle.source_looks.specs.Looks.{Lists, Looks, AsksKey, children_by, children_in, row_by, row_in}
 use Rattle.world_desk.specs.Worlds.{IsReady}
-use Rattle.world_events.specs.Events.{LeadsAt}
+use Rattle.world_events.specs.Events.{HoldsSame, LeadsAt, standing_of}
+use Rattle.world_events.specs.declared.events.WorldEvents.{WorldEvents}
 use Rattle.world_run.specs.Acknowledged.{Acknowledged}
 use Rattle.world_run.specs.Drives.{Standing}
 use Rattle.world_run.specs.Step.{NamesAct, PathActs, Step}
@@ -182,3 +184,123 @@ quiet lines w words now (event.List user path) fault tells answer drawn logged w
 quiet lines w words now (event.Kms user (call.Metadata name)) fault tells answer drawn logged w' step only =
     let k = key_same (verdict lines user (call.Metadata name)) w.keys words now name fault step.reply drawn step.commands step.keys step.serves in
     (k.0, step.left ∙ ap (λ (k : ServiceState). record w { keys = k }) k.1)
+quiet lines w words now (event.Kms user (call.Create _ _ _ _)) fault tells answer drawn logged w' step only = absurd only.1
+quiet lines w words now (event.Kms user (call.Roll _ _)) fault tells answer drawn logged w' step only = absurd only.1
+quiet lines w words now (event.Kms user (call.Delete _)) fault tells answer drawn logged w' step only = absurd only.1
+quiet lines w words now (event.Kms user (call.Invalidate _)) fault tells answer drawn logged w' step only = absurd only.1
+quiet lines w words now (event.Kms user (call.Metadatas _)) fault tells answer drawn logged w' step only = absurd only.1
+quiet lines w words now (event.Kms user call.Names) fault tells answer drawn logged w' step only = absurd only.1
+quiet lines w words now (event.Kms user (call.Current _)) fault tells answer drawn logged w' step only = absurd only.1
+quiet lines w words now (event.Kms user (call.Versions _)) fault tells answer drawn logged w' step only = absurd only.1
+quiet lines w words now (event.Kms user (call.Version _)) fault tells answer drawn logged w' step only = absurd only.1
+quiet lines w words now (event.Kms user (call.Generate _ _)) fault tells answer drawn logged w' step only = absurd only.1
+quiet lines w words now (event.Kms user (call.Decrypt _ _)) fault tells answer drawn logged w' step only = absurd only.1
+quiet lines w words now (event.Kms user (call.Reencrypt _ _)) fault tells answer drawn logged w' step only = absurd only.1
+quiet lines w words now (event.Kms user (call.Batch _ _)) fault tells answer drawn logged w' step only = absurd only.1
+quiet lines w words now event.Ticket fault tells answer drawn logged w' step only = absurd only
+quiet lines w words now (event.Deposit _) fault tells answer drawn logged w' step only = absurd only
+quiet lines w words now event.RestartKms fault tells answer drawn logged w' step only = absurd only
+quiet lines w words now event.RestartName fault tells answer drawn logged w' step only = absurd only
+quiet lines w words now (event.Mkdir _ _) fault tells answer drawn logged w' step only = absurd only
+quiet lines w words now (event.Delete _ _ _) fault tells answer drawn logged w' step only = absurd only
+quiet lines w words now (event.Rename _ _ _) fault tells answer drawn logged w' step only = absurd only
+quiet lines w words now (event.Allow _ _) fault tells answer drawn logged w' step only = absurd only
+quiet lines w words now (event.Disallow _ _) fault tells answer drawn logged w' step only = absurd only
+quiet lines w words now (event.Snap _ _ _) fault tells answer drawn logged w' step only = absurd only
+quiet lines w words now (event.Unsnap _ _ _) fault tells answer drawn logged w' step only = absurd only
+quiet lines w words now (event.Cancel _ _) fault tells answer drawn logged w' step only = absurd only
+quiet lines w words now (event.Status _ _) fault tells answer drawn logged w' step only = absurd only
+quiet lines w words now (event.Zones _) fault tells answer drawn logged w' step only = absurd only
+quiet lines w words now (event.AskCreate _ _) fault tells answer drawn logged w' step only = absurd only
+quiet lines w words now (event.AskZone _ _ _) fault tells answer drawn logged w' step only = absurd only
+quiet lines w words now (event.AskSubmit _ _) fault tells answer drawn logged w' step only = absurd only
+quiet lines w words now (event.Draw _) fault tells answer drawn logged w' step only = absurd only
+quiet lines w words now (event.Finish _) fault tells answer drawn logged w' step only = absurd only
+quiet lines w words now (event.Walk _) fault tells answer drawn logged w' step only = absurd only
+quiet lines w words now (event.Serve _) fault tells answer drawn logged w' step only = absurd only
+quiet lines w words now (event.Deliver _) fault tells answer drawn logged w' step only = absurd only
+quiet lines w words now (event.GiveUp _) fault tells answer drawn logged w' step only = absurd only
+
+-- ---- over a disk
+
+-- the step of an event, and the lists that it was judged by
+record Stepped {D W : Type 0} (state : D → DiskState) (to_come : W → ℕ → ℕ) (now : ℕ) (a : Standing D W) (e : Event) (answer : Line) (b : Standing D W) : Type 0 where
+  lines : List PropLine
+  drawn : ℕ
+  logged : Acknowledged
+  step : Step lines (world_of a.world) (to_come a.words) now e (Rose (state a.disk).faults (state b.disk).faults) (Tells (state a.disk)) answer drawn logged (world_of b.world)
+
+module _ {D W : Type 0} (state : D → DiskState) (to_come : W → ℕ → ℕ) (now : ℕ) (a b : Standing D W) (ready : IsReady state a) where
+  stepped : (e : Event) (answer : Line) → LeadsAt state to_come now a e answer b → Stepped state to_come now a e answer b
+  stepped e answer leads = let s = leads ready.0 ready.1.lists in record { lines = ready.0; drawn = s.drawn; logged = s.logged; step = s.step.step }
+
+  -- the world is as it was
+  pub once_same : ReadsOnce state to_come now a b → world_of b.world ≡ world_of a.world
+  once_same (inl same) = ap (λ (v : Standing D W). world_of v.world) same
+  once_same (inr (e, answer, only, leads)) =
+      let s = stepped e answer leads in
+      (quiet s.lines (world_of a.world) (to_come a.words) now e _ _ answer s.drawn s.logged (world_of b.world) s.step only).1
+
+  pub rows_same : (place : ReadPath) → ReadsOnce state to_come now a b → place_rows (table_of b.world) place ≡ place_rows (table_of a.world) place
+  rows_same place once = ap (λ (w : WorldState). place_rows w.names.names.table place) (once_same once)
+
+  module _ (user : Text) (place : ReadPath) (q : NPath) (is_place : IsPlace place) (short : is_relative q ≡ true) where
+    pub row_found : (result : Result Row FsEnd) → Looks (LeadsAt state to_come now) user (place_below place q) a result b → IfOk result (λ (row : Row). row_at (place_rows (table_of a.world) place) q ≡ Some row)
+    row_found (Err why) looks = tt
+    row_found (Ok row) (inr (none, same)) = absurd cc
+    row_found (Ok row) (inl (answer, leads, is)) =
+        let s = stepped (event.Info user (read_path_text (place_below place q))) answer leads in
+        let t = row_told s.lines (world_of a.world) (to_come a.words) now user (read_path_text (place_below place q)) (Rose (state a.disk).faults (state b.disk).faults) (Tells (state a.disk)) answer s.drawn s.logged (world_of b.world) s.step row (sym is) in
+        sym (row-of-place (table_of a.world) place q is_place)
+        ∙ ap (λ (p : ReadPath). row_at (rows_read (table_of a.world) p) (path_read p)) (sym (only-back place q t.0 is_place.ruled short t.1)) ∙ t.2
+
+    pub list_found : (result : Result (List Child) FsEnd) → Lists (LeadsAt state to_come now) user (place_below place q) a result b → IfOk result (λ (list : List Child). list ≡ children (place_rows (table_of a.world) place) q)
+    list_found (Err why) looks = tt
+    list_found (Ok list) (inr (none, same)) = absurd cc
+    list_found (Ok list) (inl (answer, leads, is)) =
+        let s = stepped (event.List user (read_path_text (place_below place q))) answer leads in
+        let t = list_told s.lines (world_of a.world) (to_come a.words) now user (read_path_text (place_below place q)) (Rose (state a.disk).faults (state b.disk).faults) (Tells (state a.disk)) answer s.drawn s.logged (world_of b.world) s.step list (sym is) in
+        t.2.0 ∙ ap (λ (p : ReadPath). children (rows_read (table_of a.world) p) (path_read p)) (only-back place q t.0 is_place.ruled short t.1) ∙ children-of-place (table_of a.world) place q is_place
+
+    pub directory_found : (result : Result (List Child) FsEnd) → Lists (LeadsAt state to_come now) user (place_below place q) a result b → OnOk result (is_dir_at (row_at (place_rows (table_of a.world) place) q) ≡ true)
+    directory_found (Err why) looks = tt
+    directory_found (Ok list) (inr (none, same)) = absurd cc
+    directory_found (Ok list) (inl (answer, leads, is)) =
+        let s = stepped (event.List user (read_path_text (place_below place q))) answer leads in
+        let t = list_told s.lines (world_of a.world) (to_come a.words) now user (read_path_text (place_below place q)) (Rose (state a.disk).faults (state b.disk).faults) (Tells (state a.disk)) answer s.drawn s.logged (world_of b.world) s.step list (sym is) in
+        ap is_dir_at (sym (row-of-place (table_of a.world) place q is_place) ∙ ap (λ (p : ReadPath). row_at (rows_read (table_of a.world) p) (path_read p)) (sym (only-back place q t.0 is_place.ruled short t.1))) ∙ t.2.1
+
+-- ---- over events that hold the services
+
+-- an event of these services
+abbrev Led : {D W : Type 0} → (D → DiskState) → (W → ℕ → ℕ) → WorldEvents D W → Event → Line → WorldEvents D W → Type 0
+Led state to_come old e answer new = HoldsSame old new × LeadsAt state to_come old.now (standing_of old) e answer (standing_of new)
+
+module _ {D W : Type 0} (state : D → DiskState) (to_come : W → ℕ → ℕ) (a b : WorldEvents D W) (user : Text) where
+  holds_itself : b ≡ a → HoldsSame a b
+  holds_itself same = subst (λ (v : WorldEvents D W). HoldsSame a v) (sym same) (refl, (refl, (refl, refl)))
+
+  pub looks_on : (place : ReadPath) (result : Result Row FsEnd) → Looks (Led state to_come) user place a result b → HoldsSame a b × Looks (LeadsAt state to_come a.now) user place (standing_of a) result (standing_of b)
+  looks_on place result (inl (answer, (holds, leads), is)) = (holds, inl (answer, leads, is))
+  looks_on place result (inr (none, same)) = (holds_itself same, inr (none, ap standing_of same))
+
+  pub lists_on : (place : ReadPath) (result : Result (List Child) FsEnd) → Lists (Led state to_come) user place a result b → HoldsSame a b × Lists (LeadsAt state to_come a.now) user place (standing_of a) result (standing_of b)
+  lists_on place result (inl (answer, (holds, leads), is)) = (holds, inl (answer, leads, is))
+  lists_on place result (inr (none, same)) = (holds_itself same, inr (none, ap standing_of same))
+
+  pub asks_on : (key : KeyName) (result : Result KmsReply FsEnd) → AsksKey (Led state to_come) user key a result b → HoldsSame a b × AsksKey (LeadsAt state to_come a.now) user key (standing_of a) result (standing_of b)
+  asks_on key result (inl (answer, (holds, leads), is)) = (holds, inl (answer, leads, is))
+  asks_on key result (inr (none, same)) = (holds_itself same, inr (none, ap standing_of same))
+
+module _ {D W : Type 0} (state : D → DiskState) (to_come : W → ℕ → ℕ) (now : ℕ) (a b : Standing D W) (user : Text) (is_user : user ≡ superuser) where
+  pub look_once : (place : ReadPath) (result : Result Row FsEnd) → Looks (LeadsAt state to_come now) user place a result b → ReadsOnce state to_come now a b
+  look_once place result (inl (answer, leads, is)) = inr (event.Info user (read_path_text place), answer, is_user, leads)
+  look_once place result (inr (none, same)) = inl same
+
+  pub list_once : (place : ReadPath) (result : Result (List Child) FsEnd) → Lists (LeadsAt state to_come now) user place a result b → ReadsOnce state to_come now a b
+  list_once place result (inl (answer, leads, is)) = inr (event.List user (read_path_text place), answer, is_user, leads)
+  list_once place result (inr (none, same)) = inl same
+
+  pub ask_once : (key : KeyName) (result : Result KmsReply FsEnd) → AsksKey (LeadsAt state to_come now) user key a result b → ReadsOnce state to_come now a b
+  ask_once key result (inl (answer, leads, is)) = inr (event.Kms user (call.Metadata key), answer, (is_user, tt), leads)
+  ask_once key result (inr (none, same)) = inl same

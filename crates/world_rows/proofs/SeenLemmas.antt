@@ -1,5 +1,5 @@
 -- Rows as they are seen from a directory.
-use Rattle.std.proofs.Common.{◌≡◌, ℕ, ◌+◌, Bool, true, false, cond, ◌&&◌, List, [], ◌∷◌, ◌++◌, length, drop, map, Option, Some, None, refl, sym, ap, ◌∙◌, subst, arith, length-append}
+use Rattle.std.proofs.Common.{◌≡◌, ℕ, suc, ◌+◌, Bool, true, false, cond, ◌&&◌, List, [], ◌∷◌, ◌++◌, length, drop, map, Option, Some, None, refl, sym, ap, ◌∙◌, subst, arith, length-append}
 use Rattle.std.specs.Prelude.{◌==◌}
 use Rattle.std.specs.List.{filter}
 use Rattle.std.specs.Str.{bytes_eq}
@@ -94,7 +94,7 @@ nothing-below : (b : List (List ℕ)) → (length b == 0) ≡ true → b ≡ []
 nothing-below [] h = refl
 nothing-below (x ∷ b) h = absurd (more (length b) h)
   where
-    more : (n : ℕ) → (1 + n == 0) ≡ true → ⊥
+    more : (n : ℕ) → (suc n == 0) ≡ true → ⊥
     more n e = grind (arith, nat_tests)
 
 module _ (t : NameTable) (path q : List (List ℕ)) where

@@ -32,7 +32,7 @@ impl<'a, D, W> WorldRows<'a, D, W> {
     ) -> WorldRows<'a, D, W>
         ensures user { result.user.now ≡ user.now }
         ensures place { result.place.now ≡ place.now }
-        ensures events { result.events ≡ events }
+        ensures events { result.events ≡ events.entry }
     {
         WorldRows {
             alloc,

@@ -35,6 +35,6 @@ loop-k-preserved g c =
     record {
       path = path;
       made = above-next c.loop-k.k (c.loop-k.k + 1) c.args.to.now c.add_name.new.path (g.C.Clusters.state c.args.clusters.now) (g.C.Clusters.state c.loop-k.clusters) (g.C.Clusters.state c.make_missing.new.clusters) next path c.loop-k.invariant.made c.in-Ok-make_missing.ensures.ok;
-      ready = c.make_missing.ensures.ready;
+      ready = c.in-Ok-make_missing.ensures.ready;
       steps = steps-join g.C.Clusters.follows c.args.clusters.now c.loop-k.clusters c.make_missing.new.clusters c.loop-k.invariant.steps c.make_missing.ensures.steps;
     }

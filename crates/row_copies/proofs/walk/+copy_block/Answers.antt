@@ -95,7 +95,7 @@ loop-child-preserved g t c =
     let path : c.args.from.now ++ c.child-item.result.name ∷ [] ≡ (get_or (kids-of (g.C.Clusters.state c.args.clusters.now).source.rows c.args.from.now) c.loop-child.child-index no_entry).path = kid-path (g.C.Clusters.state c.args.clusters.now).source.rows c.args.from.now c.as_slice-child-items.result.now c.loop-child.child-index c.child-item.result c.child-item.result is c.loop-child-test.true c.child-item.is in
     let next : suc c.loop-child.child-index ≡ c.loop-child.child-index + 1 = omega arith in
     record {
-      ready = c.copy_block.ensures.ready;
+      ready = c.in-Ok-copy_block.ensures.ready;
       steps = steps-join g.C.Clusters.follows c.args.clusters.now c.loop-child.clusters c.copy_block.new.clusters c.loop-child.invariant.steps c.copy_block.ensures.steps;
       walked = subst (λ (n : ℕ). Walked c.args.from.now c.args.to.now n (g.C.Clusters.state c.args.clusters.now) (g.C.Clusters.state c.copy_block.new.clusters) c.args.counts.now c.copy_block.new.counts) next
           (walked-next c.args.from.now c.args.to.now c.loop-child.child-index (g.C.Clusters.state c.args.clusters.now) (g.C.Clusters.state c.loop-child.clusters) c.args.counts.now c.loop-child.counts c.facts.ensures.source c.loop-child.invariant.walked (g.C.Clusters.state c.copy_block.new.clusters) c.copy_block.new.counts few

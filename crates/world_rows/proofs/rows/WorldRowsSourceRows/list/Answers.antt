@@ -1,0 +1,36 @@
+use Rattle.std.proofs.Common.{refl, subst, sym}
+use Rattle.place_texts.specs.Places.{place_below}
+use Rattle.row_copies.specs.Clusters.{IsTree}
+use Rattle.world_events.specs.Events.{standing_of}
+use Rattle.world_rows.proofs.ReadLemmas.{directory_found, list_found, list_once, lists_on, rows_same}
+use Rattle.world_rows.proofs.rows.WorldRowsSourceRows.list.Goals as goal
+
+pub returns-clause-list : goal.returns-clause-list
+returns-clause-list g c =
+    let w = lists_on g.D.Disk.state g.W.Words.to_come c.args.self.now.events c.list_at.new.events c.args.self.now.user.now (place_below c.args.self.now.place.now c.args.path.now) c.list_at.result c.list_at.ensures.lists in
+    list_found g.D.Disk.state g.W.Words.to_come c.args.self.now.events.now (standing_of c.args.self.now.events) (standing_of c.list_at.new.events) c.requires.ready.events c.args.self.now.user.now c.args.self.now.place.now c.args.path.now c.requires.ready.place c.len.ensures.rule c.list_at.result w.1
+
+pub returns-clause-directory : goal.returns-clause-directory
+returns-clause-directory g c =
+    let w = lists_on g.D.Disk.state g.W.Words.to_come c.args.self.now.events c.list_at.new.events c.args.self.now.user.now (place_below c.args.self.now.place.now c.args.path.now) c.list_at.result c.list_at.ensures.lists in
+    directory_found g.D.Disk.state g.W.Words.to_come c.args.self.now.events.now (standing_of c.args.self.now.events) (standing_of c.list_at.new.events) c.requires.ready.events c.args.self.now.user.now c.args.self.now.place.now c.args.path.now c.requires.ready.place c.len.ensures.rule c.list_at.result w.1
+
+pub returns-clause-same : goal.returns-clause-same
+returns-clause-same g c =
+    let w = lists_on g.D.Disk.state g.W.Words.to_come c.args.self.now.events c.list_at.new.events c.args.self.now.user.now (place_below c.args.self.now.place.now c.args.path.now) c.list_at.result c.list_at.ensures.lists in
+    rows_same g.D.Disk.state g.W.Words.to_come c.args.self.now.events.now (standing_of c.args.self.now.events) (standing_of c.list_at.new.events) c.requires.ready.events c.args.self.now.place.now (list_once g.D.Disk.state g.W.Words.to_come c.args.self.now.events.now (standing_of c.args.self.now.events) (standing_of c.list_at.new.events) c.args.self.now.user.now c.requires.ready.user (place_below c.args.self.now.place.now c.args.path.now) c.list_at.result w.1)
+
+pub returns-clause-ready : goal.returns-clause-ready
+returns-clause-ready g c =
+    let w = lists_on g.D.Disk.state g.W.Words.to_come c.args.self.now.events c.list_at.new.events c.args.self.now.user.now (place_below c.args.self.now.place.now c.args.path.now) c.list_at.result c.list_at.ensures.lists in
+    record {
+      events = c.list_at.ensures.ready;
+      user = c.requires.ready.user;
+      place = c.requires.ready.place;
+      tree = subst IsTree (sym (rows_same g.D.Disk.state g.W.Words.to_come c.args.self.now.events.now (standing_of c.args.self.now.events) (standing_of c.list_at.new.events) c.requires.ready.events c.args.self.now.place.now (list_once g.D.Disk.state g.W.Words.to_come c.args.self.now.events.now (standing_of c.args.self.now.events) (standing_of c.list_at.new.events) c.args.self.now.user.now c.requires.ready.user (place_below c.args.self.now.place.now c.args.path.now) c.list_at.result w.1))) c.requires.ready.tree;
+    }
+
+pub returns-clause-follows : goal.returns-clause-follows
+returns-clause-follows g c =
+    let w = lists_on g.D.Disk.state g.W.Words.to_come c.args.self.now.events c.list_at.new.events c.args.self.now.user.now (place_below c.args.self.now.place.now c.args.path.now) c.list_at.result c.list_at.ensures.lists in
+    record { holds = w.0; place = refl; reads = (list_once g.D.Disk.state g.W.Words.to_come c.args.self.now.events.now (standing_of c.args.self.now.events) (standing_of c.list_at.new.events) c.args.self.now.user.now c.requires.ready.user (place_below c.args.self.now.place.now c.args.path.now) c.list_at.result w.1) }
