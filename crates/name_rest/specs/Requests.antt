@@ -1,7 +1,7 @@
 -- The order that a request gives the namesystem, and its user.
 use Rattle.std.specs.Prelude.{◌≡◌, ◌⊎◌, ℕ, List, Result, Ok, Err, ⊤}
 use Rattle.http_wire.specs.Message.{Message}
-use Rattle.kms_rest.specs.Requests.{query_in}
+pub use Rattle.kms_rest.specs.Requests.{query_in}
 use Rattle.path_routes.specs.Queries.{path_of}
 use Rattle.path_routes.specs.Users.{NamesBadUser, NamesNoUser, NamesUser}
 use Rattle.name_rest.specs.declared.faults.NameRestFault.{NameRestFault}

@@ -9,7 +9,7 @@ use Rattle.name_calls.specs.declared.calls.NameReply.TheVariants as reply
 use Rattle.name_text.specs.Answers.{answer_text}
 use Rattle.name_text.specs.Refusals.{name_refusal_text, refusal_name}
 use Rattle.kms_rest.specs.Responses as kms
-use Rattle.kms_rest.specs.Responses.{done_status}
+pub use Rattle.kms_rest.specs.Responses.{done_status}
 use Rattle.kms_rest.specs.declared.faults.RestFault.TheVariants as rest
 use Rattle.name_rest.specs.declared.faults.NameRestFault.{NameRestFault}
 use Rattle.name_rest.specs.declared.faults.NameRestFault.TheVariants as fault
