@@ -236,9 +236,10 @@ module _ (w : WorldState) (k : KeepsBirths w.keys) where
 
   by-restart : (kept : Bool) (table : Table) → table ≡ (settled kept w.keys).table → StepsOn w.keys (service_after_opening w.keys.keys.ready table)
   by-restart kept table is =
-      subst (λ (t : Table). StepsOn w.keys (service_after_opening w.keys.keys.ready t)) (sym is)
-      (then-later w.keys.keys.table (settled kept w.keys).table (service_after_opening w.keys.keys.ready (settled kept w.keys).table).keys.table (settled-later kept w.keys k) (later-opened w.keys.keys.ready (settled kept w.keys).table),
-      record { ready = opening_keeps_ready kept w.keys w.keys.keys.ready k.ready; waits = tt })
+      subst (λ (t : Table). StepsOn w.keys (service_after_opening w.keys.keys.ready t)) (sym is) (
+        then-later w.keys.keys.table (settled kept w.keys).table (service_after_opening w.keys.keys.ready (settled kept w.keys).table).keys.table (settled-later kept w.keys k) (later-opened w.keys.keys.ready (settled kept w.keys).table),
+        record { ready = opening_keeps_ready kept w.keys w.keys.keys.ready k.ready; waits = tt },
+      )
 
 pub step-on : (lines : List PropLine) (w : WorldState) (words : ℕ → ℕ) (now : ℕ) (e : Event) (fault tells : Type 0) (outcome : Line) (drawn : ℕ) (logged : Acknowledged) (w' : WorldState) → KnowsWorld e tells
     → Step lines w words now e fault tells outcome drawn logged w' → KeepsBirths w.keys → StepsOn w.keys w'.keys
