@@ -3,11 +3,12 @@ use Rattle.std.proofs.Common.{◌≡◌, ◌⊎◌, inl, inr, ℕ, List, refl, a
 use Rattle.std.specs.Prelude.{IfErr, IfOk, Ok, Err, Option, Result, string_bytes}
 use Rattle.clap.specs.Words.{IsAmong, Text}
 use Rattle.clap.specs.declared.error.ErrorKind.TheVariants.{DisplayHelp, DisplayVersion}
-use Rattle.fs_command_line.specs.Orders.{Answers, IsHelp, IsMistake, IsVersion, Names, ShownAs, line_fault}
+use Rattle.clap_lines.specs.Orders.{IsMistake, ShownAs}
+use Rattle.fs_command_line.specs.Orders.{Answers, IsHelp, IsVersion, Names, line_fault}
 use Rattle.fs_command_line.specs.declared.order.FsOrder.{FsOrder}
 use Rattle.fs_command_line.specs.declared.order.FsOrder.TheVariants.{Put, Read, Help, Version}
-use Rattle.fs_command_line.specs.declared.order.OrderFault.{OrderFault}
-use Rattle.fs_command_line.specs.declared.order.OrderFault.TheVariants.{Usage, NoMemory}
+use Rattle.clap_lines.specs.declared.told.OrderFault.{OrderFault}
+use Rattle.clap_lines.specs.declared.told.OrderFault.TheVariants.{Usage, NoMemory}
 use Rattle.data_stream.specs.Commands.{Obeys, ShowsText, WantsMemory}
 
 abbrev pub OrderRead : Type 0

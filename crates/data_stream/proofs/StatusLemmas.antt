@@ -15,9 +15,10 @@ use Rattle.command_io.specs.declared.props.PropsFault.TheVariants.{ReadFault, Te
 use Rattle.world_run.specs.Starts.{FailsAt, OpensBoth}
 use Rattle.body_stream.specs.Transfers.{longest_body}
 use Rattle.body_stream.specs.Vaults.{TellsBodies, VaultState}
-use Rattle.fs_command_line.specs.Orders.{Answers, IsMistake, Names, line_fault}
+use Rattle.clap_lines.specs.Orders.{IsMistake}
+use Rattle.fs_command_line.specs.Orders.{Answers, Names, line_fault}
 use Rattle.fs_command_line.specs.declared.order.FsOrder.TheVariants.{Put}
-use Rattle.fs_command_line.specs.declared.order.OrderFault.TheVariants.{Usage}
+use Rattle.clap_lines.specs.declared.told.OrderFault.TheVariants.{Usage}
 use Rattle.file_orders.specs.Bodies.{HadBody}
 use Rattle.file_orders.specs.declared.ends.FsEnd.{FsEnd}
 use Rattle.file_orders.specs.declared.ends.FsEnd.TheVariants as end

@@ -13,8 +13,8 @@ use Rattle.hk_runs.specs.Headline.{Headline, known_after}
 use Rattle.body_stream.specs.Vaults.{TellsBodies, VaultState}
 use Rattle.fs_command_line.specs.declared.order.FsOrder.{FsOrder}
 use Rattle.fs_command_line.specs.declared.order.FsOrder.TheVariants.{Put, Read, Help, Version}
-use Rattle.fs_command_line.specs.declared.order.OrderFault.{OrderFault}
-use Rattle.fs_command_line.specs.declared.order.OrderFault.TheVariants.{Usage, NoMemory}
+use Rattle.clap_lines.specs.declared.told.OrderFault.{OrderFault}
+use Rattle.clap_lines.specs.declared.told.OrderFault.TheVariants.{Usage, NoMemory}
 use Rattle.file_orders.specs.Bodies.{Puts, Reads}
 use Rattle.file_orders.specs.declared.ends.FsEnd.{FsEnd}
 use Rattle.file_orders.specs.declared.ends.FsEnd.TheVariants as end

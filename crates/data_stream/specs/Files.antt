@@ -13,7 +13,7 @@ use Rattle.hk_runs.specs.Headline.{FromSoundFiles, NothingHappened}
 use Rattle.fs_command_line.specs.Orders.{Names}
 use Rattle.fs_command_line.specs.declared.order.FsOrder.{FsOrder}
 use Rattle.fs_command_line.specs.declared.order.FsOrder.TheVariants.{Put, Read}
-use Rattle.fs_command_line.specs.declared.order.OrderFault.{OrderFault}
+use Rattle.clap_lines.specs.declared.told.OrderFault.{OrderFault}
 use Rattle.data_stream.specs.Commands.{Obeys, PutKept, PutUnder, PutsFile, ReadKept, ReadUnder, ReadsFile, Refuses, ShowsText, WantsMemory}
 use Rattle.data_stream.specs.Statuses.{HasReason, Surroundings}
 

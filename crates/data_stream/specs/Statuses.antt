@@ -19,7 +19,7 @@ use Rattle.body_stream.specs.Vaults.{TellsBodies, VaultState}
 use Rattle.fs_command_line.specs.Orders.{Names}
 use Rattle.fs_command_line.specs.declared.order.FsOrder.{FsOrder}
 use Rattle.fs_command_line.specs.declared.order.FsOrder.TheVariants.{Put}
-use Rattle.fs_command_line.specs.declared.order.OrderFault.{OrderFault}
+use Rattle.clap_lines.specs.declared.told.OrderFault.{OrderFault}
 use Rattle.file_orders.specs.Bodies.{HadBody}
 use Rattle.file_orders.specs.Ends.{end_of_keys, end_of_names}
 use Rattle.file_orders.specs.declared.ends.FsEnd.{FsEnd}

@@ -6,7 +6,8 @@ ghost use Rattle.file_orders.specs.Bodies.{HadBody};
 ghost use Rattle.hk_base.specs.Faults.{Rose};
 ghost use Rattle.command_io.specs.Ends.{Shows};
 ghost use Rattle.hk_runs.specs.Headline.{FromSoundFiles};
-ghost use Rattle.fs_command_line.specs.Orders.{FindsHelp, FindsVersion, IsMistake, line_fault};
+ghost use Rattle.clap_lines.specs.Orders.{IsMistake};
+ghost use Rattle.fs_command_line.specs.Orders.{FindsHelp, FindsVersion, line_fault};
 ghost use Rattle.data_stream.specs.Files.{CarriesOut, ForPut, ForRead, HasItsReason, KeepsAt, PutKeepsByWords, PutsByWords, ReadKeepsByWords, ReadsByWords, RefusesWords, ShowsOwnText, files};
 ghost use Rattle.data_stream.specs.Statuses.{NamesPut, OrdersPut};
 

@@ -2,7 +2,8 @@
 #![tactic(auto)]
 
 ghost use Rattle.std.specs.Prelude.{◌≡◌};
-ghost use Rattle.fs_command_line.specs.Orders.{IsMistake, line_fault};
+ghost use Rattle.clap_lines.specs.Orders.{IsMistake};
+ghost use Rattle.fs_command_line.specs.Orders.{line_fault};
 
 mod opening;
 

@@ -1,6 +1,7 @@
 use Rattle.std.proofs.Common.{⊎_elim}
 use Rattle.fs_command_line.specs.declared.order.FsOrder.TheVariants.{Put, Read}
-use Rattle.fs_command_line.specs.Orders.{IsMistake, line_fault}
+use Rattle.clap_lines.specs.Orders.{IsMistake}
+use Rattle.fs_command_line.specs.Orders.{line_fault}
 use Rattle.data_stream.specs.Statuses.{NamesPut}
 use Rattle.data_stream.proofs.OrderLemmas.{helps_so, named_so, obeyed, versions_so}
 use Rattle.data_stream.proofs.StatusLemmas.{as_words, mistaken, names_put}

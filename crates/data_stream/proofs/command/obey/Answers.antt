@@ -1,6 +1,6 @@
 use Rattle.std.proofs.Common.{rules, ⊎_elim, ◌≡◌, ◌∙◌, ap}
 use Rattle.std.specs.Prelude.{Ok, Err}
-use Rattle.fs_command_line.specs.declared.order.OrderFault.TheVariants.{Usage}
+use Rattle.clap_lines.specs.declared.told.OrderFault.TheVariants.{Usage}
 use Rattle.data_stream.specs.Statuses.{BadWords, Done, NoMemory, WriteFailed}
 use Rattle.data_stream.proofs.StatusLemmas.{put_reason, read_reason}
 use Rattle.data_stream.proofs.command.obey.Goals as goal
