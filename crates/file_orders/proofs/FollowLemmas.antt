@@ -59,7 +59,7 @@ module _ {X Y : Type 0} (leads : Leading X) (others : Leading Y) (R : X → Y �
       let one = decrypts_so user edek a b y dek r decrypts in
       record { then = one.then; did = (dek, one.did, is); follows = one.follows }
 
-  opens_shown_so : (user : List ℕ) (shown : Result ShownFile FsEnd) (a b : X) (y : Y) (result : Result OpenFile FsEnd) → R a y → OpensShown leads user shown a result b → FollowsTo R b (λ then. OpensShown others user shown y result then)
+  pub opens_shown_so : (user : List ℕ) (shown : Result ShownFile FsEnd) (a b : X) (y : Y) (result : Result OpenFile FsEnd) → R a y → OpensShown leads user shown a result b → FollowsTo R b (λ then. OpensShown others user shown y result then)
   opens_shown_so user (Err why) a b y result r (is, same) = record { then = y; did = (is, refl); follows = stays a b y r same }
   opens_shown_so user (Ok shown) a b y result r opens = opens_edek_so user shown.id shown.edek a b y result r opens
 

@@ -9,6 +9,6 @@ mod read;
 
 pub use ends::{FsEnd, end_of_names};
 pub use events::Events;
-pub use open::{OpenFile, ShownFile};
+pub use open::{OpenFile, ShownFile, open_shown};
 pub use put::put_file;
-pub use read::read_file;
+pub use read::{read_file, send};

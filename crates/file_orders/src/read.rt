@@ -11,8 +11,8 @@ use body_stream::{Vault, read_body};
 use hk_base::{Sink, Text};
 use std::alloc::Global;
 
-/// Writes a range of the file.
-fn send<V: Vault, K: Sink>(
+/// Writes a range of a file that was opened. A range past the end is cut.
+pub fn send<V: Vault, K: Sink>(
     vault: &mut V,
     out: &mut K,
     file: OpenFile,
