@@ -11,6 +11,7 @@ use Rattle.name_calls.specs.declared.calls.NameRefusal.{NameRefusal}
 use Rattle.name_calls.specs.declared.calls.NameRefusal.TheVariants as refusal
 use Rattle.file_orders.specs.Ends.{end_of_names}
 use Rattle.file_orders.specs.declared.ends.FsEnd.{FsEnd}
+use Rattle.file_orders.specs.declared.open.ShownFile.{ShownFile}
 use Rattle.file_orders.specs.declared.ends.FsEnd.TheVariants as end
 use Rattle.name_core.specs.Asks.{open_ask}
 use Rattle.name_core.specs.State.{RunningNames}
@@ -32,6 +33,10 @@ row_end (reply.Dir id zone key) = Ok (record { id = id; kind = Dir key })
 row_end (reply.File id zone edek) = Ok (record { id = id; kind = File edek })
 row_end (reply.Refused why) = Err (end_of_names why)
 row_end _ = Err end.NoMemory
+
+-- the row of a file that is shown
+abbrev pub row_shown : ShownFile → Row
+row_shown shown = record { id = shown.id; kind = File shown.edek }
 
 -- if the key management service refused the call of an open ask, the end shows its refusal
 abbrev pub ShowsRefusal : KmsReply → ℕ → RunningNames → Result (Unit {0}) FsEnd → Type 0

@@ -9,5 +9,5 @@ mod zones;
 
 pub use directories::make_directory;
 pub use files::{ask_file, finish_file};
-pub use looks::{is_directory, keeps_rules, look};
+pub use looks::{is_directory, keeps_rules, look, look_file};
 pub use zones::{ask_zone, finish_zone};

@@ -1,12 +1,12 @@
 //! Entries of a copy.
-ghost use Rattle.std.specs.Prelude.{◌≡◌, Err, IfOk, IsErrOf, None, Some};
+ghost use Rattle.std.specs.Prelude.{◌≡◌, Err, IfErr, IfOk, IsErrOf, None, Some, true};
 ghost use Rattle.std.specs.Option.{option_map};
-ghost use Rattle.backup_names.specs.Ends.{row_end};
+ghost use Rattle.backup_names.specs.Ends.{row_end, row_shown};
 ghost use Rattle.backup_names.specs.Orders.{HoldsNames, IsSettled, OrdersNames};
-ghost use Rattle.inode_tree.specs.Rows.{IsRows, is_dir, row_at};
+ghost use Rattle.inode_tree.specs.Rows.{IsRows, is_dir, is_dir_at, row_at};
 ghost use Rattle.name_core.specs.State.{service_of};
 
-use file_orders::{FsEnd, end_of_names};
+use file_orders::{FsEnd, ShownFile, end_of_names};
 use hk_base::{Disk, Text};
 use inode_tree::{Kind, Row};
 use name_calls::{NPath, NameCall, NameRefusal, NameReply, ReadPath};
@@ -57,6 +57,7 @@ pub fn look<E: Disk>(
     ensures row { IfOk result (λ row. row_at name.old.store.table.rows path.now ≡ Some row) }
     ensures none { result ≡ Err (FsEnd.NameRefused NameRefusal.NoSuchPath) →
         row_at name.old.store.table.rows path.now ≡ None }
+    ensures own { IsErrOf result FsEnd.Directory → ⊥ }
     ensures same { service_of name.new ≡ service_of name.old }
     ensures fault { IsErrOf result FsEnd.StoreFault → ⊥ }
     ensures orders { OrdersNames (E.state disk.old) (E.state disk.new) name.old name.new }
@@ -95,5 +96,42 @@ pub fn is_directory<E: Disk>(
         Ok(row) => Ok(Some(row.kind.is_dir())),
         Err(FsEnd::NameRefused(NameRefusal::NoSuchPath)) => Ok(None),
         Err(end) => Err(end),
+    }
+}
+
+/// Returns the file of a row.
+fn file_shown(row: Row) -> Result<ShownFile, FsEnd>
+    ensures file { IfOk result (λ shown. row ≡ row_shown shown) }
+    ensures directory { IfErr result (λ end. (end ≡ FsEnd.Directory) × (is_dir row.kind ≡ true)) }
+{
+    let Row { id, kind } = row;
+    match kind {
+        Kind::Dir { .. } => Err(FsEnd::Directory),
+        Kind::File { edek } => Ok(ShownFile { id, edek }),
+    }
+}
+
+/// Returns the file at a path, for a user. Returns `Directory` if it is a directory. It changes
+/// nothing.
+pub fn look_file<E: Disk>(
+    alloc: Global,
+    name: &mut Name,
+    disk: &mut E,
+    user: &Text,
+    path: &NPath,
+) -> Result<ShownFile, FsEnd>
+    requires holds { HoldsNames (E.state disk.old) name.old }
+    requires settled { IsSettled name.old }
+    ensures file { IfOk result
+        (λ shown. row_at name.old.store.table.rows path.now ≡ Some (row_shown shown)) }
+    ensures directory { IsErrOf result FsEnd.Directory →
+        is_dir_at (row_at name.old.store.table.rows path.now) ≡ true }
+    ensures same { service_of name.new ≡ service_of name.old }
+    ensures fault { IsErrOf result FsEnd.StoreFault → ⊥ }
+    ensures orders { OrdersNames (E.state disk.old) (E.state disk.new) name.old name.new }
+{
+    match look(alloc, name, disk, user, path) {
+        Err(end) => Err(end),
+        Ok(row) => file_shown(row),
     }
 }
