@@ -14,22 +14,13 @@ use Rattle.name_calls.specs.declared.calls.NameRefusal.TheVariants as refusal
 use Rattle.name_calls.specs.declared.calls.NameReply.{NameReply}
 use Rattle.name_calls.specs.declared.calls.NameReply.TheVariants as reply
 use Rattle.file_orders.specs.Ends.{end_of_keys, end_of_names, end_of_refused}
+pub use Rattle.file_orders.specs.Ends.{IsFailure}
 use Rattle.file_orders.specs.Events.{Leading}
 use Rattle.file_orders.specs.Opening.{Decrypts, Draws, Finishes, Makes, Opens, OpensEdek, OpensShown, asked_in, dek_by, dek_in, finished_in, replied_in, shown_by, shown_in}
 use Rattle.file_orders.specs.declared.ends.FsEnd.{FsEnd}
 use Rattle.file_orders.specs.declared.ends.FsEnd.TheVariants as end
 use Rattle.file_orders.specs.declared.open.OpenFile.{OpenFile}
 use Rattle.file_orders.specs.declared.open.ShownFile.{ShownFile}
-
--- an event was refused: neither was a body put or a range read, nor was there a fault of the input, the output or the vault
-abbrev pub IsFailure : FsEnd → Type 0
-IsFailure (end.Put count) = ⊥
-IsFailure (end.Read count) = ⊥
-IsFailure end.ReadFault = ⊥
-IsFailure end.WriteFault = ⊥
-IsFailure end.VaultFault = ⊥
-IsFailure end.TooLong = ⊥
-IsFailure _ = Unit {0}
 
 keys_fail : (why : KmsRefusal) → IsFailure (end_of_keys why)
 keys_fail key.BadRequest = tt
@@ -63,7 +54,7 @@ refused_fail key.TooManyAsked why = tt
 refused_fail key.NoMemory why = tt
 refused_fail key.StoreFault why = tt
 
-names_fail : (why : NameRefusal) → IsFailure (end_of_names why)
+pub names_fail : (why : NameRefusal) → IsFailure (end_of_names why)
 names_fail refusal.BadPath = tt
 names_fail refusal.NoSuchPath = tt
 names_fail refusal.Exists = tt
@@ -236,7 +227,7 @@ module _ {X : Type 0} (leads : Leading X) where
   edek_fails user id (Some edek) a b result (Ok dek, decrypts, is) = subst Fails (sym is) tt
   edek_fails user id (Some edek) a b result (Err why, decrypts, is) = subst Fails (sym is) (decrypts_fail user edek a b (Err why) decrypts)
 
-  shown_fail : (user : List ℕ) (shown : Result ShownFile FsEnd) (a b : X) (result : Result OpenFile FsEnd) → Fails shown → OpensShown leads user shown a result b → Fails result
+  pub shown_fail : (user : List ℕ) (shown : Result ShownFile FsEnd) (a b : X) (result : Result OpenFile FsEnd) → Fails shown → OpensShown leads user shown a result b → Fails result
   shown_fail user (Err why) a b result f (is, same) = subst Fails (sym is) f
   shown_fail user (Ok shown) a b result f opens = edek_fails user shown.id shown.edek a b result opens
 

@@ -33,3 +33,13 @@ end_of_body fault.WriteFault = end.WriteFault
 end_of_body fault.VaultFault = end.VaultFault
 end_of_body fault.TooLong = end.TooLong
 end_of_body fault.NoMemory = end.NoMemory
+
+-- an event was refused: neither was a body put or a range read, nor was there a fault of the input, the output or the vault
+abbrev pub IsFailure : FsEnd → Type 0
+IsFailure (end.Put count) = ⊥
+IsFailure (end.Read count) = ⊥
+IsFailure end.ReadFault = ⊥
+IsFailure end.WriteFault = ⊥
+IsFailure end.VaultFault = ⊥
+IsFailure end.TooLong = ⊥
+IsFailure _ = Unit {0}
