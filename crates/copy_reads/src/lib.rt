@@ -1,0 +1,7 @@
+//! Reading of copies: the row of a file is that of a second namesystem, its body is in the vault of the
+//! copies, and its key is decrypted by the first cluster.
+#![tactic(auto)]
+
+mod orders;
+
+pub use orders::read_copy;
