@@ -1,6 +1,6 @@
 -- How a file of a copy is found, and what follows if none is.
-use Rattle.std.proofs.Common.{◌≡◌, ℕ, true, List, refl, ap, sym, subst, ◌∙◌}
-use Rattle.std.specs.Prelude.{Option, None, Some, Result, Ok, Err, IfOk, IfErr, IsErrOf}
+use Rattle.std.proofs.Common.{◌≡◌, ℕ, true, List, ap, sym, subst, ◌∙◌}
+use Rattle.std.specs.Prelude.{None, Some, Result, Ok, Err, IfOk, IfErr, IsErrOf}
 use Rattle.inode_tree.specs.Rows.{Entry, is_dir_at, row_at}
 use Rattle.name_calls.specs.Paths.{read_path}
 use Rattle.file_orders.specs.Ends.{IsFailure}

@@ -2,6 +2,9 @@
 //! copies, and its key is decrypted by the first cluster.
 #![tactic(auto)]
 
+mod command;
+mod ends;
 mod orders;
 
+pub use command::run_read_copy;
 pub use orders::read_copy;
