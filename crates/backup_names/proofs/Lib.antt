@@ -1,4 +1,5 @@
 mod AskedLemmas
 mod FinishLemmas
+mod LookLemmas
 mod MakeLemmas
 pub mod OrderLemmas

@@ -3,6 +3,7 @@ ghost use Rattle.std.specs.Prelude.{◌≡◌, Err, IfErr, IfOk, IsErrOf, None, 
 ghost use Rattle.std.specs.Option.{option_map};
 ghost use Rattle.backup_names.specs.Ends.{row_end, row_shown};
 ghost use Rattle.backup_names.specs.Orders.{HoldsNames, IsSettled, OrdersNames};
+ghost use Rattle.file_orders.specs.Ends.{IsFailure};
 ghost use Rattle.inode_tree.specs.Rows.{IsRows, is_dir, is_dir_at, row_at};
 ghost use Rattle.name_core.specs.State.{service_of};
 
@@ -60,6 +61,7 @@ pub fn look<E: Disk>(
     ensures own { IsErrOf result FsEnd.Directory → ⊥ }
     ensures same { service_of name.new ≡ service_of name.old }
     ensures fault { IsErrOf result FsEnd.StoreFault → ⊥ }
+    ensures failure { IfErr result IsFailure }
     ensures orders { OrdersNames (E.state disk.old) (E.state disk.new) name.old name.new }
 {
     let path = match path.copy(alloc) {
@@ -128,6 +130,7 @@ pub fn look_file<E: Disk>(
         is_dir_at (row_at name.old.store.table.rows path.now) ≡ true }
     ensures same { service_of name.new ≡ service_of name.old }
     ensures fault { IsErrOf result FsEnd.StoreFault → ⊥ }
+    ensures failure { IfErr result IsFailure }
     ensures orders { OrdersNames (E.state disk.old) (E.state disk.new) name.old name.new }
 {
     match look(alloc, name, disk, user, path) {

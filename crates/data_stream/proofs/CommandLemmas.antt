@@ -39,7 +39,7 @@ pub record IsSeen {X Y : Type 0} (view : X → Y) (Holds : X → Type 0) (x : X)
   pub holds : Holds x
 
 module _ {X Y : Type 0} (view : X → Y) (Holds : X → Type 0) (leads : Leading X) (others : Leading Y) (shows : Shows view Holds leads others) where
-  follow : (a b : X) (y : Y) (e : Event) (answer : Line) → IsSeen view Holds a y → leads a e answer b → (z : Y) × (others y e answer z × IsSeen view Holds b z)
+  pub follow : (a b : X) (y : Y) (e : Event) (answer : Line) → IsSeen view Holds a y → leads a e answer b → (z : Y) × (others y e answer z × IsSeen view Holds b z)
   follow a b y e answer seen led =
       let s = shows a b e answer seen.holds led in
       (view b, (subst (λ (x : Y). others x e answer (view b)) seen.is s.0, record { is = refl; holds = s.1 }))

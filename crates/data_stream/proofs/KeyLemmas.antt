@@ -63,21 +63,21 @@ abbrev pub IsKeyOf : List KeyRow → Option Edek → Option BodyKey → Type 0
 IsKeyOf keys None key = key ≡ None
 IsKeyOf keys (Some edek) key = (dek : Dek) × (key ≡ Some (record { dek = dek; iv = edek.iv })) × ((d : Dek) → unseals keys edek ≡ Some d → dek ≡ d)
 
-abbrev key_of_draw : Option Draw → Option BodyKey
+abbrev pub key_of_draw : Option Draw → Option BodyKey
 key_of_draw None = None
 key_of_draw (Some draw) = Some (record { dek = draw.dek; iv = draw.iv })
 
-form_of_draw : (draw : Option Draw) (bytes : List ℕ) → stored_form (key_of_draw draw) 0 bytes ≡ stored_of draw bytes
+pub form_of_draw : (draw : Option Draw) (bytes : List ℕ) → stored_form (key_of_draw draw) 0 bytes ≡ stored_of draw bytes
 form_of_draw None bytes = refl
 form_of_draw (Some draw) bytes = refl
 
 abbrev key_with : Dek → Iv → Option BodyKey
 key_with dek iv = Some (record { dek = dek; iv = iv })
 
-key_at : (dek dek' : Dek) (iv iv' : Iv) → dek ≡ dek' → iv ≡ iv' → key_with dek iv ≡ key_with dek' iv'
+pub key_at : (dek dek' : Dek) (iv iv' : Iv) → dek ≡ dek' → iv ≡ iv' → key_with dek iv ≡ key_with dek' iv'
 key_at dek dek' iv iv' e f = λ i. key_with (e i) (f i)
 
-none_is_some : (edek : Edek) → None ≡ Some edek → ⊥
+pub none_is_some : (edek : Edek) → None ≡ Some edek → ⊥
 none_is_some edek e = cc
 
 module _ (known : Past) (keys : List KeyRow) (names : NameTable) (opens : FilesOpen known keys names) (file : Row) (kept : In file (kept_rows names)) (edek : Option Edek) (kind_is : file.kind ≡ File edek) (key : Option BodyKey)

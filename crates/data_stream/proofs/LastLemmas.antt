@@ -256,7 +256,7 @@ module _ (now : ℕ) where
 no_memory : end.NoMemory ≡ end.StoreFault → ⊥
 no_memory e = cc
 
-body_stores : (why : BodyFault) → end.StoreFault ≡ end_of_body why → ⊥
+pub body_stores : (why : BodyFault) → end.StoreFault ≡ end_of_body why → ⊥
 body_stores fault.ReadFault e = absurd cc
 body_stores fault.WriteFault e = absurd cc
 body_stores fault.VaultFault e = absurd cc
@@ -306,7 +306,7 @@ module _ (lines : List PropLine) (tells : Type 0) (first : WorldState) (words : 
       (told_store answer why (dek_tells answer why (sym given)) (sym (failed_so OpenFile end.StoreFault why is)))
   dek_stores (Err why) id edek mid later runs (inr (none, same)) is = no_memory (sym (failed_so Dek why end.NoMemory none) ∙ sym (failed_so OpenFile end.StoreFault why is))
 
-  edek_stores : (id : ℕ) (edek : Option Edek) (mid later : History) → Goes later → OpensEdek (Adds now) user id edek mid (Err end.StoreFault) later → ⊥
+  pub edek_stores : (id : ℕ) (edek : Option Edek) (mid later : History) → Goes later → OpensEdek (Adds now) user id edek mid (Err end.StoreFault) later → ⊥
   edek_stores id None mid later runs (is, same) = absurd cc
   edek_stores id (Some edek) mid later runs (dek, decrypts, is) = dek_stores dek id edek mid later runs decrypts is
 

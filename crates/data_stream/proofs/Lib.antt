@@ -1,13 +1,13 @@
-mod CauseLemmas
-mod CommandLemmas
-mod EndLemmas
+pub mod CauseLemmas
+pub mod CommandLemmas
+pub mod EndLemmas
 mod FaultLemmas
-mod KeyLemmas
-mod LastLemmas
+pub mod KeyLemmas
+pub mod LastLemmas
 mod LawLemmas
-mod OpenLemmas
+pub mod OpenLemmas
 mod OrderLemmas
-mod RunLemmas
-mod StatusLemmas
+pub mod RunLemmas
+pub mod StatusLemmas
 mod StepLemmas
-mod StoreLemmas
+pub mod StoreLemmas

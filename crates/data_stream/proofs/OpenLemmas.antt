@@ -136,7 +136,7 @@ module _ (lines : List PropLine) (tells : Type 0) (first : WorldState) (words : 
       (last_step lines tells first words before now mid later _ answer runs adds) dek (is_dek answer dek (sym given)) in
       (ap (λ (f : OpenFile). f.id) own, (dek, ap (λ (f : OpenFile). f.key) own, d.dek_is), d.same)
 
-  edek_opened : (id : ℕ) (edek : Option Edek) (mid later : History) (file : OpenFile) → Goes later → OpensEdek (Adds now) user id edek mid (Ok file) later
+  pub edek_opened : (id : ℕ) (edek : Option Edek) (mid later : History) (file : OpenFile) → Goes later → OpensEdek (Adds now) user id edek mid (Ok file) later
       → (file.id ≡ id) × IsKeyOf (world_after first mid).keys.keys.table.rows edek file.key × (world_after first later ≡ world_after first mid)
   edek_opened id None mid later file runs (is, same) =
       let own : file ≡ record { id = id; key = None } = cc in

@@ -30,10 +30,10 @@ use Rattle.data_stream.proofs.OrderLemmas.{OrderRead}
 
 -- ---- the status of an end, of a lack of memory, or of the output
 
-abbrev Either : ℕ → ℕ → Type 0
+abbrev pub Either : ℕ → ℕ → Type 0
 Either own status = (status ≡ own) ⊎ ((status ≡ 6) ⊎ (status ≡ 8))
 
-reports_either : (stop : ReplayEnd) (written now : Option (List ℕ)) (status : ℕ) → Reports stop written now status → Either (replay_status stop) status
+pub reports_either : (stop : ReplayEnd) (written now : Option (List ℕ)) (status : ℕ) → Reports stop written now status → Either (replay_status stop) status
 reports_either stop written now status r =
     ⊎_elim
     (λ wrote. ⊎_elim
@@ -43,7 +43,7 @@ reports_either stop written now status r =
     (λ cut. inr (inr (r.status_is ∙ (λ i. replay_status (cut.0 i)))))
     r.closes.writes
 
-closes_either : (how : FsEnd) (written now : Option (List ℕ)) (status : ℕ) → Closes how written now status → Either (status_of how) status
+pub closes_either : (how : FsEnd) (written now : Option (List ℕ)) (status : ℕ) → Closes how written now status → Either (status_of how) status
 closes_either how written now status c =
     ⊎_elim
     (λ shown. ⊎_elim

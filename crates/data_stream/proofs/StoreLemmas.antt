@@ -59,7 +59,7 @@ no_put fault.VaultFault count e = absurd cc
 no_put fault.TooLong count e = absurd cc
 no_put fault.NoMemory count e = absurd cc
 
-no_read : (why : BodyFault) (count : ℕ) → end_of_body why ≡ end.Read count → ⊥
+pub no_read : (why : BodyFault) (count : ℕ) → end_of_body why ≡ end.Read count → ⊥
 no_read fault.ReadFault count e = absurd cc
 no_read fault.WriteFault count e = absurd cc
 no_read fault.VaultFault count e = absurd cc

@@ -39,7 +39,7 @@ fn put_line(alloc: Global, count: u64) -> Result<String, AllocError>
 }
 
 /// Writes the last line of an end. Returns its status, or 8 if the output fails.
-pub(crate) fn close<K: Sink>(alloc: Global, out: &mut K, how: FsEnd) -> u8
+pub fn close<K: Sink>(alloc: Global, out: &mut K, how: FsEnd) -> u8
     ensures closes { Closes how (K.written out.old) (K.written out.new) result }
     ensures write { result ≡ 8 →
         (how ≡ FsEnd.WriteFault) ⊎ Rose (K.faults out.old) (K.faults out.new) }

@@ -9,4 +9,5 @@ mod put;
 mod read;
 
 pub use command::hkfs;
+pub use ends::close;
 pub use laws::bodies_are_read_back;
