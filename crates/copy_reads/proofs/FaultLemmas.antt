@@ -66,4 +66,3 @@ copies_long fault written now status r is = long_not fault (by_either (copies_st
 
 pub copies_store : (fault : StartFault) (written now : Option (List ℕ)) (status : ℕ) → ReportsCopies fault written now status → status ≡ 5 → fault ≡ start.StoreFault
 copies_store fault written now status r is = store_is fault (by_either (copies_status fault) 5 status (λ h. cc) (λ h. cc) (copies_either fault written now status r) is)
-

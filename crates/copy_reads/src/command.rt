@@ -231,7 +231,8 @@ fn read_under<D: Disk, E: Disk, W: Words, C: Clock, U: Vault, K: Sink>(
         Ok(world) => {
             let batch = batch_size(&props.sizes);
             read_opened(
-                alloc, world, batch, user, path, from, count, out, disk, backup, copies, rand, clock,
+                alloc, world, batch, user, path, from, count, out, disk, backup, copies, rand,
+                clock,
             )
         }
     }

@@ -32,8 +32,7 @@ pub returns-in-Ok-clause-read : goal.returns-in-Ok-clause-read
 returns-in-Ok-clause-read g c =
     let did = c.read_in-how.ensures.reads in
     let names = c.read_in-how.ensures.names in
-    let started = c.in-Ok.ensures.started in
-    (
+    let started = c.in-Ok.ensures.started in (
       did.1,
       inr (record {
         found = started.found;
