@@ -23,8 +23,8 @@ pub record CopyFiles (D E K W U C : Type 0) : Type 0 where
   pub copies : U
   pub clock : C
 
-abbrev pub copy_files : {D E K W U C : Type 0} → D → E → K → W → U → C → CopyFiles D E K W U C
-copy_files disk backup out rand copies clock = record { disk = disk; backup = backup; out = out; rand = rand; copies = copies; clock = clock }
+abbrev pub files : {D E K W U C : Type 0} → D → E → K → W → U → C → CopyFiles D E K W U C
+files disk backup out rand copies clock = record { disk = disk; backup = backup; out = out; rand = rand; copies = copies; clock = clock }
 
 -- the vault, the random words and the clock are unchanged
 abbrev pub Unused : {D E K W U C : Type 0} → CopyFiles D E K W U C → CopyFiles D E K W U C → Type 0

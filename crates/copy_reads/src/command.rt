@@ -8,7 +8,7 @@ ghost use Rattle.world_events.specs.Events.{LeadsAt, standing_of};
 ghost use Rattle.hk_runs.specs.Headline.{FromSoundFiles};
 ghost use Rattle.backup_names.specs.Orders.{HoldsNames, IsSettled, OrdersNames};
 ghost use Rattle.copy_reads.specs.Copies.{ReadsCopy};
-ghost use Rattle.copy_reads.specs.Runs.{CopiesUnder, ReadsCopies, ReadsCopiesKept, RestFrom, copy_files};
+ghost use Rattle.copy_reads.specs.Runs.{CopiesUnder, ReadsCopies, ReadsCopiesKept, RestFrom, files};
 
 use crate::ends::report_copies;
 use crate::orders::read_copy;
@@ -126,9 +126,9 @@ fn read_in<D: Disk, E: Disk, W: Words, C: Clock, U: Vault, K: Sink>(
     requires ready { IsReady D.state (standing disk.old world rand.old) }
     requires holds { HoldsNames (E.state backup.old) name }
     requires settled { IsSettled name }
-    ensures reads { (now : ℕ) × (then : RunningWorld) ×
+    ensures reads { (now : ℕ) × (w : RunningWorld) ×
         ReadsCopy (LeadsAt D.state W.to_come now) name.store.table.rows user.now path.now from
-        count (standing disk.old world rand.old) result (standing disk.new then rand.new)
+        count (standing disk.old world rand.old) result (standing disk.new w rand.new)
         (U.state copies.old) (U.state copies.new) (K.written out.old) (K.written out.new) }
     ensures names { (after : RunningNames) × (service_of after ≡ service_of name) ×
         OrdersNames (E.state backup.old) (E.state backup.new) name after }
@@ -169,8 +169,8 @@ fn read_opened<D: Disk, E: Disk, W: Words, C: Clock, U: Vault, K: Sink>(
     requires some { 1 ≤ batch }
     requires most { batch ≤ 1000 }
     ensures read { RestFrom D.Disk E.Disk K.Sink W.Words U.Vault
-        (copy_files disk.old backup.old out.old rand.old copies.old clock.old)
-        (copy_files disk.new backup.new out.new rand.new copies.new clock.new)
+        (files disk.old backup.old out.old rand.old copies.old clock.old)
+        (files disk.new backup.new out.new rand.new copies.new clock.new)
         world batch user.now path.now from count result }
     ensures read_fault { result ≡ 7 → ⊥ }
     ensures write_fault { result ≡ 8 → Rose (K.faults out.old) (K.faults out.new) }
@@ -217,8 +217,8 @@ fn read_under<D: Disk, E: Disk, W: Words, C: Clock, U: Vault, K: Sink>(
     clock: &mut C,
 ) -> u8
     ensures read { CopiesUnder D.Disk E.Disk K.Sink W.Words U.Vault
-        (copy_files disk.old backup.old out.old rand.old copies.old clock.old)
-        (copy_files disk.new backup.new out.new rand.new copies.new clock.new)
+        (files disk.old backup.old out.old rand.old copies.old clock.old)
+        (files disk.new backup.new out.new rand.new copies.new clock.new)
         props.now user.now path.now from count result }
     ensures read_fault { result ≡ 7 → ⊥ }
     ensures write_fault { result ≡ 8 → Rose (K.faults out.old) (K.faults out.new) }
@@ -267,13 +267,13 @@ pub fn run_read_copy<A: Source, K: Sink, D: Disk, E: Disk, U: Vault, W: Words, C
     clock: &mut C,
 ) -> u8
     ensures read { ReadsCopies D.Disk E.Disk K.Sink W.Words U.Vault
-        (copy_files disk.old backup.old out.old rand.old copies.old clock.old)
-        (copy_files disk.new backup.new out.new rand.new copies.new clock.new)
+        (files disk.old backup.old out.old rand.old copies.old clock.old)
+        (files disk.new backup.new out.new rand.new copies.new clock.new)
         A.Source acls.old acls.new user.now path.now from count result }
     ensures kept { FromSoundFiles (D.state disk.old)
         (ReadsCopiesKept D.Disk E.Disk K.Sink W.Words U.Vault
-        (copy_files disk.old backup.old out.old rand.old copies.old clock.old)
-        (copy_files disk.new backup.new out.new rand.new copies.new clock.new)
+        (files disk.old backup.old out.old rand.old copies.old clock.old)
+        (files disk.new backup.new out.new rand.new copies.new clock.new)
         A.Source acls.old acls.new user.now path.now from count) result }
     ensures store_fault { result ≡ 5 →
         Rose (D.state disk.old).faults (D.state disk.new).faults ⊎
