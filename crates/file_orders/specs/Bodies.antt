@@ -7,10 +7,9 @@ use Rattle.body_stream.specs.declared.faults.BodyFault.{BodyFault}
 use Rattle.file_orders.specs.declared.ends.FsEnd.{FsEnd}
 use Rattle.file_orders.specs.declared.ends.FsEnd.TheVariants as end
 use Rattle.file_orders.specs.declared.open.OpenFile.{OpenFile}
-use Rattle.file_orders.specs.declared.open.ShownFile.{ShownFile}
 use Rattle.file_orders.specs.Ends.{end_of_body}
 use Rattle.file_orders.specs.Events.{Leading}
-use Rattle.file_orders.specs.Opening.{Makes, Opens, OpensShown}
+use Rattle.file_orders.specs.Opening.{Makes, Opens}
 
 -- the input was put as the body of the file, to its end
 pub record PutWhole (file : OpenFile) (how : FsEnd) (left left' : Option (List ℕ)) (old new : VaultState) : Type 0 where
@@ -79,10 +78,4 @@ Sends from count (Ok file) how old new written now = (SentWhole file from count 
 pub record Reads {X : Type 0} (leads : Leading X) (user path : List ℕ) (from count : ℕ) (a : X) (how : FsEnd) (b : X) (old new : VaultState) (written now : Option (List ℕ)) : Type 0 where
   pub opened : Result OpenFile FsEnd
   pub opens : Opens leads user path a opened b
-  pub sends : Sends from count opened how old new written now
-
--- A user reads a range of a file that was found elsewhere: its key is decrypted, and then the range is written.
-pub record ReadsShown {X : Type 0} (leads : Leading X) (user : List ℕ) (shown : ShownFile) (from count : ℕ) (a : X) (how : FsEnd) (b : X) (old new : VaultState) (written now : Option (List ℕ)) : Type 0 where
-  pub opened : Result OpenFile FsEnd
-  pub opens : OpensShown leads user (Ok shown) a opened b
   pub sends : Sends from count opened how old new written now

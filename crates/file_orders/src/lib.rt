@@ -11,4 +11,4 @@ pub use ends::{FsEnd, end_of_names};
 pub use events::Events;
 pub use open::{OpenFile, ShownFile};
 pub use put::put_file;
-pub use read::{read_file, read_shown};
+pub use read::read_file;

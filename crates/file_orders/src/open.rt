@@ -249,7 +249,7 @@ fn file_with(id: u64, iv: Iv, dek: Result<Dek, FsEnd>) -> Result<OpenFile, FsEnd
 }
 
 /// Opens a file that was found: decrypts its key for a user, if it has one.
-pub(crate) fn open_shown<T: Events>(
+fn open_shown<T: Events>(
     alloc: Global,
     events: &mut T,
     user: &Text,

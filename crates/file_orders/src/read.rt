@@ -1,12 +1,12 @@
 //! Reading a range of a file.
 ghost use Rattle.std.specs.Prelude.{◌≡◌, ◌≤◌};
 ghost use Rattle.hk_base.specs.Faults.{Rose};
-ghost use Rattle.file_orders.specs.Bodies.{Reads, ReadsShown, Sends};
+ghost use Rattle.file_orders.specs.Bodies.{Reads, Sends};
 ghost use Rattle.std.specs.Prelude.{Ok};
 
 use crate::ends::{FsEnd, end_of_body};
 use crate::events::Events;
-use crate::open::{OpenFile, ShownFile, open_file, open_shown};
+use crate::open::{OpenFile, open_file};
 use body_stream::{Vault, read_body};
 use hk_base::{Sink, Text};
 use std::alloc::Global;
@@ -56,34 +56,6 @@ pub fn read_file<T: Events, V: Vault, K: Sink>(
     ensures own { (result ≡ FsEnd.ReadFault → ⊥) × (result ≡ FsEnd.TooLong → ⊥) }
 {
     match open_file(alloc, events, user, path) {
-        Ok(file) => send(vault, out, file, from, count),
-        Err(end) => end,
-    }
-}
-
-/// Writes a range of a file for a user, with the id and the encrypted key that are given, as those of a
-/// copy of a file are. In a zone it is decrypted. A range past the end is cut.
-pub fn read_shown<T: Events, V: Vault, K: Sink>(
-    alloc: Global,
-    events: &mut T,
-    user: &Text,
-    shown: ShownFile,
-    from: u64,
-    count: u64,
-    vault: &mut V,
-    out: &mut K,
-) -> FsEnd
-    requires { T.ready events.old }
-    ensures reads { ReadsShown T.leads user.now shown from count events.old result events.new
-        (V.state vault.old) (V.state vault.new) (K.written out.old) (K.written out.new) }
-    ensures ready { T.ready events.new }
-    ensures out_later { K.faults out.old ≤ K.faults out.new }
-    ensures write { result ≡ FsEnd.WriteFault → Rose (K.faults out.old) (K.faults out.new) }
-    ensures vault { result ≡ FsEnd.VaultFault →
-        Rose (V.state vault.old).faults (V.state vault.new).faults }
-    ensures own { (result ≡ FsEnd.ReadFault → ⊥) × (result ≡ FsEnd.TooLong → ⊥) }
-{
-    match open_shown(alloc, events, user, Ok(shown)) {
         Ok(file) => send(vault, out, file, from, count),
         Err(end) => end,
     }
