@@ -40,7 +40,7 @@ use Rattle.world_run.specs.World.{WorldState, world_of}
 use Rattle.world_rows.specs.Rows.{CanRead, IsPlace, OnlyReads, ReadsOn, ReadsOnce, place_rows, table_of}
 use Rattle.world_rows.specs.declared.rows.WorldRows.{WorldRows}
 use Rattle.world_rows.proofs.ReadLemmas.{look_once, looks_on, once_same, quiet, row_found}
-use Rattle.raw_copy.specs.Copies.{AreTexts, CopiesPlace, CopiesZone, Copying, OnlyRead, ReadsOnceIn, StopsPlace, StopsZone, copying, state_at}
+use Rattle.raw_copy.specs.Copies.{AreTexts, CopiesPlace, CopiesZone, Copying, OnlyRead, ReadsOnceIn, StopsPlace, StopsZone, copied_or, copying, state_at}
 
 steps_join : {X : Type 0} (follows : X → X → Type 0) (a b c : X) → Steps follows a b → Steps follows b c → Steps follows a c
 steps_join follows a b c s Done = s
@@ -219,3 +219,14 @@ reads_followed state to_come now others R follow a b (Then m n t (inr (e, answer
     let w = reads_followed state to_come now others R follow a m t y r in
     let f = follow m n w.0 e answer w.2 leads in
     (f.0, Then w.0 f.0 w.1 (inr (e, answer, only, f.1.0)), f.1.1)
+
+-- ---- over the other disk
+
+module _ {from to : List ℕ} {old new : Copying} where
+  pub copied_over : (result : Result Copied FsEnd) → IfOk result (λ (counts : Copied). CopiesZone from to counts old new) → IfOk (copied_or result) (λ (counts : Copied). CopiesZone from to counts old new)
+  copied_over (Ok counts) copies = copies
+  copied_over (Err why) copies = tt
+
+  pub stopped_over : (result : Result Copied FsEnd) → OnErr result (StopsZone from to old new) → OnErr (copied_or result) (StopsZone from to old new)
+  stopped_over (Ok counts) stops = tt
+  stopped_over (Err why) stops = stops

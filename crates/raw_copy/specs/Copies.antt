@@ -1,8 +1,11 @@
 -- A place of one world that is copied into the namesystem of another cluster.
-use Rattle.std.specs.Prelude.{◌≡◌, ◌⊎◌, ℕ, List, [], Some, true, count_by}
-use Rattle.hk_base.specs.Disk.{DiskState}
+use Rattle.std.specs.Prelude.{◌≡◌, ◌⊎◌, ℕ, List, [], Some, true, count_by, Result, Ok, Err, IfOk, IsErrOf, OnErr}
+use Rattle.hk_base.specs.Disk.{DiskState, RunOn}
+use Rattle.frame_log.specs.declared.fault.StartFault.{StartFault}
+use Rattle.backup_names.specs.Orders.{OrdersNames}
 use Rattle.body_stream.specs.Vaults.{VaultState}
 use Rattle.file_orders.specs.Events.{Leading}
+use Rattle.file_orders.specs.declared.ends.FsEnd.{FsEnd}
 use Rattle.hk_events.specs.declared.event.Event.{Event}
 use Rattle.hk_events.specs.declared.event.Line.{Line}
 use Rattle.inode_tree.specs.Rows.{Entry, is_dir_at, is_marked, row_at}
@@ -10,13 +13,17 @@ use Rattle.inode_tree.specs.declared.rows.Row.{Row}
 use Rattle.name_calls.specs.Paths.{read_path}
 use Rattle.name_calls.specs.declared.paths.NPath.{NPath}
 use Rattle.name_calls.specs.declared.read_paths.ReadPath.{ReadPath}
+use Rattle.name_core.specs.Service.{Starts}
 use Rattle.name_core.specs.State.{RunningNames}
+use Rattle.name_store.specs.Store.{OpensNames}
 use Rattle.name_store.specs.Table.{NameTable}
 use Rattle.place_texts.specs.Places.{read_raw_place}
 use Rattle.row_copies.specs.Clusters.{CopyState, IsTree}
 use Rattle.row_copies.specs.Copies.{CopiesAll, Steps, StopsEarly, is_file}
 use Rattle.row_copies.specs.Walks.{is_directory}
 use Rattle.row_copies.specs.declared.walk.Copied.{Copied}
+use Rattle.raw_copy.specs.declared.backup.CopyFault.{CopyFault}
+use Rattle.raw_copy.specs.declared.backup.CopyFault.TheVariants.{End, Start}
 use Rattle.world_desk.specs.Worlds.{IsReady}
 use Rattle.world_run.specs.Drives.{Standing}
 use Rattle.world_run.specs.World.{world_of}
@@ -97,3 +104,39 @@ StopsPlace place path old new = StopsEarly path (state_at place old) (state_at p
 
 abbrev pub StopsZone : List ℕ → List ℕ → Copying → Copying → Type 0
 StopsZone from to old new = CopiesZonePart from to old new ⊎ CopiesNothing old new
+
+-- ---- over the disk of the other cluster
+
+abbrev pub copied_or : Result Copied FsEnd → Result Copied CopyFault
+copied_or (Ok counts) = Ok counts
+copied_or (Err why) = Err (End why)
+
+-- From this namesystem on, a zone was copied, or a prefix of it. `left` is the namesystem in the end.
+pub record CopiesFrom (from to : List ℕ) (result : Result Copied CopyFault) (t t' : NameTable) (vault vault' copies copies' : VaultState) (disk disk' : DiskState) (names : RunningNames) : Type 0 where
+  pub left : RunningNames
+  pub orders : OrdersNames disk disk' names left
+  pub copied : IfOk result (λ counts. CopiesZone from to counts (copying t vault names copies) (copying t' vault' left copies'))
+  pub stopped : OnErr result (StopsZone from to (copying t vault names copies) (copying t' vault' left copies'))
+
+-- The edit log was opened, and a zone was copied from the namesystem on that it has.
+pub record CopiesOpened (batch : ℕ) (from to : List ℕ) (result : Result Copied CopyFault) (t t' : NameTable) (vault vault' copies copies' : VaultState) (disk disk' : DiskState) : Type 0 where
+  pub mid : DiskState
+  pub names : RunningNames
+  pub starts : Starts batch disk mid names
+  pub run : RunOn 1 disk mid
+  pub copies : CopiesFrom from to result t t' vault vault' copies copies' mid disk' names
+
+abbrev pub not_started : StartFault → Result RunningNames StartFault
+not_started fault = Err fault
+
+-- The edit log could not be opened, and nothing else was done.
+pub record CannotOpen (result : Result Copied CopyFault) (t t' : NameTable) (vault vault' copies copies' : VaultState) (disk disk' : DiskState) : Type 0 where
+  pub fault : StartFault
+  pub result_is : result ≡ Err (Start fault)
+  pub opens : OpensNames disk disk' (IsErrOf (not_started fault))
+  pub table : t' ≡ t
+  pub vault : vault' ≡ vault
+  pub copies : copies' ≡ copies
+
+abbrev pub CopiesOver : (batch : ℕ) (from to : List ℕ) (result : Result Copied CopyFault) (t t' : NameTable) (vault vault' copies copies' : VaultState) (disk disk' : DiskState) → Type 0
+CopiesOver batch from to result t t' vault vault' copies copies' disk disk' = CannotOpen result t t' vault vault' copies copies' disk disk' ⊎ CopiesOpened batch from to result t t' vault vault' copies copies' disk disk'

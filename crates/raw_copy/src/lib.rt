@@ -2,10 +2,12 @@
 //! keys and the stored bytes of its files.
 #![tactic(auto)]
 
+mod backup;
 mod into;
 mod place;
 mod zone;
 
+pub use backup::{CopyFault, copy_over};
 pub use into::copy_into;
 pub use place::copy_place;
 pub use zone::copy_zone;
