@@ -25,6 +25,7 @@ use Rattle.place_texts.proofs.PlaceLemmas.{raw-ruled}
 use Rattle.source_looks.specs.Looks.{Looks}
 use Rattle.kms_acls.specs.Agreement.{AreListsOf}
 use Rattle.kms_acls.specs.Lists.{Lists}
+use Rattle.backup_names.specs.Orders.{OrdersNames}
 use Rattle.backup_names.proofs.OrderLemmas.{no_orders, orders_then}
 use Rattle.copy_target.specs.Targets.{HoldsSame, WorksOn}
 use Rattle.copy_target.specs.declared.both.BothClusters.{BothClusters}
@@ -40,7 +41,8 @@ use Rattle.world_run.specs.World.{WorldState, world_of}
 use Rattle.world_rows.specs.Rows.{CanRead, IsPlace, OnlyReads, ReadsOn, ReadsOnce, place_rows, table_of}
 use Rattle.world_rows.specs.declared.rows.WorldRows.{WorldRows}
 use Rattle.world_rows.proofs.ReadLemmas.{look_once, looks_on, once_same, quiet, row_found}
-use Rattle.raw_copy.specs.Copies.{AreTexts, CopiesPlace, CopiesZone, Copying, OnlyRead, ReadsOnceIn, StopsPlace, StopsZone, copied_or, copying, state_at}
+use Rattle.raw_copy.specs.declared.backup.CopyFault.{CopyFault}
+use Rattle.raw_copy.specs.Copies.{AreTexts, CopiesFrom, CopiesPlace, CopiesZone, Copying, OnlyRead, ReadsOnceIn, StopsPlace, StopsZone, copied_or, copying, state_at}
 
 steps_join : {X : Type 0} (follows : X → X → Type 0) (a b c : X) → Steps follows a b → Steps follows b c → Steps follows a c
 steps_join follows a b c s Done = s
@@ -222,11 +224,22 @@ reads_followed state to_come now others R follow a b (Then m n t (inr (e, answer
 
 -- ---- over the other disk
 
-module _ {from to : List ℕ} {old new : Copying} where
-  pub copied_over : (result : Result Copied FsEnd) → IfOk result (λ (counts : Copied). CopiesZone from to counts old new) → IfOk (copied_or result) (λ (counts : Copied). CopiesZone from to counts old new)
-  copied_over (Ok counts) copies = copies
-  copied_over (Err why) copies = tt
+copied_over : (from to : List ℕ) (old new : Copying) (result : Result Copied FsEnd) → IfOk result (λ (counts : Copied). CopiesZone from to counts old new) → IfOk (copied_or result) (λ (counts : Copied). CopiesZone from to counts old new)
+copied_over from to old new (Ok counts) copies = copies
+copied_over from to old new (Err why) copies = tt
 
-  pub stopped_over : (result : Result Copied FsEnd) → OnErr result (StopsZone from to old new) → OnErr (copied_or result) (StopsZone from to old new)
-  stopped_over (Ok counts) stops = tt
-  stopped_over (Err why) stops = stops
+stopped_over : (from to : List ℕ) (old new : Copying) (result : Result Copied FsEnd) → OnErr result (StopsZone from to old new) → OnErr (copied_or result) (StopsZone from to old new)
+stopped_over from to old new (Ok counts) stops = tt
+stopped_over from to old new (Err why) stops = stops
+
+pub from_ended : (from to : List ℕ) (ended : Result Copied FsEnd) (result : Result Copied CopyFault) → result ≡ copied_or ended → (t t' : NameTable) (vault vault' copies copies' : VaultState) (disk disk' : DiskState) (names left : RunningNames)
+    → OrdersNames disk disk' names left → IfOk ended (λ (counts : Copied). CopiesZone from to counts (copying t vault names copies) (copying t' vault' left copies')) → OnErr ended (StopsZone from to (copying t vault names copies) (copying t' vault' left copies'))
+    → CopiesFrom from to result t t' vault vault' copies copies' disk disk' names
+from_ended from to ended result is t t' vault vault' copies copies' disk disk' names left orders all part =
+    subst (λ (r : Result Copied CopyFault). CopiesFrom from to r t t' vault vault' copies copies' disk disk' names) (sym is)
+    (record {
+      left = left;
+      orders = orders;
+      copied = copied_over from to (copying t vault names copies) (copying t' vault' left copies') ended all;
+      stopped = stopped_over from to (copying t vault names copies) (copying t' vault' left copies') ended part;
+    })

@@ -124,7 +124,7 @@ pub record CopiesOpened (batch : ℕ) (from to : List ℕ) (result : Result Copi
   pub names : RunningNames
   pub starts : Starts batch disk mid names
   pub run : RunOn 1 disk mid
-  pub copies : CopiesFrom from to result t t' vault vault' copies copies' mid disk' names
+  pub work : CopiesFrom from to result t t' vault vault' copies copies' mid disk' names
 
 abbrev pub not_started : StartFault → Result RunningNames StartFault
 not_started fault = Err fault
@@ -134,9 +134,9 @@ pub record CannotOpen (result : Result Copied CopyFault) (t t' : NameTable) (vau
   pub fault : StartFault
   pub result_is : result ≡ Err (Start fault)
   pub opens : OpensNames disk disk' (IsErrOf (not_started fault))
-  pub table : t' ≡ t
-  pub vault : vault' ≡ vault
-  pub copies : copies' ≡ copies
+  pub same_table : t' ≡ t
+  pub same_vault : vault' ≡ vault
+  pub same_copies : copies' ≡ copies
 
 abbrev pub CopiesOver : (batch : ℕ) (from to : List ℕ) (result : Result Copied CopyFault) (t t' : NameTable) (vault vault' copies copies' : VaultState) (disk disk' : DiskState) → Type 0
 CopiesOver batch from to result t t' vault vault' copies copies' disk disk' = CannotOpen result t t' vault vault' copies copies' disk disk' ⊎ CopiesOpened batch from to result t t' vault vault' copies copies' disk disk'

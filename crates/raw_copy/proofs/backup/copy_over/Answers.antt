@@ -2,7 +2,6 @@ use Rattle.std.proofs.Common.{inl, inr, refl, subst, sym, IsTrue, Bool}
 use Rattle.std.specs.Prelude.{Result, IsErrOf}
 use Rattle.frame_log.specs.declared.fault.StartFault.{StartFault}
 use Rattle.name_core.specs.State.{RunningNames}
-use Rattle.name_core.specs.Service.{Starts}
 use Rattle.name_store.specs.Store.{OpensNames}
 use Rattle.backup_names.proofs.OrderLemmas.{started_holds}
 use Rattle.raw_copy.proofs.CopyLemmas.{read_nothing}
@@ -20,7 +19,7 @@ returns-in-Ok-clause-copies g c = inr (record {
   names = c.in-Ok.name;
   starts = c.in-Ok.ensures.started;
   run = c.start.ensures.opens.run;
-  copies = c.copy_from.ensures.copies;
+  work = c.copy_from.ensures.copies;
 })
 
 pub returns-in-Err-clause-copies : goal.returns-in-Err-clause-copies
@@ -28,9 +27,9 @@ returns-in-Err-clause-copies g c = inl (record {
   fault = c.in-Err.fault;
   result_is = refl;
   opens = subst (λ (r : Result RunningNames StartFault). OpensNames (g.E.Disk.state c.args.backup.now) (g.E.Disk.state c.start.new.disk) (IsErrOf r)) c.in-Err.is c.start.ensures.opens;
-  table = refl;
-  vault = refl;
-  copies = refl;
+  same_table = refl;
+  same_vault = refl;
+  same_copies = refl;
 })
 
 pub returns-in-Err-clause-read : goal.returns-in-Err-clause-read

@@ -16,14 +16,14 @@ returns-in-Ok-clause-disk g c = let w = look_reads g.D.Disk.state g.W.Words.to_c
 pub returns-in-Ok-clause-words : goal.returns-in-Ok-clause-words
 returns-in-Ok-clause-words g c = let w = look_reads g.D.Disk.state g.W.Words.to_come c.args.events.now c.look_at.new.events c.requires.ready c.args.user.now c.requires.user c.args.place.now c.root-root.result c.look_at.result c.look_at.ensures.looks in w.0.1.1.0
 
-pub returns-in-Err-clause-read : goal.returns-in-Err-clause-read
-returns-in-Err-clause-read g c = let w = look_reads g.D.Disk.state g.W.Words.to_come c.args.events.now c.look_at.new.events c.requires.ready c.args.user.now c.requires.user c.args.place.now c.root-root.result c.look_at.result c.look_at.ensures.looks in w.1
+pub returns-clause-read : goal.returns-clause-read
+returns-clause-read g c = let w = look_reads g.D.Disk.state g.W.Words.to_come c.args.events.now c.look_at.new.events c.requires.ready c.args.user.now c.requires.user c.args.place.now c.root-root.result c.look_at.result c.look_at.ensures.looks in w.1
 
-pub returns-in-Err-clause-world : goal.returns-in-Err-clause-world
-returns-in-Err-clause-world g c = let w = look_reads g.D.Disk.state g.W.Words.to_come c.args.events.now c.look_at.new.events c.requires.ready c.args.user.now c.requires.user c.args.place.now c.root-root.result c.look_at.result c.look_at.ensures.looks in w.0.0
+pub returns-clause-world : goal.returns-clause-world
+returns-clause-world g c = let w = look_reads g.D.Disk.state g.W.Words.to_come c.args.events.now c.look_at.new.events c.requires.ready c.args.user.now c.requires.user c.args.place.now c.root-root.result c.look_at.result c.look_at.ensures.looks in w.0.0
 
-pub returns-in-Err-clause-disk : goal.returns-in-Err-clause-disk
-returns-in-Err-clause-disk g c = let w = look_reads g.D.Disk.state g.W.Words.to_come c.args.events.now c.look_at.new.events c.requires.ready c.args.user.now c.requires.user c.args.place.now c.root-root.result c.look_at.result c.look_at.ensures.looks in w.0.1.0
+pub returns-clause-disk : goal.returns-clause-disk
+returns-clause-disk g c = let w = look_reads g.D.Disk.state g.W.Words.to_come c.args.events.now c.look_at.new.events c.requires.ready c.args.user.now c.requires.user c.args.place.now c.root-root.result c.look_at.result c.look_at.ensures.looks in w.0.1.0
 
-pub returns-in-Err-clause-words : goal.returns-in-Err-clause-words
-returns-in-Err-clause-words g c = let w = look_reads g.D.Disk.state g.W.Words.to_come c.args.events.now c.look_at.new.events c.requires.ready c.args.user.now c.requires.user c.args.place.now c.root-root.result c.look_at.result c.look_at.ensures.looks in w.0.1.1.0
+pub returns-clause-words : goal.returns-clause-words
+returns-clause-words g c = let w = look_reads g.D.Disk.state g.W.Words.to_come c.args.events.now c.look_at.new.events c.requires.ready c.args.user.now c.requires.user c.args.place.now c.root-root.result c.look_at.result c.look_at.ensures.looks in w.0.1.1.0
