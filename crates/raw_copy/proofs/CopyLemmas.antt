@@ -1,8 +1,8 @@
 -- What a copy did to both clusters.
-use Rattle.std.proofs.Common.{◌≡◌, inl, inr, ℕ, ◌+◌, Bool, true, false, cond, List, [], take, drop, Option, Some, None, refl, sym, ap, ◌∙◌, subst, IsTrue, arith}
+use Rattle.std.proofs.Common.{◌≡◌, inl, inr, ℕ, ◌+◌, Bool, true, false, cond, List, [], ◌∷◌, ◌++◌, take, drop, Option, Some, None, refl, sym, ap, ◌∙◌, subst, IsTrue, arith}
 use Rattle.std.specs.Prelude.{Result, Ok, Err, IfOk, OnErr, OnOk, count_by}
 use Rattle.std.specs.Str.{bytes_eq}
-use Rattle.hk_base.specs.Disk.{DiskState, Tells}
+use Rattle.hk_base.specs.Disk.{DiskState, RunOn, Tells}
 use Rattle.hk_base.specs.Faults.{Rose}
 use Rattle.hk_base.specs.declared.texts.Text.{Text}
 use Rattle.hk_events.specs.declared.event.Event.{Event}
@@ -18,8 +18,9 @@ use Rattle.name_calls.specs.ReadPaths.{read_any_path}
 use Rattle.name_calls.specs.declared.paths.NPath.{NPath}
 use Rattle.name_calls.specs.declared.read_paths.ReadPath.{ReadPath}
 use Rattle.name_core.specs.Calls.{superuser}
+use Rattle.name_core.specs.Service.{Starts}
 use Rattle.name_core.specs.State.{RunningNames}
-use Rattle.name_store.specs.Table.{NameTable}
+use Rattle.name_store.specs.Table.{NameTable, next_opening}
 use Rattle.place_texts.specs.Places.{is_whole_snapshot, place_below, raw, read_raw_place, whole_directory}
 use Rattle.place_texts.proofs.PlaceLemmas.{raw-ruled}
 use Rattle.source_looks.specs.Looks.{Looks}
@@ -42,7 +43,7 @@ use Rattle.world_rows.specs.Rows.{CanRead, IsPlace, OnlyReads, ReadsOn, ReadsOnc
 use Rattle.world_rows.specs.declared.rows.WorldRows.{WorldRows}
 use Rattle.world_rows.proofs.ReadLemmas.{look_once, looks_on, once_same, quiet, row_found}
 use Rattle.raw_copy.specs.declared.backup.CopyFault.{CopyFault}
-use Rattle.raw_copy.specs.Copies.{AreTexts, CopiesFrom, CopiesPlace, CopiesZone, Copying, OnlyRead, ReadsOnceIn, StopsPlace, StopsZone, copied_or, copying, state_at}
+use Rattle.raw_copy.specs.Copies.{AreTexts, CopiesFrom, CopiesOpened, CopiesPlace, CopiesZone, Copying, OnlyRead, ReadsOnceIn, StopsPlace, StopsZone, copied_or, copying, state_at}
 
 steps_join : {X : Type 0} (follows : X → X → Type 0) (a b c : X) → Steps follows a b → Steps follows b c → Steps follows a c
 steps_join follows a b c s Done = s
@@ -83,8 +84,7 @@ module _ {D W : Type 0} (state : D → DiskState) (to_come : W → ℕ → ℕ) 
   once_ready : ReadsOnce state to_come now a b → IsReady state b
   once_ready (inl same) = subst (IsReady state) (sym same) ready
   once_ready (inr (e, answer, only, leads)) =
-      let s = leads ready.0 ready.1.lists in
-      (
+      let s = leads ready.0 ready.1.lists in (
         ready.0,
         record {
           lists = subst (λ (acls : Lists). AreListsOf acls ready.0) (sym s.lists) ready.1.lists;
@@ -243,3 +243,23 @@ from_ended from to ended result is t t' vault vault' copies copies' disk disk' n
       copied = copied_over from to (copying t vault names copies) (copying t' vault' left copies') ended all;
       stopped = stopped_over from to (copying t vault names copies) (copying t' vault' left copies') ended part;
     })
+
+pub opened_copies : (batch : ℕ) (from to : List ℕ) (result : Result Copied CopyFault) (t t' : NameTable) (vault vault' copies copies' : VaultState) (disk mid disk' : DiskState) (names : RunningNames)
+    → Starts batch disk mid names → RunOn 1 disk mid → CopiesFrom from to result t t' vault vault' copies copies' mid disk' names → CopiesOpened batch from to result t t' vault vault' copies copies' disk disk'
+opened_copies batch from to result t t' vault vault' copies copies' disk mid disk' names s run work =
+    let o = work.orders in
+    let later = o.run in
+    record {
+      found = s.found;
+      names = names;
+      left = work.left;
+      opens = s.opens;
+      logged = o.logged;
+      log = λ telling.
+          let l = s.log telling in
+          (l.0, l.1, l.2, o.stands (subst (λ (b : Bool). IsTrue b) (sym run.tells) telling) (l.0 ++ (next_opening s.found ∷ [])) l.3);
+      tells = later.tells ∙ run.tells;
+      faults = let more = run.faults in let most = later.faults in omega (arith, more, most);
+      copied = work.copied;
+      stopped = work.stopped;
+    }

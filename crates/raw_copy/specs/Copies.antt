@@ -1,6 +1,6 @@
 -- A place of one world that is copied into the namesystem of another cluster.
-use Rattle.std.specs.Prelude.{◌≡◌, ◌⊎◌, ℕ, List, [], Some, true, count_by, Result, Ok, Err, IfOk, IsErrOf, OnErr}
-use Rattle.hk_base.specs.Disk.{DiskState, RunOn}
+use Rattle.std.specs.Prelude.{◌≡◌, ◌⊎◌, ◌≤◌, ℕ, List, [], ◌∷◌, ◌++◌, Some, true, count_by, Result, Ok, Err, IfOk, IsErrOf, OnErr}
+use Rattle.hk_base.specs.Disk.{DiskState, Tells}
 use Rattle.frame_log.specs.declared.fault.StartFault.{StartFault}
 use Rattle.backup_names.specs.Orders.{OrdersNames}
 use Rattle.body_stream.specs.Vaults.{VaultState}
@@ -13,10 +13,10 @@ use Rattle.inode_tree.specs.declared.rows.Row.{Row}
 use Rattle.name_calls.specs.Paths.{read_path}
 use Rattle.name_calls.specs.declared.paths.NPath.{NPath}
 use Rattle.name_calls.specs.declared.read_paths.ReadPath.{ReadPath}
-use Rattle.name_core.specs.Service.{Starts}
-use Rattle.name_core.specs.State.{RunningNames}
-use Rattle.name_store.specs.Store.{OpensNames}
-use Rattle.name_store.specs.Table.{NameTable}
+use Rattle.edit_ops.specs.declared.ops.EditOp.{EditOp}
+use Rattle.name_core.specs.State.{IsNamesystemOf, RunningNames, service_of, started}
+use Rattle.name_store.specs.Store.{IsNameLog, OpensNames}
+use Rattle.name_store.specs.Table.{NameTable, next_opening}
 use Rattle.place_texts.specs.Places.{read_raw_place}
 use Rattle.row_copies.specs.Clusters.{CopyState, IsTree}
 use Rattle.row_copies.specs.Copies.{CopiesAll, Steps, StopsEarly, is_file}
@@ -118,13 +118,19 @@ pub record CopiesFrom (from to : List ℕ) (result : Result Copied CopyFault) (t
   pub copied : IfOk result (λ counts. CopiesZone from to counts (copying t vault names copies) (copying t' vault' left copies'))
   pub stopped : OnErr result (StopsZone from to (copying t vault names copies) (copying t' vault' left copies'))
 
--- The edit log was opened, and a zone was copied from the namesystem on that it has.
+-- The edit log was opened, and a zone was copied from the namesystem on that it has. The log then holds the operations that were found, the
+-- opening, and those of the copy.
 pub record CopiesOpened (batch : ℕ) (from to : List ℕ) (result : Result Copied CopyFault) (t t' : NameTable) (vault vault' copies copies' : VaultState) (disk disk' : DiskState) : Type 0 where
-  pub mid : DiskState
+  pub found : NameTable
   pub names : RunningNames
-  pub starts : Starts batch disk mid names
-  pub run : RunOn 1 disk mid
-  pub work : CopiesFrom from to result t t' vault vault' copies copies' mid disk' names
+  pub left : RunningNames
+  pub opens : service_of names ≡ started batch found
+  pub logged : List EditOp
+  pub log : Tells disk → (ops : List EditOp) × (used : List ℕ) × IsNameLog (disk.reads 1) ops (record { table = found; used = used }) × IsNamesystemOf disk' left ((ops ++ (next_opening found ∷ [])) ++ logged)
+  pub tells : disk'.tells ≡ disk.tells
+  pub faults : disk.faults ≤ disk'.faults
+  pub copied : IfOk result (λ counts. CopiesZone from to counts (copying t vault names copies) (copying t' vault' left copies'))
+  pub stopped : OnErr result (StopsZone from to (copying t vault names copies) (copying t' vault' left copies'))
 
 abbrev pub not_started : StartFault → Result RunningNames StartFault
 not_started fault = Err fault

@@ -4,7 +4,7 @@ use Rattle.frame_log.specs.declared.fault.StartFault.{StartFault}
 use Rattle.name_core.specs.State.{RunningNames}
 use Rattle.name_store.specs.Store.{OpensNames}
 use Rattle.backup_names.proofs.OrderLemmas.{started_holds}
-use Rattle.raw_copy.proofs.CopyLemmas.{read_nothing}
+use Rattle.raw_copy.proofs.CopyLemmas.{opened_copies, read_nothing}
 use Rattle.raw_copy.proofs.backup.copy_over.Goals as goal
 
 pub copy_from-requires-clause-holds : goal.copy_from-requires-clause-holds
@@ -14,13 +14,8 @@ pub copy_from-requires-clause-settled : goal.copy_from-requires-clause-settled
 copy_from-requires-clause-settled g c = let h = started_holds c.args.batch (g.E.Disk.state c.args.backup.now) (g.E.Disk.state c.start.new.disk) c.in-Ok.name (λ telling. subst (λ (b : Bool). IsTrue b) c.start.ensures.opens.run.tells telling) c.in-Ok.ensures.started in h.1
 
 pub returns-in-Ok-clause-copies : goal.returns-in-Ok-clause-copies
-returns-in-Ok-clause-copies g c = inr (record {
-  mid = g.E.Disk.state c.start.new.disk;
-  names = c.in-Ok.name;
-  starts = c.in-Ok.ensures.started;
-  run = c.start.ensures.opens.run;
-  work = c.copy_from.ensures.copies;
-})
+returns-in-Ok-clause-copies g c =
+    inr (opened_copies c.args.batch c.args.from.now c.args.to.now c.copy_from.result _ _ _ _ _ _ (g.E.Disk.state c.args.backup.now) (g.E.Disk.state c.start.new.disk) (g.E.Disk.state c.copy_from.new.backup) c.in-Ok.name c.in-Ok.ensures.started c.start.ensures.opens.run c.copy_from.ensures.copies)
 
 pub returns-in-Err-clause-copies : goal.returns-in-Err-clause-copies
 returns-in-Err-clause-copies g c = inl (record {
