@@ -1,5 +1,5 @@
 -- The events of a command over the disk, from the opened logs on.
-use Rattle.std.specs.Prelude.{◌≡◌, ◌≤◌, ℕ, List, ◌∷◌}
+use Rattle.std.specs.Prelude.{◌≡◌, ◌≤◌, ℕ, ◌∷◌}
 use Rattle.hk_base.specs.Disk.{DiskState, Tells}
 use Rattle.key_rows.specs.Table.{Table}
 use Rattle.name_store.specs.Table.{NameTable}
