@@ -50,7 +50,7 @@ no-child q h = let w = (and-parts (is_prefix q []) (0 == length q + 1) h).1 in l
 
 module _ (p : List (List ℕ)) where
   -- the row at a path down from there
-  row-seen : (es : List Entry) (y : List (List ℕ)) → row_at (rows_below es p) y ≡ row_at es (p ++ y)
+  pub row-seen : (es : List Entry) (y : List (List ℕ)) → row_at (rows_below es p) y ≡ row_at es (p ++ y)
   row-seen [] y = refl
   row-seen (x ∷ es) y = go (is_prefix p x.path) refl (row-seen es y)
     where

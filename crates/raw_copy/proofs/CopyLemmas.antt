@@ -1,0 +1,265 @@
+-- What a copy did to both clusters.
+use Rattle.std.proofs.Common.{◌≡◌, inl, inr, ℕ, ◌+◌, Bool, true, false, cond, List, [], ◌∷◌, ◌++◌, take, drop, Option, Some, None, refl, sym, ap, ◌∙◌, subst, IsTrue, arith}
+use Rattle.std.specs.Prelude.{Result, Ok, Err, IfOk, OnErr, OnOk, count_by}
+use Rattle.std.specs.Str.{bytes_eq}
+use Rattle.hk_base.specs.Disk.{DiskState, RunOn, Tells}
+use Rattle.hk_base.specs.Faults.{Rose}
+use Rattle.hk_base.specs.declared.texts.Text.{Text}
+use Rattle.hk_events.specs.declared.event.Event.{Event}
+use Rattle.hk_events.specs.declared.event.Line.{Line}
+use Rattle.body_stream.specs.Vaults.{VaultState}
+use Rattle.file_orders.specs.Events.{Leading}
+use Rattle.file_orders.proofs.FollowLemmas.{Follows}
+use Rattle.file_orders.specs.declared.ends.FsEnd.{FsEnd}
+use Rattle.inode_tree.specs.declared.rows.Row.{Row}
+use Rattle.inode_tree.specs.Rows.{is_dir_at, is_marked, row_at}
+use Rattle.name_calls.specs.Paths.{is_relative}
+use Rattle.name_calls.specs.ReadPaths.{read_any_path}
+use Rattle.name_calls.specs.declared.paths.NPath.{NPath}
+use Rattle.name_calls.specs.declared.read_paths.ReadPath.{ReadPath}
+use Rattle.name_core.specs.Calls.{superuser}
+use Rattle.name_core.specs.Service.{Starts}
+use Rattle.name_core.specs.State.{RunningNames}
+use Rattle.name_store.specs.Table.{NameTable, next_opening}
+use Rattle.place_texts.specs.Places.{is_whole_snapshot, place_below, raw, read_raw_place, whole_directory}
+use Rattle.place_texts.proofs.PlaceLemmas.{raw-ruled}
+use Rattle.source_looks.specs.Looks.{Looks}
+use Rattle.kms_acls.specs.Agreement.{AreListsOf}
+use Rattle.kms_acls.specs.Lists.{Lists}
+use Rattle.backup_names.specs.Orders.{OrdersNames}
+use Rattle.backup_names.proofs.OrderLemmas.{no_orders, orders_then}
+use Rattle.copy_target.specs.Targets.{HoldsSame, WorksOn}
+use Rattle.copy_target.specs.declared.both.BothClusters.{BothClusters}
+use Rattle.row_copies.specs.Copies.{CopiesAll, Steps, StopsEarly, Done, Then, is_file}
+use Rattle.row_copies.specs.Walks.{is_directory}
+use Rattle.row_copies.specs.declared.walk.Copied.{Copied}
+use Rattle.world_desk.specs.Worlds.{IsReady}
+use Rattle.world_events.specs.Events.{LeadsAt, standing_of, HoldsSame as HoldsServices}
+use Rattle.world_run.specs.Acknowledged.{also}
+use Rattle.world_run.specs.Drives.{Standing}
+use Rattle.world_events.specs.declared.events.WorldEvents.{WorldEvents}
+use Rattle.world_run.specs.World.{WorldState, world_of}
+use Rattle.world_rows.specs.Rows.{CanRead, IsPlace, OnlyReads, ReadsOn, ReadsOnce, place_rows, table_of}
+use Rattle.world_rows.specs.declared.rows.WorldRows.{WorldRows}
+use Rattle.world_rows.proofs.ReadLemmas.{look_once, looks_on, once_same, quiet, row_found}
+use Rattle.raw_copy.specs.declared.backup.CopyFault.{CopyFault}
+use Rattle.raw_copy.specs.Copies.{AreTexts, CopiesFrom, CopiesOpened, CopiesPlace, CopiesZone, Copying, OnlyRead, ReadsOnceIn, StopsPlace, StopsZone, copied_or, copying, state_at}
+
+steps_join : {X : Type 0} (follows : X → X → Type 0) (a b c : X) → Steps follows a b → Steps follows b c → Steps follows a c
+steps_join follows a b c s Done = s
+steps_join follows a b c s (Then m n t f) = Then m n (steps_join follows a b m s t) f
+
+module _ {S E V U : Type 0} (follows : S → S → Type 0) (disk : E → DiskState) where
+  two_works : (a b c : BothClusters S E V U) → WorksOn follows disk a b → WorksOn follows disk b c → WorksOn follows disk a c
+  two_works a b c x y = record {
+    holds = record {
+      source = y.holds.source ∙ x.holds.source;
+      names = y.holds.names ∙ x.holds.names;
+      backup = y.holds.backup ∙ x.holds.backup;
+      vault = y.holds.vault ∙ x.holds.vault;
+      copies = y.holds.copies ∙ x.holds.copies;
+    };
+    source = steps_join follows a.source.now b.source.now c.source.now x.source y.source;
+    orders = orders_then (disk a.backup.now) (disk b.backup.now) (disk c.backup.now) a.names.now b.names.now c.names.now x.orders y.orders;
+  }
+
+  -- steps that work on two clusters work on them
+  pub worked : (a b : BothClusters S E V U) → Steps (WorksOn follows disk) a b → WorksOn follows disk a b
+  worked a b Done = record { holds = record { source = refl; names = refl; backup = refl; vault = refl; copies = refl }; source = Done; orders = no_orders (disk a.backup.now) a.names.now }
+  worked a b (Then m n t f) = two_works a m n (worked a m t) f
+
+none_before : (k : ℕ) → 0 + k ≡ k
+none_before k = omega arith
+
+module _ {D W : Type 0} (state : D → DiskState) (to_come : W → ℕ → ℕ) (now : ℕ) (a b : Standing D W) (ready : IsReady state a) where
+  -- no word was drawn
+  once_rest : ReadsOnce state to_come now a b → (k : ℕ) → to_come b.words k ≡ to_come a.words k
+  once_rest (inl same) k = ap (λ (v : Standing D W). to_come v.words k) same
+  once_rest (inr (e, answer, only, leads)) k =
+      let s = leads ready.0 ready.1.lists in
+      let q = quiet ready.0 (world_of a.world) (to_come a.words) now e (Rose (state a.disk).faults (state b.disk).faults) (Tells (state a.disk)) answer s.drawn s.logged (world_of b.world) s.step.step only in
+      s.rest k ∙ ap (λ (n : ℕ). to_come a.words (n + k)) q.0 ∙ ap (to_come a.words) (none_before k)
+
+  -- and the services are ready for more events
+  once_ready : ReadsOnce state to_come now a b → IsReady state b
+  once_ready (inl same) = subst (IsReady state) (sym same) ready
+  once_ready (inr (e, answer, only, leads)) =
+      let s = leads ready.0 ready.1.lists in (
+        ready.0,
+        record {
+          lists = subst (λ (acls : Lists). AreListsOf acls ready.0) (sym s.lists) ready.1.lists;
+          stands = λ telling.
+              let before : Tells (state a.disk) = subst (λ (t : Bool). IsTrue t) s.run.tells telling in
+              let d = ready.1.stands before in
+              (also d.0 s.logged, s.stands before d.0 d.1);
+        },
+      )
+
+-- the rows of a place were read, and nothing else was done
+pub record ReadAll {D W : Type 0} (state : D → DiskState) (to_come : W → ℕ → ℕ) (a b : WorldRows D W) : Type 0 where
+  pub holds : HoldsServices a.events b.events
+  pub place : b.place.now ≡ a.place.now
+  pub read : OnlyRead state to_come a.events.now (standing_of a.events) (standing_of b.events)
+
+module _ {D W : Type 0} (state : D → DiskState) (to_come : W → ℕ → ℕ) where
+  read_more : (a b c : WorldRows D W) → ReadAll state to_come a b → ReadsOn state to_come b c → ReadAll state to_come a c
+  read_more a b c x y =
+      let h = x.holds in
+      let g = y.holds in
+      let once : ReadsOnce state to_come a.events.now (standing_of b.events) (standing_of c.events) = subst (λ (n : ℕ). ReadsOnce state to_come n (standing_of b.events) (standing_of c.events)) h.1.1.1 y.reads in
+      record {
+        holds = (g.0 ∙ h.0, (g.1.0 ∙ h.1.0, (g.1.1.0 ∙ h.1.1.0, g.1.1.1 ∙ h.1.1.1)));
+        place = y.place ∙ x.place;
+        read = record {
+          events = Then (standing_of b.events) (standing_of c.events) x.read.events once;
+          same = once_same state to_come a.events.now (standing_of b.events) (standing_of c.events) x.read.ready once ∙ x.read.same;
+          rest = λ k. once_rest state to_come a.events.now (standing_of b.events) (standing_of c.events) x.read.ready once k ∙ x.read.rest k;
+          ready = once_ready state to_come a.events.now (standing_of b.events) (standing_of c.events) x.read.ready once;
+        };
+      }
+
+  pub read_all : (a b : WorldRows D W) → CanRead state a → Steps (ReadsOn state to_come) a b → ReadAll state to_come a b
+  read_all a b can Done = record { holds = (refl, (refl, (refl, refl))); place = refl; read = record { events = Done; same = refl; rest = λ k. refl; ready = can.events } }
+  read_all a b can (Then m n t f) = read_more a m n (read_all a m can t) f
+
+module _ {D W : Type 0} (state : D → DiskState) (to_come : W → ℕ → ℕ) (now : ℕ) where
+  pub read_once : (a b : Standing D W) → IsReady state a → ReadsOnce state to_come now a b → OnlyRead state to_come now a b
+  read_once a b ready once = record {
+    events = Then a b Done once;
+    same = once_same state to_come now a b ready once;
+    rest = once_rest state to_come now a b ready once;
+    ready = once_ready state to_come now a b ready once;
+  }
+
+  pub read_nothing : (a : Standing D W) → IsReady state a → OnlyRead state to_come now a a
+  read_nothing a ready = record { events = Done; same = refl; rest = λ k. refl; ready = ready }
+
+  pub read_then : (a b c : Standing D W) → OnlyRead state to_come now a b → OnlyRead state to_come now b c → OnlyRead state to_come now a c
+  read_then a b c x y = record {
+    events = steps_join (ReadsOnce state to_come now) a b c x.events y.events;
+    same = y.same ∙ x.same;
+    rest = λ k. y.rest k ∙ x.rest k;
+    ready = y.ready;
+  }
+
+  pub table_kept : (a b : Standing D W) → OnlyRead state to_come now a b → table_of b.world ≡ table_of a.world
+  table_kept a b x = ap (λ (w : WorldState). w.names.names.table) x.same
+
+-- ---- a place
+
+pub directory_if : (result : Result (Unit {0}) FsEnd) (found : Option Row) (row : Row) → found ≡ Some row → OnOk result (is_dir_at (Some row) ≡ true) → OnOk result (is_dir_at found ≡ true)
+directory_if (Ok done) found row e is = ap is_dir_at e ∙ is
+directory_if (Err why) found row e is = tt
+
+module _ {D W : Type 0} (state : D → DiskState) (to_come : W → ℕ → ℕ) (a b : WorldEvents D W) (ready : IsReady state (standing_of a)) (user : Text) (is_user : user ≡ superuser) (place : ReadPath) (root : NPath) (result : Result Row FsEnd)
+    (looks : Looks (λ (old : WorldEvents D W) e answer new. HoldsServices old new × LeadsAt state to_come old.now (standing_of old) e answer (standing_of new)) user (place_below place root) a result b) where
+  pub look_reads : HoldsServices a b × OnlyRead state to_come a.now (standing_of a) (standing_of b)
+  look_reads =
+      let w = looks_on state to_come a b user (place_below place root) result looks in
+      (w.0, read_once state to_come a.now (standing_of a) (standing_of b) ready (look_once state to_come a.now (standing_of a) (standing_of b) user is_user (place_below place root) result w.1))
+
+  pub root_found : IsPlace place → root ≡ [] → (row : Row) → result ≡ Ok row → row_at (place_rows (table_of a.world.now) place) [] ≡ Some row
+  root_found is_place e row is =
+      let w = looks_on state to_come a b user (place_below place root) result looks in
+      let short : is_relative root ≡ true = ap is_relative e in
+      let found = row_found state to_come a.now (standing_of a) (standing_of b) ready user place root is_place short result w.1 in
+      ap (row_at (place_rows (table_of a.world.now) place)) (sym e) ∙ subst (λ (r : Result Row FsEnd). IfOk r (λ (row : Row). row_at (place_rows (table_of a.world.now) place) root ≡ Some row)) is found
+
+-- all that a copy of a place ensures, in one
+pub place_copied : (result : Result Copied FsEnd) (place : ReadPath) (path : NPath) (old new : Copying) → OnOk result (CopiesAll path (state_at place old) (state_at place new))
+    → IfOk result (λ (counts : Copied). counts.files ≡ count_by is_file (place_rows old.table place)) → IfOk result (λ (counts : Copied). counts.directories ≡ count_by is_directory (place_rows old.table place))
+    → OnOk result ((row : Row) × (row_at (place_rows old.table place) [] ≡ Some row) × (is_marked row ≡ true)) → IfOk result (λ (counts : Copied). CopiesPlace place path counts old new)
+place_copied (Ok counts) place path old new all files directories zone = record { all = all; files = files; directories = directories; zone = zone }
+place_copied (Err why) place path old new all files directories zone = tt
+
+-- from the table before the place was looked at
+pub from_kept : (result : Result Copied FsEnd) (place : ReadPath) (path : NPath) (t mid : NameTable) (vault : VaultState) (names : RunningNames) (copies : VaultState) (new : Copying) → mid ≡ t
+    → IfOk result (λ (counts : Copied). CopiesPlace place path counts (copying mid vault names copies) new) → IfOk result (λ (counts : Copied). CopiesPlace place path counts (copying t vault names copies) new)
+from_kept result place path t mid vault names copies new same copied = subst (λ (u : NameTable). IfOk result (λ (counts : Copied). CopiesPlace place path counts (copying u vault names copies) new)) same copied
+
+pub stopped_kept : (result : Result Copied FsEnd) (place : ReadPath) (path : NPath) (t mid : NameTable) (vault : VaultState) (names : RunningNames) (copies : VaultState) (new : Copying) → mid ≡ t
+    → OnErr result (StopsEarly path (state_at place (copying mid vault names copies)) (state_at place new)) → OnErr result (StopsPlace place path (copying t vault names copies) new)
+stopped_kept (Ok counts) place path t mid vault names copies new same stopped = tt
+stopped_kept (Err why) place path t mid vault names copies new same stopped = inl (subst (λ (u : NameTable). StopsEarly path (state_at place (copying u vault names copies)) (state_at place new)) same stopped)
+
+-- ---- the texts
+
+pub is_place : (bytes : List ℕ) (place : ReadPath) → read_raw_place bytes ≡ Some place → IsPlace place
+is_place bytes place e = record { ruled = raw-ruled bytes place e; whole = go (bytes_eq (take 14 bytes) raw) e }
+  where
+    whole : (o : Option ReadPath) → whole_directory o ≡ Some place → is_whole_snapshot place.snapshot ≡ true
+    whole None f = absurd cc
+    whole (Some it) f = inside (is_whole_snapshot it.snapshot) refl f
+      where
+        inside : (t : Bool) → is_whole_snapshot it.snapshot ≡ t → cond t (Some it) None ≡ Some place → is_whole_snapshot place.snapshot ≡ true
+        inside true g h = let same : it ≡ place = cc in ap (λ (p : ReadPath). is_whole_snapshot p.snapshot) (sym same) ∙ g
+        inside false g h = absurd cc
+
+    go : (t : Bool) → cond t (whole_directory (read_any_path (drop 14 bytes))) None ≡ Some place → is_whole_snapshot place.snapshot ≡ true
+    go true f = whole (read_any_path (drop 14 bytes)) f
+    go false f = absurd cc
+
+module _ (from to : List ℕ) (place : ReadPath) (path : NPath) (texts : AreTexts from to place path) (old new : Copying) where
+  pub zone_copied : (result : Result Copied FsEnd) → IfOk result (λ (counts : Copied). CopiesPlace place path counts old new) → IfOk result (λ (counts : Copied). CopiesZone from to counts old new)
+  zone_copied (Ok counts) copies = record { place = place; path = path; texts = texts; copies = copies }
+  zone_copied (Err why) copies = tt
+
+  pub zone_stopped : (result : Result Copied FsEnd) → OnErr result (StopsPlace place path old new) → OnErr result (StopsZone from to old new)
+  zone_stopped (Ok counts) stops = tt
+  zone_stopped (Err why) (inl part) = inl (record { place = place; path = path; texts = texts; part = part })
+  zone_stopped (Err why) (inr nothing) = inr nothing
+
+-- ---- what follows the events
+
+-- Whatever follows the events of the services follows these, and only events that read happened there too.
+pub reads_followed : {D W Y : Type 0} (state : D → DiskState) (to_come : W → ℕ → ℕ) (now : ℕ) (others : Leading Y) (R : Standing D W → Y → Type 0) → Follows (LeadsAt state to_come now) others R
+    → (a b : Standing D W) → Steps (ReadsOnce state to_come now) a b → (y : Y) → R a y → (z : Y) × Steps (ReadsOnceIn others) y z × R b z
+reads_followed state to_come now others R follow a b Done y r = (y, Done, r)
+reads_followed {D} {W} state to_come now others R follow a b (Then m n t (inl same)) y r =
+    let w = reads_followed state to_come now others R follow a m t y r in (w.0, w.1, subst (λ (v : Standing D W). R v w.0) (sym same) w.2)
+reads_followed state to_come now others R follow a b (Then m n t (inr (e, answer, only, leads))) y r =
+    let w = reads_followed state to_come now others R follow a m t y r in
+    let f = follow m n w.0 e answer w.2 leads in
+    (f.0, Then w.0 f.0 w.1 (inr (e, answer, only, f.1.0)), f.1.1)
+
+-- ---- over the other disk
+
+copied_over : (from to : List ℕ) (old new : Copying) (result : Result Copied FsEnd) → IfOk result (λ (counts : Copied). CopiesZone from to counts old new) → IfOk (copied_or result) (λ (counts : Copied). CopiesZone from to counts old new)
+copied_over from to old new (Ok counts) copies = copies
+copied_over from to old new (Err why) copies = tt
+
+stopped_over : (from to : List ℕ) (old new : Copying) (result : Result Copied FsEnd) → OnErr result (StopsZone from to old new) → OnErr (copied_or result) (StopsZone from to old new)
+stopped_over from to old new (Ok counts) stops = tt
+stopped_over from to old new (Err why) stops = stops
+
+pub from_ended : (from to : List ℕ) (ended : Result Copied FsEnd) (result : Result Copied CopyFault) → result ≡ copied_or ended → (t t' : NameTable) (vault vault' copies copies' : VaultState) (disk disk' : DiskState) (names left : RunningNames)
+    → OrdersNames disk disk' names left → IfOk ended (λ (counts : Copied). CopiesZone from to counts (copying t vault names copies) (copying t' vault' left copies')) → OnErr ended (StopsZone from to (copying t vault names copies) (copying t' vault' left copies'))
+    → CopiesFrom from to result t t' vault vault' copies copies' disk disk' names
+from_ended from to ended result is t t' vault vault' copies copies' disk disk' names left orders all part =
+    subst (λ (r : Result Copied CopyFault). CopiesFrom from to r t t' vault vault' copies copies' disk disk' names) (sym is)
+    (record {
+      left = left;
+      orders = orders;
+      copied = copied_over from to (copying t vault names copies) (copying t' vault' left copies') ended all;
+      stopped = stopped_over from to (copying t vault names copies) (copying t' vault' left copies') ended part;
+    })
+
+pub opened_copies : (batch : ℕ) (from to : List ℕ) (result : Result Copied CopyFault) (t t' : NameTable) (vault vault' copies copies' : VaultState) (disk mid disk' : DiskState) (names : RunningNames)
+    → Starts batch disk mid names → RunOn 1 disk mid → CopiesFrom from to result t t' vault vault' copies copies' mid disk' names → CopiesOpened batch from to result t t' vault vault' copies copies' disk disk'
+opened_copies batch from to result t t' vault vault' copies copies' disk mid disk' names s run work =
+    let o = work.orders in
+    let later = o.run in
+    record {
+      found = s.found;
+      names = names;
+      left = work.left;
+      opens = s.opens;
+      logged = o.logged;
+      log = λ telling.
+          let l = s.log telling in
+          (l.0, l.1, l.2, o.stands (subst (λ (b : Bool). IsTrue b) (sym run.tells) telling) (l.0 ++ (next_opening s.found ∷ [])) l.3);
+      tells = later.tells ∙ run.tells;
+      faults = let more = run.faults in let most = later.faults in omega (arith, more, most);
+      copied = work.copied;
+      stopped = work.stopped;
+    }

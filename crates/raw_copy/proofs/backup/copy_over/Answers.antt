@@ -1,0 +1,31 @@
+use Rattle.std.proofs.Common.{inl, inr, refl, subst, sym, IsTrue, Bool}
+use Rattle.std.specs.Prelude.{Result, IsErrOf}
+use Rattle.frame_log.specs.declared.fault.StartFault.{StartFault}
+use Rattle.name_core.specs.State.{RunningNames}
+use Rattle.name_store.specs.Store.{OpensNames}
+use Rattle.backup_names.proofs.OrderLemmas.{started_holds}
+use Rattle.raw_copy.proofs.CopyLemmas.{opened_copies, read_nothing}
+use Rattle.raw_copy.proofs.backup.copy_over.Goals as goal
+
+pub copy_from-requires-clause-holds : goal.copy_from-requires-clause-holds
+copy_from-requires-clause-holds g c = let h = started_holds c.args.batch (g.E.Disk.state c.args.backup.now) (g.E.Disk.state c.start.new.disk) c.in-Ok.name (λ telling. subst (λ (b : Bool). IsTrue b) c.start.ensures.opens.run.tells telling) c.in-Ok.ensures.started in h.0
+
+pub copy_from-requires-clause-settled : goal.copy_from-requires-clause-settled
+copy_from-requires-clause-settled g c = let h = started_holds c.args.batch (g.E.Disk.state c.args.backup.now) (g.E.Disk.state c.start.new.disk) c.in-Ok.name (λ telling. subst (λ (b : Bool). IsTrue b) c.start.ensures.opens.run.tells telling) c.in-Ok.ensures.started in h.1
+
+pub returns-in-Ok-clause-copies : goal.returns-in-Ok-clause-copies
+returns-in-Ok-clause-copies g c =
+    inr (opened_copies c.args.batch c.args.from.now c.args.to.now c.copy_from.result _ _ _ _ _ _ (g.E.Disk.state c.args.backup.now) (g.E.Disk.state c.start.new.disk) (g.E.Disk.state c.copy_from.new.backup) c.in-Ok.name c.in-Ok.ensures.started c.start.ensures.opens.run c.copy_from.ensures.copies)
+
+pub returns-in-Err-clause-copies : goal.returns-in-Err-clause-copies
+returns-in-Err-clause-copies g c = inl (record {
+  fault = c.in-Err.fault;
+  result_is = refl;
+  opens = subst (λ (r : Result RunningNames StartFault). OpensNames (g.E.Disk.state c.args.backup.now) (g.E.Disk.state c.start.new.disk) (IsErrOf r)) c.in-Err.is c.start.ensures.opens;
+  same_table = refl;
+  same_vault = refl;
+  same_copies = refl;
+})
+
+pub returns-in-Err-clause-read : goal.returns-in-Err-clause-read
+returns-in-Err-clause-read g c = read_nothing g.D.Disk.state g.W.Words.to_come c.args.now (record { disk = c.args.disk.now; world = c.args.world.now; words = c.args.rand.now }) c.requires.ready
