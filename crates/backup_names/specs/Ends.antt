@@ -29,8 +29,8 @@ finish_end (Err why) = Err (end_of_names why)
 
 -- by the reply to an info: the row that it shows
 abbrev pub row_end : NameReply → Result Row FsEnd
-row_end (reply.Dir id zone key) = Ok (record { id = id; kind = Dir key })
-row_end (reply.File id zone edek) = Ok (record { id = id; kind = File edek })
+row_end (reply.Dir id home key) = Ok (record { id = id; kind = Dir key })
+row_end (reply.File id home edek) = Ok (record { id = id; kind = File edek })
 row_end (reply.Refused why) = Err (end_of_names why)
 row_end _ = Err end.NoMemory
 
