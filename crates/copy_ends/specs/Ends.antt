@@ -7,7 +7,7 @@ use Rattle.command_io.specs.Ends.{Shows}
 use Rattle.row_copies.specs.declared.walk.Copied.{Copied}
 
 abbrev pub copied_line : Copied → List ℕ
-copied_line counts = codes "copied " ++ decimal counts.files ++ codes " " ++ decimal counts.directories ++ codes "\n"
+copied_line counts = codes "copied " ++ (decimal counts.files ++ (codes " " ++ (decimal counts.directories ++ codes "\n")))
 
 -- the edit log of the copies could not be opened
 
