@@ -1,7 +1,7 @@
 -- A copy that is read over two disks is read in a history.
-use Rattle.std.proofs.Common.{◌≡◌, ◌⊎◌, ◌≤◌, inl, inr, ⊎_elim, ℕ, List, [], ◌∷◌, ◌++◌, IsTrue, refl, ap, sym, ◌∙◌, subst, arith}
+use Rattle.std.proofs.Common.{◌≡◌, ◌⊎◌, inl, inr, ⊎_elim, ℕ, List, [], ◌∷◌, ◌++◌, IsTrue, refl, ap, sym, ◌∙◌, subst, arith}
 use Rattle.std.specs.Prelude.{Option, Result, Err, IsErrOf}
-use Rattle.hk_base.specs.Disk.{DiskState, Image, RunOn, Tells}
+use Rattle.hk_base.specs.Disk.{DiskState, RunOn, Tells}
 use Rattle.frame_log.specs.declared.fault.StartFault.{StartFault}
 use Rattle.frame_log.specs.declared.fault.StartFault.TheVariants as start
 use Rattle.inode_tree.specs.Rows.{Entry}
@@ -15,11 +15,10 @@ use Rattle.world_run.specs.Acknowledged.{LeavesBoth, RunBoth}
 use Rattle.world_run.specs.Drives.{Standing}
 use Rattle.world_run.specs.Keeps.{Begins, LeftByStarts}
 use Rattle.world_run.specs.Ledger.{Past}
-use Rattle.world_run.specs.Linked.{SoundFiles, StartsSound}
-use Rattle.world_run.proofs.KeptLemmas.{image_kept}
+use Rattle.world_run.specs.Linked.{StartsSound}
 use Rattle.hk_runs.specs.Headline.{NothingHappened}
 use Rattle.hk_runs.specs.Steps.{HasLists}
-use Rattle.hk_runs.proofs.HeadlineLemmas.{Ends, Unmoved, unmoved_keeps}
+use Rattle.hk_runs.proofs.HeadlineLemmas.{Ends, Unmoved, unmoved_keeps, unopened_keeps}
 use Rattle.file_orders.specs.Events.{Leading}
 use Rattle.file_orders.specs.declared.ends.FsEnd.{FsEnd}
 use Rattle.backup_names.specs.Orders.{HoldsNames, IsSettled, OrdersNames}
@@ -142,17 +141,6 @@ module _ {D W : Type 0} (state : D → DiskState) (to_come : W → ℕ → ℕ) 
 -- ---- what is kept
 
 module _ (past : Past) (old new : DiskState) (tells : Tells old) (sound : StartsSound old past) (ends : Ends old new) where
-  -- a log of the first cluster could not be opened
-  unopened_keeps : {same : Type 0} → same → LeavesBoth old new (LeftByStarts old) → old.moment ≤ new.moment → NothingHappened same past old new
-  unopened_keeps untouched moments later = record {
-    untouched = untouched;
-    images = λ c since. image_kept past c (sound_of c since);
-    again = λ c is. sound_of c (ends.counts old.moment c later is);
-  }
-    where
-      sound_of : (c : Image) → new.left_since old.moment c → SoundFiles past c
-      sound_of c since = ⊎_elim (λ at_start. sound c (ends.only c at_start)) (λ (opening : LeftByStarts old c). opening.sound past sound) (moments.before old.moment c (omega arith) since)
-
   pub copy_keeps : (same_disk same_backup same : Type 0) (user path : List ℕ) (from count : ℕ) (backup backup' : DiskState) (acls acls' : Option (List ℕ)) (words words' : ℕ → ℕ) (copies copies' : VaultState) (written now : Option (List ℕ)) (status : ℕ)
       → (same_disk → Unmoved old new) → ReadsCopyFile same_disk same_backup same user path from count old new backup backup' acls acls' words words' copies copies' written now status
       → NothingHappened (same_backup × same) past old new ⊎ CopyKept past same user path from count old new backup backup' acls acls' words words' copies copies' written now status
@@ -161,5 +149,5 @@ module _ (past : Past) (old new : DiskState) (tells : Tells old) (sound : Starts
     where
       under : CopyUnder with.props same_backup same user path from count old new backup backup' words words' copies copies' written now status
           → NothingHappened (same_backup × same) past old new ⊎ CopyKept past same user path from count old new backup backup' acls acls' words words' copies copies' written now status
-      under (inl not) = inl (unopened_keeps not.untouched (not.not_opened.any_moment tells) not.not_opened.run.later)
+      under (inl not) = inl (unopened_keeps past old new tells sound not.untouched ends (not.not_opened.any_moment tells) not.not_opened.run.later)
       under (inr range) = inr (record { props = with.props; read = with.read; range = range; keeps = worked_keeps past with.props old new words words' tells sound ends range.worked })

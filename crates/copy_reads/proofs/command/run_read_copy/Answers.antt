@@ -15,7 +15,7 @@ returns-in-Err-clause-kept g c tells past sound =
 pub returns-clause-kept : goal.returns-clause-kept
 returns-clause-kept g c tells past sound =
     copy_keeps past (g.D.Disk.state c.args.disk.now) (g.D.Disk.state c.read_under-status.new.disk) tells sound
-    (record { only = g.met.D.Disk.only_now c.args.disk.now; counts = g.met.D.Disk.counts_now c.read_under-status.new.disk }) (c.read_under-status.new.disk ≡ c.args.disk.now) _ _ c.args.user.now c.args.path.now c.args.from c.args.count _ _ _ _ _ _ _ _ _ _ _
+    (record { reads = λ tells file lt. g.met.D.Disk.is_one c.args.disk.now file tells lt; only = g.met.D.Disk.only_now c.args.disk.now; counts = g.met.D.Disk.counts_now c.read_under-status.new.disk }) (c.read_under-status.new.disk ≡ c.args.disk.now) _ _ c.args.user.now c.args.path.now c.args.from c.args.count _ _ _ _ _ _ _ _ _ _ _
     (unmoved g.D.Disk.state c.args.disk.now c.read_under-status.new.disk (g.met.D.Disk.only_now c.args.disk.now)) (inr (record { props = c.in-Ok.props; read = c.in-Ok.ensures.read; range = c.read_under-status.ensures.read }))
 
 pub returns-in-Err-clause-store_fault : goal.returns-in-Err-clause-store_fault
