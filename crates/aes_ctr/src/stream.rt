@@ -45,10 +45,6 @@ pub(crate) fn eight_stream_blocks(key: &AnyAes, counter: [u8; 16], j: u64) -> [[
     requires { j + 7 < 2 ^ 64 }
     ensures { result ≡ eight_stream_blocks (key_of key.now) counter j }
 {
-    let block = counter_block(counter, j);
-    if block[15] < 249 {
-        return key.encrypt_eight(&block);
-    }
     [
         stream_block(key, counter, j),
         stream_block(key, counter, j + 1),

@@ -183,7 +183,7 @@ impl World {
     }
 
     /// Recalls what both services keep by themselves.
-    pub(crate) fn fits(&self)
+    pub fn fits(&self)
         ensures fits { ServicesFit (world_of self.now) }
         // The key log is that of file 0.
         ensures keys_file { self.now.keys.store.log.file ≡ 0 }
