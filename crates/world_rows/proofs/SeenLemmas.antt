@@ -4,6 +4,7 @@ use Rattle.std.specs.Prelude.{◌==◌}
 use Rattle.std.specs.List.{filter}
 use Rattle.std.specs.Str.{bytes_eq}
 use Rattle.std.proofs.lemmas.Bool.Decides.{nat_tests}
+use Rattle.std.proofs.lemmas.Bool.{and_parts}
 use Rattle.name_calls.specs.declared.listing.Child.{Child}
 use Rattle.name_calls.specs.declared.read_paths.ReadPath.{ReadPath}
 use Rattle.name_calls.specs.declared.read_paths.SnapPart.{SnapPart}
@@ -38,12 +39,8 @@ last-same [] b y = refl
 last-same (a ∷ []) b y = refl
 last-same (a ∷ c ∷ p) b y = last-same (c ∷ p) b y
 
-and-parts : (a b : Bool) → (a && b) ≡ true → (a ≡ true) × (b ≡ true)
-and-parts true b h = (refl, h)
-and-parts false b h = cc
-
 no-child : (q : List (List ℕ)) → is_child q [] ≡ true → ⊥
-no-child q h = let w = (and-parts (is_prefix q []) (0 == length q + 1) h).1 in less (length q) w
+no-child q h = let w = (and_parts (is_prefix q []) (0 == length q + 1) h).1 in less (length q) w
   where
     less : (n : ℕ) → (0 == n + 1) ≡ true → ⊥
     less n e = grind (arith, nat_tests)
