@@ -1,4 +1,5 @@
 pub mod EnteredLemmas
 pub mod KindLemmas
 pub mod OrderLemmas
+pub mod PlainLemmas
 pub mod ValueLemmas

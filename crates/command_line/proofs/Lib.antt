@@ -3,5 +3,4 @@ pub mod KindLemmas
 mod LoadLemmas
 mod NumberLemmas
 pub mod OrderLemmas
-mod PlainLemmas
 mod SpellingLemmas
