@@ -1,5 +1,3 @@
-pub mod EnteredLemmas
-pub mod KindLemmas
 mod LoadLemmas
 mod NumberLemmas
 pub mod OrderLemmas

@@ -1,21 +1,21 @@
 -- The words of `load`.
-use Rattle.std.proofs.Common.{refl, codes, List, [], ◌∷◌, ◌≡◌, ◌≢◌, ◌<◌, ◌≤◌, ◌^◌, ◌⊎◌, inl, inr, ap, ◌∙◌, sym, subst, arith, ℕ, Bool, true, false, ◌&&◌}
+use Rattle.std.proofs.Common.{refl, codes, List, [], ◌∷◌, ◌≡◌, ◌<◌, ◌≤◌, ◌^◌, ◌⊎◌, inl, inr, ap, ◌∙◌, arith, ℕ, Bool, true, false, ◌&&◌}
 use Rattle.std.proofs.lemmas.Bool.Decides.{nat_tests}
 use Rattle.std.proofs.lemmas.Result.{IfOk-weaker}
 use Rattle.std.specs.Prelude.{Option, Some, None, Result, IfOk, if◌then◌else◌, nat_le, option_and_then}
 use Rattle.std.specs.Fmt.{decimal}
 use Rattle.std.specs.Str.{bytes_eq}
 use Rattle.std.specs.Str.Parse.{digits_value}
-use Rattle.clap.specs.Kinds.{Kinds, IsAmong, or_else}
 use Rattle.clap.specs.Words.{Row, Text, fault_of, first_of, subcommand_of}
 use Rattle.clap.proofs.OnLiterals.{clap_on_literals}
-use Rattle.clap.specs.declared.error.ErrorKind.{ErrorKind}
-use Rattle.clap.specs.declared.error.ErrorKind.TheVariants.{DisplayHelp, DisplayVersion, MissingRequiredArgument, UnknownArgument, ValueValidation}
+use Rattle.clap.specs.declared.error.ErrorKind.TheVariants.{MissingRequiredArgument, UnknownArgument, ValueValidation}
+use Rattle.clap_lines.specs.Orders.{IsMistake, order_at}
+use Rattle.clap_lines.specs.declared.told.OrderFault.{OrderFault}
+use Rattle.clap_lines.proofs.OrderLemmas.{refused_by_clap}
 use Rattle.command_line.specs.Line as line
-use Rattle.command_line.specs.Orders.{Answers, HasRightCount, IsMistake, IsRightCount, Names, conns_at, count_at, in_range, line_fault, load_order, number_at, numbers_fault, order_at, places_at, port_at, serve_order}
+use Rattle.command_line.specs.Orders.{Answers, HasRightCount, IsRightCount, Names, conns_at, count_at, in_range, line_fault, load_order, number_at, order_named, places_at, port_at, serve_order}
 use Rattle.command_line.specs.declared.order.Order.{Order}
 use Rattle.command_line.specs.declared.order.Order.TheVariants.{Replay, Pipe, Serve, Load, Help, Version}
-use Rattle.command_line.specs.declared.order.OrderFault.{OrderFault}
 use Rattle.command_line.proofs.NumberLemmas.{IsNumberWord, IsRefusedWord, number_at-word, number_word, other_number}
 use Rattle.command_line.proofs.SpellingLemmas.{Reading, reading_at}
 
@@ -25,7 +25,7 @@ fault_load : (t : Text) → IsNumberWord 20000 t → fault_of line.hkms (codes "
 unfolding clap_on_literals
 fault_load t w = rw (w.no_dashes, w.no_long, w.no_short, w.accepted) refl
 
-order_load : (t : Text) → IsNumberWord 20000 t → order_at (subcommand_of line.hkms (codes "load" ∷ t ∷ [])) ≡ load_order (number_at 20000 t)
+order_load : (t : Text) → IsNumberWord 20000 t → order_at order_named (subcommand_of line.hkms (codes "load" ∷ t ∷ [])) ≡ load_order (number_at 20000 t)
 unfolding clap_on_literals
 order_load t w = rw (w.no_dashes, w.no_long, w.no_short) refl
 
@@ -68,7 +68,7 @@ no_load (Some port) (Some conns) None count e = cc
 no_load (Some port) None places count e = cc
 no_load None conns places count e = cc
 
-entered_count : (entered : Option (Text × List Row)) (count : ℕ) → order_at entered ≡ Some (Load count) → IsRightCount count
+entered_count : (entered : Option (Text × List Row)) (count : ℕ) → order_at order_named entered ≡ Some (Load count) → IsRightCount count
 entered_count None count e = cc
 entered_count (Some command) count e = by (bytes_eq command.0 (codes "serve")) (bytes_eq command.0 (codes "load")) (bytes_eq command.0 (codes "replay")) (bytes_eq command.0 (codes "pipe")) e
   where
@@ -100,21 +100,6 @@ named_count count words names = entered_count (subcommand_of line.hkms words) co
 
 -- ---- what is refused
 
-one_mistake : (kinds : Kinds) (kind : ErrorKind) → kinds ≡ kind ∷ [] → kind ≢ DisplayHelp → kind ≢ DisplayVersion → IsMistake kinds
-one_mistake kinds kind is no_help no_version = (
-  λ e. let bad : kind ∷ [] ≡ [] = sym is ∙ e in cc,
-  λ k among. of (subst (IsAmong k) is among),
-)
-  where
-    of : {k : ErrorKind} → IsAmong k (kind ∷ []) → (k ≢ DisplayHelp) × (k ≢ DisplayVersion)
-    of (inl e) = ((λ h. no_help (sym e ∙ h)), (λ v. no_version (sym e ∙ v)))
-    of (inr none) = absurd none
-
--- what clap refuses is refused
-refused_by_clap : (words : List Text) (kind : ErrorKind) → fault_of line.hkms words ≡ kind ∷ [] → kind ≢ DisplayHelp → kind ≢ DisplayVersion → IsMistake (line_fault words)
-refused_by_clap words kind is no_help no_version =
-    one_mistake (line_fault words) kind (ap (λ (kinds : Kinds). or_else kinds (numbers_fault (subcommand_of line.hkms words))) is) no_help no_version
-
 fault_other : (t : Text) → IsRefusedWord 20000 t → fault_of line.hkms (codes "load" ∷ t ∷ []) ≡ ValueValidation ∷ []
 unfolding clap_on_literals
 fault_other t w = rw (w.no_dashes, w.no_long, w.no_short, w.refused) refl
@@ -129,16 +114,16 @@ beyond number wrong = by (nat_le 1 number) (nat_le number 20000) refl refl
 
 pub wrong_count_is_refused : (number : ℕ) → number < 2 ^ 64 → ¬ IsRightCount number → IsMistake (line_fault (codes "load" ∷ decimal number ∷ []))
 wrong_count_is_refused number small wrong =
-    refused_by_clap _ ValueValidation (fault_other (decimal number) (other_number 20000 number small (beyond number wrong))) (λ e. cc) (λ e. cc)
+    refused_by_clap line.hkms order_named _ ValueValidation (fault_other (decimal number) (other_number 20000 number small (beyond number wrong))) (λ e. cc) (λ e. cc)
 
 pub no_number_is_refused : IsMistake (line_fault (codes "load" ∷ codes "one" ∷ []))
 unfolding clap_on_literals
-no_number_is_refused = refused_by_clap (codes "load" ∷ codes "one" ∷ []) ValueValidation refl (λ e. cc) (λ e. cc)
+no_number_is_refused = refused_by_clap line.hkms order_named (codes "load" ∷ codes "one" ∷ []) ValueValidation refl (λ e. cc) (λ e. cc)
 
 pub no_word_is_refused : IsMistake (line_fault (codes "load" ∷ []))
 unfolding clap_on_literals
-no_word_is_refused = refused_by_clap (codes "load" ∷ []) MissingRequiredArgument refl (λ e. cc) (λ e. cc)
+no_word_is_refused = refused_by_clap line.hkms order_named (codes "load" ∷ []) MissingRequiredArgument refl (λ e. cc) (λ e. cc)
 
 pub one_more_is_refused : IsMistake (line_fault (codes "load" ∷ codes "1" ∷ codes "2" ∷ []))
 unfolding clap_on_literals
-one_more_is_refused = refused_by_clap (codes "load" ∷ codes "1" ∷ codes "2" ∷ []) UnknownArgument refl (λ e. cc) (λ e. cc)
+one_more_is_refused = refused_by_clap line.hkms order_named (codes "load" ∷ codes "1" ∷ codes "2" ∷ []) UnknownArgument refl (λ e. cc) (λ e. cc)

@@ -1,23 +1,24 @@
 -- The words of `serve` with its options, each in either of its two forms.
-use Rattle.std.proofs.Common.{refl, codes, List, [], ◌∷◌, ◌++◌, ◌≡◌, inl, inr, ap, ap₂, ◌∙◌, sym, subst, arith, ℕ, ◌≤◌}
+use Rattle.std.proofs.Common.{refl, codes, List, [], ◌∷◌, ◌++◌, ◌≡◌, inl, inr, ap, ap₂, ◌∙◌, sym, arith, ℕ, ◌≤◌}
 use Rattle.std.specs.Prelude.{Some}
 use Rattle.std.specs.Fmt.{decimal}
 use Rattle.clap.specs.Words.{fault_of, subcommand_of, Text}
 use Rattle.clap.proofs.OnLiterals.{clap_on_literals}
+use Rattle.clap_lines.specs.Orders.{order_at}
+use Rattle.clap_lines.proofs.OrderLemmas.{named_at}
 use Rattle.command_line.specs.Line as line
-use Rattle.command_line.specs.Orders.{IsOption, IsServe, line_fault, number_at, order_at, serve_order}
+use Rattle.command_line.specs.Orders.{IsOption, IsServe, Names, number_at, order_named, serve_order}
 use Rattle.command_line.specs.declared.order.Order.{Order}
 use Rattle.command_line.specs.declared.order.Order.TheVariants.{Serve}
-use Rattle.command_line.proofs.EnteredLemmas.{no_number_is_refused}
 use Rattle.command_line.proofs.NumberLemmas.{IsNumberWord, number_at-word, number_word}
 
 -- clap finds no mistake in the words, and this order
 unfoldable pub Reading : List Text → Order → Type 0
-Reading words o = (line_fault words ≡ []) × (order_at (subcommand_of line.hkms words) ≡ Some o)
+Reading words o = Names o words
 
-pub reading_at : (words at : List Text) (o : Order) → words ≡ at → fault_of line.hkms at ≡ [] → order_at (subcommand_of line.hkms at) ≡ Some o → Reading words o
+pub reading_at : (words at : List Text) (o : Order) → words ≡ at → fault_of line.hkms at ≡ [] → order_at order_named (subcommand_of line.hkms at) ≡ Some o → Reading words o
 unfolding Reading
-reading_at words at o e f g = subst (λ (w : List Text). (line_fault w ≡ []) × (order_at (subcommand_of line.hkms w) ≡ Some o)) (sym e) (no_number_is_refused at o f g, g)
+reading_at words at o e f g = named_at line.hkms order_named words at o e f g
 
 three : {A B C D : Type 0} (f : A → B → C → D) {a a' : A} {b b' : B} {c c' : C} → a ≡ a' → b ≡ b' → c ≡ c' → f a b c ≡ f a' b' c'
 three f p q r = λ i. f (p i) (q i) (r i)
@@ -28,7 +29,7 @@ fault_alone : fault_of line.hkms (codes "serve" ∷ []) ≡ []
 unfolding clap_on_literals
 fault_alone = refl
 
-order_alone : order_at (subcommand_of line.hkms (codes "serve" ∷ [])) ≡ serve_order (Some 9600) (Some 4294967295) (Some 16)
+order_alone : order_at order_named (subcommand_of line.hkms (codes "serve" ∷ [])) ≡ serve_order (Some 9600) (Some 4294967295) (Some 16)
 unfolding clap_on_literals
 order_alone = refl
 
@@ -36,7 +37,7 @@ fault_port : (t : Text) → IsNumberWord 65535 t → fault_of line.hkms (codes "
 unfolding clap_on_literals
 fault_port t w = rw (w.no_dashes, w.no_long, w.no_short, w.accepted) refl
 
-order_port : (t : Text) → IsNumberWord 65535 t → order_at (subcommand_of line.hkms (codes "serve" ∷ codes "--port" ∷ t ∷ [])) ≡ serve_order (number_at 65535 t) (Some 4294967295) (Some 16)
+order_port : (t : Text) → IsNumberWord 65535 t → order_at order_named (subcommand_of line.hkms (codes "serve" ∷ codes "--port" ∷ t ∷ [])) ≡ serve_order (number_at 65535 t) (Some 4294967295) (Some 16)
 unfolding clap_on_literals
 order_port t w = rw (w.no_dashes, w.no_long, w.no_short) refl
 
@@ -44,7 +45,7 @@ fault_port_joined : (t : Text) → IsNumberWord 65535 t → fault_of line.hkms (
 unfolding clap_on_literals
 fault_port_joined t w = rw w.accepted refl
 
-order_port_joined : (t : Text) → IsNumberWord 65535 t → order_at (subcommand_of line.hkms (codes "serve" ∷ (codes "--port" ++ 61 ∷ t) ∷ [])) ≡ serve_order (number_at 65535 t) (Some 4294967295) (Some 16)
+order_port_joined : (t : Text) → IsNumberWord 65535 t → order_at order_named (subcommand_of line.hkms (codes "serve" ∷ (codes "--port" ++ 61 ∷ t) ∷ [])) ≡ serve_order (number_at 65535 t) (Some 4294967295) (Some 16)
 unfolding clap_on_literals
 order_port_joined t w = refl
 
@@ -52,7 +53,7 @@ fault_conns : (u : Text) → IsNumberWord 4294967295 u → fault_of line.hkms (c
 unfolding clap_on_literals
 fault_conns u v = rw (v.no_dashes, v.no_long, v.no_short, v.accepted) refl
 
-order_conns : (u : Text) → IsNumberWord 4294967295 u → order_at (subcommand_of line.hkms (codes "serve" ∷ codes "--conns" ∷ u ∷ [])) ≡ serve_order (Some 9600) (number_at 4294967295 u) (Some 16)
+order_conns : (u : Text) → IsNumberWord 4294967295 u → order_at order_named (subcommand_of line.hkms (codes "serve" ∷ codes "--conns" ∷ u ∷ [])) ≡ serve_order (Some 9600) (number_at 4294967295 u) (Some 16)
 unfolding clap_on_literals
 order_conns u v = rw (v.no_dashes, v.no_long, v.no_short) refl
 
@@ -60,7 +61,7 @@ fault_conns_joined : (u : Text) → IsNumberWord 4294967295 u → fault_of line.
 unfolding clap_on_literals
 fault_conns_joined u v = rw v.accepted refl
 
-order_conns_joined : (u : Text) → IsNumberWord 4294967295 u → order_at (subcommand_of line.hkms (codes "serve" ∷ (codes "--conns" ++ 61 ∷ u) ∷ [])) ≡ serve_order (Some 9600) (number_at 4294967295 u) (Some 16)
+order_conns_joined : (u : Text) → IsNumberWord 4294967295 u → order_at order_named (subcommand_of line.hkms (codes "serve" ∷ (codes "--conns" ++ 61 ∷ u) ∷ [])) ≡ serve_order (Some 9600) (number_at 4294967295 u) (Some 16)
 unfolding clap_on_literals
 order_conns_joined u v = refl
 
@@ -68,7 +69,7 @@ fault_places : (x : Text) → IsNumberWord 1024 x → fault_of line.hkms (codes 
 unfolding clap_on_literals
 fault_places x y = rw (y.no_dashes, y.no_long, y.no_short, y.accepted) refl
 
-order_places : (x : Text) → IsNumberWord 1024 x → order_at (subcommand_of line.hkms (codes "serve" ∷ codes "--connections" ∷ x ∷ [])) ≡ serve_order (Some 9600) (Some 4294967295) (number_at 1024 x)
+order_places : (x : Text) → IsNumberWord 1024 x → order_at order_named (subcommand_of line.hkms (codes "serve" ∷ codes "--connections" ∷ x ∷ [])) ≡ serve_order (Some 9600) (Some 4294967295) (number_at 1024 x)
 unfolding clap_on_literals
 order_places x y = rw (y.no_dashes, y.no_long, y.no_short) refl
 
@@ -76,7 +77,7 @@ fault_places_joined : (x : Text) → IsNumberWord 1024 x → fault_of line.hkms 
 unfolding clap_on_literals
 fault_places_joined x y = rw y.accepted refl
 
-order_places_joined : (x : Text) → IsNumberWord 1024 x → order_at (subcommand_of line.hkms (codes "serve" ∷ (codes "--connections" ++ 61 ∷ x) ∷ [])) ≡ serve_order (Some 9600) (Some 4294967295) (number_at 1024 x)
+order_places_joined : (x : Text) → IsNumberWord 1024 x → order_at order_named (subcommand_of line.hkms (codes "serve" ∷ (codes "--connections" ++ 61 ∷ x) ∷ [])) ≡ serve_order (Some 9600) (Some 4294967295) (number_at 1024 x)
 unfolding clap_on_literals
 order_places_joined x y = refl
 
@@ -84,7 +85,7 @@ fault_port_conns : (t u : Text) → IsNumberWord 65535 t → IsNumberWord 429496
 unfolding clap_on_literals
 fault_port_conns t u w v = rw (w.no_dashes, w.no_long, w.no_short, w.accepted, v.no_dashes, v.no_long, v.no_short, v.accepted) refl
 
-order_port_conns : (t u : Text) → IsNumberWord 65535 t → IsNumberWord 4294967295 u → order_at (subcommand_of line.hkms (codes "serve" ∷ codes "--port" ∷ t ∷ codes "--conns" ∷ u ∷ [])) ≡ serve_order (number_at 65535 t) (number_at 4294967295 u) (Some 16)
+order_port_conns : (t u : Text) → IsNumberWord 65535 t → IsNumberWord 4294967295 u → order_at order_named (subcommand_of line.hkms (codes "serve" ∷ codes "--port" ∷ t ∷ codes "--conns" ∷ u ∷ [])) ≡ serve_order (number_at 65535 t) (number_at 4294967295 u) (Some 16)
 unfolding clap_on_literals
 order_port_conns t u w v = rw (w.no_dashes, w.no_long, w.no_short, v.no_dashes, v.no_long, v.no_short) refl
 
@@ -92,7 +93,7 @@ fault_port_conns_joined : (t u : Text) → IsNumberWord 65535 t → IsNumberWord
 unfolding clap_on_literals
 fault_port_conns_joined t u w v = rw (w.no_dashes, w.no_long, w.no_short, w.accepted, v.accepted) refl
 
-order_port_conns_joined : (t u : Text) → IsNumberWord 65535 t → IsNumberWord 4294967295 u → order_at (subcommand_of line.hkms (codes "serve" ∷ codes "--port" ∷ t ∷ (codes "--conns" ++ 61 ∷ u) ∷ [])) ≡ serve_order (number_at 65535 t) (number_at 4294967295 u) (Some 16)
+order_port_conns_joined : (t u : Text) → IsNumberWord 65535 t → IsNumberWord 4294967295 u → order_at order_named (subcommand_of line.hkms (codes "serve" ∷ codes "--port" ∷ t ∷ (codes "--conns" ++ 61 ∷ u) ∷ [])) ≡ serve_order (number_at 65535 t) (number_at 4294967295 u) (Some 16)
 unfolding clap_on_literals
 order_port_conns_joined t u w v = rw (w.no_dashes, w.no_long, w.no_short) refl
 
@@ -100,7 +101,7 @@ fault_port_joined_conns : (t u : Text) → IsNumberWord 65535 t → IsNumberWord
 unfolding clap_on_literals
 fault_port_joined_conns t u w v = rw (w.accepted, v.no_dashes, v.no_long, v.no_short, v.accepted) refl
 
-order_port_joined_conns : (t u : Text) → IsNumberWord 65535 t → IsNumberWord 4294967295 u → order_at (subcommand_of line.hkms (codes "serve" ∷ (codes "--port" ++ 61 ∷ t) ∷ codes "--conns" ∷ u ∷ [])) ≡ serve_order (number_at 65535 t) (number_at 4294967295 u) (Some 16)
+order_port_joined_conns : (t u : Text) → IsNumberWord 65535 t → IsNumberWord 4294967295 u → order_at order_named (subcommand_of line.hkms (codes "serve" ∷ (codes "--port" ++ 61 ∷ t) ∷ codes "--conns" ∷ u ∷ [])) ≡ serve_order (number_at 65535 t) (number_at 4294967295 u) (Some 16)
 unfolding clap_on_literals
 order_port_joined_conns t u w v = rw (v.no_dashes, v.no_long, v.no_short) refl
 
@@ -108,7 +109,7 @@ fault_port_joined_conns_joined : (t u : Text) → IsNumberWord 65535 t → IsNum
 unfolding clap_on_literals
 fault_port_joined_conns_joined t u w v = rw (w.accepted, v.accepted) refl
 
-order_port_joined_conns_joined : (t u : Text) → IsNumberWord 65535 t → IsNumberWord 4294967295 u → order_at (subcommand_of line.hkms (codes "serve" ∷ (codes "--port" ++ 61 ∷ t) ∷ (codes "--conns" ++ 61 ∷ u) ∷ [])) ≡ serve_order (number_at 65535 t) (number_at 4294967295 u) (Some 16)
+order_port_joined_conns_joined : (t u : Text) → IsNumberWord 65535 t → IsNumberWord 4294967295 u → order_at order_named (subcommand_of line.hkms (codes "serve" ∷ (codes "--port" ++ 61 ∷ t) ∷ (codes "--conns" ++ 61 ∷ u) ∷ [])) ≡ serve_order (number_at 65535 t) (number_at 4294967295 u) (Some 16)
 unfolding clap_on_literals
 order_port_joined_conns_joined t u w v = refl
 
@@ -116,7 +117,7 @@ fault_conns_port : (u t : Text) → IsNumberWord 4294967295 u → IsNumberWord 6
 unfolding clap_on_literals
 fault_conns_port u t v w = rw (v.no_dashes, v.no_long, v.no_short, v.accepted, w.no_dashes, w.no_long, w.no_short, w.accepted) refl
 
-order_conns_port : (u t : Text) → IsNumberWord 4294967295 u → IsNumberWord 65535 t → order_at (subcommand_of line.hkms (codes "serve" ∷ codes "--conns" ∷ u ∷ codes "--port" ∷ t ∷ [])) ≡ serve_order (number_at 65535 t) (number_at 4294967295 u) (Some 16)
+order_conns_port : (u t : Text) → IsNumberWord 4294967295 u → IsNumberWord 65535 t → order_at order_named (subcommand_of line.hkms (codes "serve" ∷ codes "--conns" ∷ u ∷ codes "--port" ∷ t ∷ [])) ≡ serve_order (number_at 65535 t) (number_at 4294967295 u) (Some 16)
 unfolding clap_on_literals
 order_conns_port u t v w = rw (v.no_dashes, v.no_long, v.no_short, w.no_dashes, w.no_long, w.no_short) refl
 
@@ -124,7 +125,7 @@ fault_conns_port_joined : (u t : Text) → IsNumberWord 4294967295 u → IsNumbe
 unfolding clap_on_literals
 fault_conns_port_joined u t v w = rw (v.no_dashes, v.no_long, v.no_short, v.accepted, w.accepted) refl
 
-order_conns_port_joined : (u t : Text) → IsNumberWord 4294967295 u → IsNumberWord 65535 t → order_at (subcommand_of line.hkms (codes "serve" ∷ codes "--conns" ∷ u ∷ (codes "--port" ++ 61 ∷ t) ∷ [])) ≡ serve_order (number_at 65535 t) (number_at 4294967295 u) (Some 16)
+order_conns_port_joined : (u t : Text) → IsNumberWord 4294967295 u → IsNumberWord 65535 t → order_at order_named (subcommand_of line.hkms (codes "serve" ∷ codes "--conns" ∷ u ∷ (codes "--port" ++ 61 ∷ t) ∷ [])) ≡ serve_order (number_at 65535 t) (number_at 4294967295 u) (Some 16)
 unfolding clap_on_literals
 order_conns_port_joined u t v w = rw (v.no_dashes, v.no_long, v.no_short) refl
 
@@ -132,7 +133,7 @@ fault_conns_joined_port : (u t : Text) → IsNumberWord 4294967295 u → IsNumbe
 unfolding clap_on_literals
 fault_conns_joined_port u t v w = rw (v.accepted, w.no_dashes, w.no_long, w.no_short, w.accepted) refl
 
-order_conns_joined_port : (u t : Text) → IsNumberWord 4294967295 u → IsNumberWord 65535 t → order_at (subcommand_of line.hkms (codes "serve" ∷ (codes "--conns" ++ 61 ∷ u) ∷ codes "--port" ∷ t ∷ [])) ≡ serve_order (number_at 65535 t) (number_at 4294967295 u) (Some 16)
+order_conns_joined_port : (u t : Text) → IsNumberWord 4294967295 u → IsNumberWord 65535 t → order_at order_named (subcommand_of line.hkms (codes "serve" ∷ (codes "--conns" ++ 61 ∷ u) ∷ codes "--port" ∷ t ∷ [])) ≡ serve_order (number_at 65535 t) (number_at 4294967295 u) (Some 16)
 unfolding clap_on_literals
 order_conns_joined_port u t v w = rw (w.no_dashes, w.no_long, w.no_short) refl
 
@@ -140,7 +141,7 @@ fault_conns_joined_port_joined : (u t : Text) → IsNumberWord 4294967295 u → 
 unfolding clap_on_literals
 fault_conns_joined_port_joined u t v w = rw (v.accepted, w.accepted) refl
 
-order_conns_joined_port_joined : (u t : Text) → IsNumberWord 4294967295 u → IsNumberWord 65535 t → order_at (subcommand_of line.hkms (codes "serve" ∷ (codes "--conns" ++ 61 ∷ u) ∷ (codes "--port" ++ 61 ∷ t) ∷ [])) ≡ serve_order (number_at 65535 t) (number_at 4294967295 u) (Some 16)
+order_conns_joined_port_joined : (u t : Text) → IsNumberWord 4294967295 u → IsNumberWord 65535 t → order_at order_named (subcommand_of line.hkms (codes "serve" ∷ (codes "--conns" ++ 61 ∷ u) ∷ (codes "--port" ++ 61 ∷ t) ∷ [])) ≡ serve_order (number_at 65535 t) (number_at 4294967295 u) (Some 16)
 unfolding clap_on_literals
 order_conns_joined_port_joined u t v w = refl
 

@@ -1,18 +1,18 @@
 -- The orders that the words of a command line give.
-use Rattle.std.specs.Prelude.{◌≡◌, ◌≢◌, ◌≤◌, ◌⊎◌, ◌&&◌, ℕ, List, [], ◌∷◌, ◌++◌, codes, nat_le, Option, Some, None, if◌then◌else◌, option_and_then, option_map, Result, MatchResult}
+use Rattle.std.specs.Prelude.{◌≡◌, ◌≤◌, ◌⊎◌, ◌&&◌, ℕ, List, [], ◌∷◌, ◌++◌, codes, nat_le, Option, Some, None, if◌then◌else◌, option_and_then, option_map}
 use Rattle.std.specs.Fmt.{decimal}
 use Rattle.std.specs.Option.{option_map_or}
 use Rattle.std.specs.Str.{bytes_eq}
 use Rattle.std.specs.Str.Parse.{digits_value}
-use Rattle.clap.specs.Kinds.{or_else}
-use Rattle.clap.specs.Words.{Kinds, IsAmong, Row, Text, fault_of, first_of, subcommand_of}
-use Rattle.clap.specs.declared.error.ErrorKind.{ErrorKind}
-use Rattle.clap.specs.declared.error.ErrorKind.TheVariants.{DisplayHelp, DisplayVersion, ValueValidation}
+use Rattle.clap.specs.Words.{Kinds, IsAmong, Row, Text, first_of}
+use Rattle.clap.specs.declared.error.ErrorKind.TheVariants.{DisplayHelp, DisplayVersion}
+use Rattle.clap_lines.specs.Orders.{HasOrder}
+use Rattle.clap_lines.specs.Orders as lines
+use Rattle.clap_lines.specs.declared.told.Told.{Told}
+use Rattle.clap_lines.specs.declared.told.Told.TheVariants as told
 use Rattle.command_line.specs.Line as line
 use Rattle.command_line.specs.declared.order.Order.{Order}
 use Rattle.command_line.specs.declared.order.Order.TheVariants.{Replay, Pipe, Serve, Load, Help, Version}
-use Rattle.command_line.specs.declared.order.OrderFault.{OrderFault}
-use Rattle.command_line.specs.declared.order.OrderFault.TheVariants.{NoMemory}
 
 -- the number, if it is one from 1 to `most`
 abbrev pub in_range : ℕ → ℕ → Option ℕ
@@ -59,31 +59,18 @@ order_named name rows =
     else (if bytes_eq name (codes "replay") then Some Replay
     else (if bytes_eq name (codes "pipe") then Some Pipe else None)))
 
--- the order of the command that a parse entered
-abbrev pub order_at : Option (Text × List Row) → Option Order
-order_at entered = option_and_then (λ command. order_named command.0 command.1) entered
-
--- the fault of a value that is no number in its range
-abbrev pub number_fault : Option ℕ → Kinds
-number_fault (Some number) = []
-number_fault None = ValueValidation ∷ []
-
--- the faults of the numbers of the command that a parse entered
-abbrev pub numbers_fault : Option (Text × List Row) → Kinds
-numbers_fault None = []
-numbers_fault (Some command) =
-    if bytes_eq command.0 (codes "serve")
-    then or_else (number_fault (port_at command.1)) (or_else (number_fault (conns_at command.1)) (number_fault (places_at command.1)))
-    else (if bytes_eq command.0 (codes "load") then number_fault (count_at command.1) else [])
-
--- The faults of the words: those that clap finds, or else those of the numbers. Clap takes `+1` and `01` for numbers, too.
+-- The faults of the words: those that clap finds, or else that of the values. Clap takes `+1` and `01` for numbers, too.
 abbrev pub line_fault : List Text → Kinds
-line_fault words = or_else (fault_of line.hkms words) (numbers_fault (subcommand_of line.hkms words))
+line_fault words = lines.line_fault line.hkms order_named words
 
--- The words have no fault, and name the command of this order.
-pub record Names (order : Order) (words : List Text) : Type 0 where
-  pub no_fault : line_fault words ≡ []
-  pub command : order_at (subcommand_of line.hkms words) ≡ Some order
+-- the words have no fault, and name the command of this order
+abbrev pub Names : Order → List Text → Type 0
+Names order words = HasOrder line.hkms order_named order words
+
+-- the order to show a text
+abbrev pub order_told : Told → Order
+order_told (told.Help text) = Help text
+order_told (told.Version text) = Version text
 
 -- the order shows a text
 abbrev pub IsHelp : Order → Type 0
@@ -103,25 +90,9 @@ abbrev pub HasRightCount : Order → Type 0
 HasRightCount (Load count) = IsRightCount count
 HasRightCount _ = Unit {0}
 
--- The order is what the words say: they have no fault and enter the command of the order, or they ask for help or for
--- the version.
+-- the order is what the words say
 abbrev pub Answers : Order → List Text → Type 0
-Answers order words =
-    ((line_fault words ≡ []) × (order_at (subcommand_of line.hkms words) ≡ Some order))
-    ⊎ ((IsHelp order × IsAmong DisplayHelp (line_fault words))
-    ⊎ (IsVersion order × IsAmong DisplayVersion (line_fault words)))
-
--- the order shows the text of an error of this kind
-abbrev pub IsShown : Order → ErrorKind → Type 0
-IsShown order kind = (IsHelp order × (kind ≡ DisplayHelp)) ⊎ (IsVersion order × (kind ≡ DisplayVersion))
-
--- one of the kinds is neither help nor version
-abbrev pub HasMistake : Kinds → Type 0
-HasMistake kinds = (k : ErrorKind) × IsAmong k kinds × (k ≢ DisplayHelp) × (k ≢ DisplayVersion)
-
--- there are faults, and none of them is that help or the version was asked for
-abbrev pub IsMistake : Kinds → Type 0
-IsMistake kinds = (kinds ≢ []) × ((k : ErrorKind) → IsAmong k kinds → (k ≢ DisplayHelp) × (k ≢ DisplayVersion))
+Answers order words = lines.Answers line.hkms order_named IsHelp IsVersion order words
 
 -- the words that give an option its number: the name and the number, or one word of both with `=` between them
 abbrev pub IsGiven : Text → ℕ → List Text → Type 0
@@ -172,7 +143,3 @@ FindsHelp words = IsAmong DisplayHelp (line_fault words)
 
 abbrev pub FindsVersion : List Text → Type 0
 FindsVersion words = IsAmong DisplayVersion (line_fault words)
-
--- the answer shows a text of this kind, unless memory ran out
-abbrev pub ShownAs : (Order → Type 0) → Result Order OrderFault → Type 0
-ShownAs IsText answer = MatchResult answer IsText (λ fault. fault ≡ NoMemory)

@@ -2,7 +2,8 @@
 ghost use Rattle.std.specs.Prelude.{codes, [], ◌∷◌, ◌<◌, ◌^◌, ℕ, List};
 ghost use Rattle.std.specs.Fmt.{decimal};
 ghost use Rattle.clap.specs.Words.{Text};
-ghost use Rattle.command_line.specs.Orders.{IsMistake, IsRightCount, Names, line_fault};
+ghost use Rattle.clap_lines.specs.Orders.{IsMistake};
+ghost use Rattle.command_line.specs.Orders.{IsRightCount, Names, line_fault};
 ghost use Rattle.command_line.specs.declared.order.Order.TheVariants as order;
 
 /// As clap reads them, the word `replay` names the replay, the word `pipe` the connection, and the

@@ -7,6 +7,7 @@ mod laws;
 mod order;
 mod reading;
 
+pub use clap_lines::OrderFault;
 pub use laws::{commands_alone_are_named, loads_have_a_count, options_are_named};
-pub use order::{Order, OrderFault};
+pub use order::Order;
 pub use reading::read_order;

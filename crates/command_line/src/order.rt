@@ -1,5 +1,5 @@
 //! What a command line asks for.
-use std::alloc::AllocError;
+use clap_lines::Told;
 
 /// What a command line asks for.
 #[derive(Debug, PartialEq, Eq, Drop)]
@@ -29,22 +29,16 @@ pub enum Order {
     Version(String),
 }
 
-/// Why a command line asks for nothing.
-#[derive(Clone, Copy, Debug, PartialEq, Eq)]
-pub enum OrderFault {
-    /// The words are not a command line of the program.
-    Usage,
-    /// There is no memory to parse the words or to make a text.
-    NoMemory,
-}
-
-impl From<AllocError> for OrderFault {
+impl From<Told> for Order {
     ghost use Rattle.std.specs.Prelude.{◌≡◌};
-    ghost use Rattle.command_line.specs.declared.order.OrderFault.TheVariants as fault;
+    ghost use Rattle.command_line.specs.Orders.{order_told};
 
-    ghost from_gives = { λ _ given. given ≡ fault.NoMemory };
+    ghost from_gives = { λ told given. given ≡ order_told told };
 
-    fn from(_: AllocError) -> Self {
-        OrderFault::NoMemory
+    fn from(told: Told) -> Self {
+        match told {
+            Told::Help(text) => Order::Help(text),
+            Told::Version(text) => Order::Version(text),
+        }
     }
 }

@@ -1,15 +1,17 @@
 //! Parsing a command line.
-ghost use Rattle.std.specs.Prelude.{◌≡◌, ◌≢◌, ◌⊎◌, ◌≤◌, IfErr, IfOk, IfSome, Ok, Err, map, option_map};
+ghost use Rattle.std.specs.Prelude.{◌≡◌, ◌≢◌, ◌⊎◌, ◌≤◌, IfErr, IfOk, IfSome, Ok, Err, map};
 ghost use Rattle.clap.specs.Words.{first_of, found_of, kind_of, rows_of, subcommand_rows_of};
-ghost use Rattle.command_line.specs.Orders.{Answers, FindsHelp, FindsVersion, HasMistake, HasRightCount, IsHelp, IsMistake, IsShown, IsSpelled, IsVersion, ShownAs, in_range, line_fault, count_at, number_at, number_or, order_at, order_named};
+ghost use Rattle.clap_lines.specs.Orders.{HasMistake, IsMistake, IsShown, ShownAs, order_at};
+ghost use Rattle.command_line.specs.Orders.{Answers, FindsHelp, FindsVersion, HasRightCount, IsHelp, IsSpelled, IsVersion, in_range, line_fault, count_at, number_at, number_or, order_named};
 ghost use Rattle.command_line.specs.declared.order.Order.{Order as AnOrder};
 
 use crate::commands::hkms;
-use crate::order::{Order, OrderFault};
+use crate::order::Order;
 use clap::error::ErrorKind;
 use clap::{ArgMatches, Error};
+use clap_lines::{OrderFault, answer_without_command, texts_of};
 use hk_base::{Text, read_number};
-use std::alloc::{AllocError, Global};
+use std::alloc::Global;
 use std::convert::AsStr;
 
 /// The port of `serve` without an option.
@@ -93,34 +95,23 @@ fn order_named(name: &str, options: &ArgMatches) -> Option<Order>
 
 /// Returns the order that the matches name, unless a number in them is written in another form.
 fn order_of(matches: &ArgMatches) -> Option<Order>
-    ensures { result ≡ order_at (subcommand_rows_of matches.now) }
+    ensures { result ≡ order_at order_named (subcommand_rows_of matches.now) }
 {
     let (name, options) = matches.subcommand()?;
     order_named(name, options)
 }
 
-/// Returns the text of an error.
-fn text_of(alloc: Global, error: &Error) -> Result<String, OrderFault>
-    ensures { IfErr result (λ fault. fault ≡ OrderFault.NoMemory) }
-{
-    Ok(format!(in alloc; "{error}")?)
-}
-
-/// Returns what to do if there are no matches: show a text, or report a fault.
-fn without_matches(alloc: Global, error: &Error) -> Result<Order, OrderFault>
-    ensures shown { IfOk result (λ order. IsShown order (kind_of error.now)) }
+/// Returns what to do where `clap` finds no command: show a text, or report a fault.
+fn order_without_command(alloc: Global, error: &Error) -> Result<Order, OrderFault>
+    ensures shown { IfOk result (λ order. IsShown IsHelp IsVersion order (kind_of error.now)) }
     ensures usage { IfErr result
         (λ fault. fault ≡ OrderFault.Usage →
         (kind_of error.now ≢ ErrorKind.OutOfMemory) ×
         (kind_of error.now ≢ ErrorKind.DisplayHelp) ×
         (kind_of error.now ≢ ErrorKind.DisplayVersion)) }
 {
-    match error.kind() {
-        ErrorKind::OutOfMemory => Err(OrderFault::NoMemory),
-        ErrorKind::DisplayHelp => Ok(Order::Help(text_of(alloc, error)?)),
-        ErrorKind::DisplayVersion => Ok(Order::Version(text_of(alloc, error)?)),
-        _ => Err(OrderFault::Usage),
-    }
+    let told = answer_without_command(alloc, error)?;
+    Ok(Order::from(told))
 }
 
 /// Does what `read_order` does, for words of any type.
@@ -132,15 +123,8 @@ fn read<'a, S: AsStr>(alloc: Global, words: &'a [S]) -> Result<Order, OrderFault
     let command = hkms(alloc)?;
     match command.try_get_matches_from(words) {
         Ok(matches) => order_of(&matches).ok_or(OrderFault::Usage),
-        Err(error) => without_matches(alloc, &error),
+        Err(error) => order_without_command(alloc, &error),
     }
-}
-
-/// Returns the words as `clap` takes them.
-fn texts_of<'w>(alloc: Global, words: &'w [Text]) -> Result<Vec<&'w str>, AllocError>
-    ensures { IfOk result (λ texts. map (λ text. text.now) texts.items ≡ words.entry.now) }
-{
-    words.iter().map(Text::as_str).collect(alloc)
 }
 
 /// Parses the words of a command line, without the program's own name.

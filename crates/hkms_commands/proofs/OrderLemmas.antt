@@ -3,11 +3,12 @@ use Rattle.std.proofs.Common.{◌≡◌, ◌≢◌, ◌⊎◌, ⊎_elim, inl, in
 use Rattle.std.specs.Prelude.{IfErr, IfOk, Ok, Err, Option, Result, string_bytes}
 use Rattle.clap.specs.Words.{IsAmong, Text}
 use Rattle.clap.specs.declared.error.ErrorKind.TheVariants.{DisplayHelp, DisplayVersion}
-use Rattle.command_line.specs.Orders.{Answers, IsHelp, IsMistake, IsVersion, Names, ShownAs, line_fault}
+use Rattle.clap_lines.specs.Orders.{IsMistake, ShownAs}
+use Rattle.clap_lines.specs.declared.told.OrderFault.{OrderFault}
+use Rattle.clap_lines.specs.declared.told.OrderFault.TheVariants.{Usage, NoMemory}
+use Rattle.command_line.specs.Orders.{Answers, IsHelp, IsVersion, Names, line_fault}
 use Rattle.command_line.specs.declared.order.Order.{Order}
 use Rattle.command_line.specs.declared.order.Order.TheVariants.{Replay, Pipe, Serve, Load, Help, Version}
-use Rattle.command_line.specs.declared.order.OrderFault.{OrderFault}
-use Rattle.command_line.specs.declared.order.OrderFault.TheVariants.{Usage, NoMemory}
 use Rattle.hk_base.specs.Disk.{DiskState, Tells}
 use Rattle.world_run.specs.Ledger.{Past}
 use Rattle.world_run.specs.Linked.{StartsSound}

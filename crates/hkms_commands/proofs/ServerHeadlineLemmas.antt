@@ -5,7 +5,7 @@ use Rattle.rand_chacha.specs.ChaCha.{ChaCha}
 use Rattle.hk_base.specs.Disk.{DiskState}
 use Rattle.frame_log.specs.declared.fault.StartFault.{StartFault}
 use Rattle.prop_text.specs.declared.props.Props.{Props}
-use Rattle.command_line.specs.declared.order.OrderFault.TheVariants.{NoMemory}
+use Rattle.clap_lines.specs.declared.told.OrderFault.TheVariants.{NoMemory}
 use Rattle.world_run.specs.Kept.{ImageKept}
 use Rattle.world_run.specs.Ledger.{Past}
 use Rattle.world_run.specs.Linked.{SoundFiles}

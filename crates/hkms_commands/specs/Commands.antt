@@ -14,10 +14,10 @@ use Rattle.cell_server.specs.Connections.{ServesEnds}
 use Rattle.command_io.specs.Ends.{Refuses, ShowsText, WantsMemory, status_of}
 use Rattle.command_io.specs.Environment.{Environment, environment}
 use Rattle.command_io.specs.declared.ends.ReplayEnd.{ReplayEnd}
+use Rattle.clap_lines.specs.declared.told.OrderFault.{OrderFault}
 use Rattle.command_line.specs.Orders.{Names}
 use Rattle.command_line.specs.declared.order.Order.{Order}
 use Rattle.command_line.specs.declared.order.Order.TheVariants.{Serve}
-use Rattle.command_line.specs.declared.order.OrderFault.{OrderFault}
 use Rattle.load_run.specs.Load.{Load}
 use Rattle.hk_runs.specs.Pipe.{Pipes}
 use Rattle.hk_runs.specs.Replay.{Replays}

@@ -2,11 +2,11 @@
 use Rattle.std.specs.Prelude.{◌⊎◌, ⊤, ℕ, List, Option, Result, Ok, Err, string_bytes}
 use Rattle.clap.specs.Words.{Text}
 use Rattle.command_io.specs.Ends.{Refuses, Shows, WantsMemory}
+use Rattle.clap_lines.specs.declared.told.OrderFault.{OrderFault}
+use Rattle.clap_lines.specs.declared.told.OrderFault.TheVariants.{Usage, NoMemory}
 use Rattle.command_line.specs.Orders.{Names}
 use Rattle.command_line.specs.declared.order.Order.{Order}
 use Rattle.command_line.specs.declared.order.Order.TheVariants.{Replay, Pipe, Serve, Load, Help, Version}
-use Rattle.command_line.specs.declared.order.OrderFault.{OrderFault}
-use Rattle.command_line.specs.declared.order.OrderFault.TheVariants.{Usage, NoMemory}
 
 -- what is done at an order: a replay, a connection, a server at this port for so many connections, a load of so many steps, or a text that is shown
 abbrev pub Obeys : Result Order OrderFault → Type 0 → Type 0 → (ℕ → ℕ → Type 0) → (ℕ → Type 0) → Type 0 → Option (List ℕ) → Option (List ℕ) → ℕ → Type 0

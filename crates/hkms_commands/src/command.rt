@@ -1,7 +1,8 @@
 //! The command line.
 ghost use Rattle.std.specs.Prelude.{◌≡◌, ◌⊎◌, ℕ, IsTrue};
 ghost use Rattle.hk_base.specs.Faults.{Rose};
-ghost use Rattle.command_line.specs.Orders.{FindsHelp, FindsVersion, IsMistake, Names, line_fault};
+ghost use Rattle.clap_lines.specs.Orders.{IsMistake};
+ghost use Rattle.command_line.specs.Orders.{FindsHelp, FindsVersion, Names, line_fault};
 ghost use Rattle.command_line.specs.declared.order.Order.TheVariants as order;
 ghost use Rattle.command_io.specs.Environment.{environment};
 ghost use Rattle.hk_runs.specs.Headline.{FromSoundFiles, PipeKeeps, ReplayKeeps};

@@ -2,7 +2,8 @@
 #![tactic(auto)]
 
 ghost use Rattle.std.specs.Prelude.{◌≡◌, ◌≢◌, IfErr, IfOk, IsTrue, MatchResult};
-ghost use Rattle.command_line.specs.Orders.{IsMistake, line_fault};
+ghost use Rattle.clap_lines.specs.Orders.{IsMistake};
+ghost use Rattle.command_line.specs.Orders.{line_fault};
 ghost use Rattle.hkms_tool.specs.Starting.{EndsUnopened};
 ghost use Rattle.program_start.specs.Starting.{EndsBy, EndsWith};
 

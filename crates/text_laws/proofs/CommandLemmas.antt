@@ -10,12 +10,13 @@ use Rattle.clap.proofs.WalkLemmas.{walk_stopped}
 use Rattle.clap.proofs.OnLiterals.{clap_on_literals}
 use Rattle.clap.specs.declared.error.ErrorKind.{ErrorKind}
 use Rattle.clap.specs.declared.error.ErrorKind.TheVariants.{DisplayHelp, DisplayVersion, ValueValidation}
+use Rattle.clap_lines.specs.Orders.{IsMistake, order_at}
+use Rattle.clap_lines.proofs.EnteredLemmas.{a_value_is_refused}
+use Rattle.clap_lines.proofs.OrderLemmas.{found_by_clap}
 use Rattle.command_line.specs.Line as line
-use Rattle.command_line.specs.Orders.{AsksForHelp, AsksForVersion, FindsHelp, FindsVersion, IsCommand, IsHelpFlag, IsMistake, Names, line_fault, order_at}
+use Rattle.command_line.specs.Orders.{AsksForHelp, AsksForVersion, FindsHelp, FindsVersion, IsCommand, IsHelpFlag, Names, line_fault, order_named}
 use Rattle.command_line.specs.declared.order.Order.{Order}
-use Rattle.command_line.proofs.EnteredLemmas.{a_number_is_refused}
-use Rattle.command_line.proofs.KindLemmas.{found_by_clap}
-use Rattle.command_line.proofs.OrderLemmas.{spelling_is_named}
+use Rattle.command_line.proofs.OrderLemmas.{plain, spelling_is_named}
 use Rattle.text_laws.specs.Lines.{AskedIsFound, IsNoText, IsRead, IsReadOnce, SpelledIsNamed}
 
 is_help : ErrorKind → Bool
@@ -68,9 +69,9 @@ sorted (x ∷ ks) = by (is_help x) (is_version x) refl refl (sorted ks)
     by false false h e (inl (inr a)) = inl (inr (inr a))
     by false false h e (inr unshown) = inr (one_more x ks h e unshown)
 
-ordered : (words : List Text) → line_fault words ≡ [] → (o : Option Order) → order_at (subcommand_of line.hkms words) ≡ o → IsRead words
+ordered : (words : List Text) → line_fault words ≡ [] → (o : Option Order) → order_at order_named (subcommand_of line.hkms words) ≡ o → IsRead words
 ordered words e (Some order) is = inr (inr (order, record { no_fault = e; command = is }))
-ordered words e None is = let no : ValueValidation ∷ [] ≡ [] = sym (a_number_is_refused words (none_of_clap (fault_of line.hkms words) _ e) is) ∙ e in cc
+ordered words e None is = let no : ValueValidation ∷ [] ≡ [] = sym (a_value_is_refused line.hkms order_named words plain.required (none_of_clap (fault_of line.hkms words) _ e) is) ∙ e in cc
   where
     none_of_clap : (some other : Kinds) → or_else some other ≡ [] → some ≡ []
     none_of_clap [] other e = refl
@@ -81,7 +82,7 @@ every_line words = by (line_fault words) refl (sorted (line_fault words))
   where
     by : (ks : Kinds) → line_fault words ≡ ks → IsSorted (line_fault words) → IsRead words
     by ks e (inl shown) = inr (inl shown)
-    by [] e (inr unshown) = ordered words e (order_at (subcommand_of line.hkms words)) refl
+    by [] e (inr unshown) = ordered words e (order_at order_named (subcommand_of line.hkms words)) refl
     by (k ∷ ks) e (inr unshown) = inl ((λ is. absurd (some k ks (sym e ∙ is))), unshown)
       where
         some : (k : ErrorKind) (ks : Kinds) → k ∷ ks ≢ []
@@ -178,6 +179,6 @@ asked_for_version words (more, inr w) = rw w refl
 
 pub asked_is_found : (words : List Text) → AskedIsFound words
 asked_is_found words = (
-  λ asks. found_by_clap words DisplayHelp (subst (IsAmong DisplayHelp) (sym (asked_for_help words asks)) (inl refl)),
-  λ asks. found_by_clap words DisplayVersion (subst (IsAmong DisplayVersion) (sym (asked_for_version words asks)) (inl refl)),
+  λ asks. found_by_clap line.hkms order_named words DisplayHelp (subst (IsAmong DisplayHelp) (sym (asked_for_help words asks)) (inl refl)),
+  λ asks. found_by_clap line.hkms order_named words DisplayVersion (subst (IsAmong DisplayVersion) (sym (asked_for_version words asks)) (inl refl)),
 )

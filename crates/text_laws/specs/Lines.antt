@@ -1,7 +1,8 @@
 -- What the words of a command line come to.
 use Rattle.std.specs.Prelude.{◌≡◌, ◌⊎◌, List}
 use Rattle.clap.specs.Words.{Text}
-use Rattle.command_line.specs.Orders.{AsksForHelp, AsksForVersion, FindsHelp, FindsVersion, IsMistake, IsSpelled, Names, line_fault}
+use Rattle.clap_lines.specs.Orders.{IsMistake}
+use Rattle.command_line.specs.Orders.{AsksForHelp, AsksForVersion, FindsHelp, FindsVersion, IsSpelled, Names, line_fault}
 use Rattle.command_line.specs.declared.order.Order.{Order}
 
 -- the words are a mistake, or they show a text, or they name an order

@@ -2,11 +2,12 @@ use Rattle.std.proofs.Common.{◌≡◌, inl, inr, refl, map, ap, true, ◌∙�
 use Rattle.std.proofs.lemmas.Result.{IfErr-weaker, IfOk-weaker}
 use Rattle.clap.specs.Words.{App, fault_of, is_simple_and_free, kind_of, HasKind, Text, is_simple as is_simple_app, subcommand_of}
 use Rattle.clap.proofs.OnLiterals.{clap_on_literals}
+use Rattle.clap_lines.specs.Orders.{HasMistake, order_at}
+use Rattle.clap_lines.specs.declared.told.OrderFault.TheVariants.{Usage}
+use Rattle.clap_lines.proofs.OrderLemmas.{found_by_clap, order_from, refusal_from, shown_from}
 use Rattle.command_line.specs.Line as line
-use Rattle.command_line.specs.Orders.{Answers, HasMistake, line_fault, order_at}
-use Rattle.command_line.specs.declared.order.OrderFault.TheVariants.{Usage}
-use Rattle.command_line.proofs.KindLemmas.{found_by_clap}
-use Rattle.command_line.proofs.OrderLemmas.{OrderRead, order_from, refusal_from, shown_from}
+use Rattle.command_line.specs.Orders.{Answers, IsHelp, IsVersion, line_fault, order_named}
+use Rattle.command_line.proofs.OrderLemmas.{OrderRead, ordered, plain}
 use Rattle.command_line.proofs.reading.read.Goals as goal
 
 is_simple : is_simple_and_free line.hkms ≡ true
@@ -22,19 +23,19 @@ returns-in-Err-clause-usage g c =
     let words : List Text = map g.S.AsStr.text c.args.words.now in
     let same = c.in_ok-command.ensures in
     let has : HasKind (fault_of line.hkms words) c.in-Err.error = subst (λ (a : App). HasKind (fault_of a words) c.in-Err.error) same (c.in-Err.ensures.kinds (ap is_simple_and_free same ∙ is_simple)) in
-    IfErr-weaker c.without_matches.result _ _
+    IfErr-weaker c.order_without_command.result _ _
     (λ f h u. elim has [
       | inl oom ↦ absurd ((h u).0 oom)
-      | inr among ↦ (kind_of c.in-Err.error, found_by_clap words (kind_of c.in-Err.error) among, (h u).1, (h u).2)
+      | inr among ↦ (kind_of c.in-Err.error, found_by_clap line.hkms order_named words (kind_of c.in-Err.error) among, (h u).1, (h u).2)
     ])
-    c.without_matches.ensures.usage
+    c.order_without_command.ensures.usage
 
 pub returns-in-Err-clause-ok : goal.returns-in-Err-clause-ok
 returns-in-Err-clause-ok g c =
     let words : List Text = map g.S.AsStr.text c.args.words.now in
     let same = c.in_ok-command.ensures in
     let has : HasKind (fault_of line.hkms words) c.in-Err.error = subst (λ (a : App). HasKind (fault_of a words) c.in-Err.error) same (c.in-Err.ensures.kinds (ap is_simple_and_free same ∙ is_simple)) in
-    IfOk-weaker c.without_matches.result _ _ (λ o shown. inr (shown_from o (kind_of c.in-Err.error) words shown has)) c.without_matches.ensures.shown
+    IfOk-weaker c.order_without_command.result _ _ (λ o shown. inr (shown_from line.hkms order_named IsHelp IsVersion o (kind_of c.in-Err.error) words shown has)) c.order_without_command.ensures.shown
 
 pub returns-in-Ok-clause-ok : goal.returns-in-Ok-clause-ok
 returns-in-Ok-clause-ok g c =
@@ -44,7 +45,7 @@ returns-in-Ok-clause-ok g c =
     let none : fault_of line.hkms words ≡ [] = subst (λ (a : App). fault_of a words ≡ []) same (parsed.kinds (ap is_simple_and_free same ∙ is_simple)) in
     let entered = (parsed.matches (ap is_simple_app same ∙ is_plain)).1 ∙ ap (λ (a : App). subcommand_of a words) same in
     subst (λ (r : OrderRead). IfOk r (λ order. Answers order words)) (sym c.ok_or.ensures.value)
-    (order_from c.order_of.result words none (c.order_of.ensures ∙ ap order_at entered))
+    (order_from line.hkms order_named IsHelp IsVersion _ words none (ordered c.order_of.result words (c.order_of.ensures ∙ ap (order_at order_named) entered)))
 
 pub returns-in-Ok-clause-usage : goal.returns-in-Ok-clause-usage
 returns-in-Ok-clause-usage g c =
@@ -54,4 +55,4 @@ returns-in-Ok-clause-usage g c =
     let none : fault_of line.hkms words ≡ [] = subst (λ (a : App). fault_of a words ≡ []) same (parsed.kinds (ap is_simple_and_free same ∙ is_simple)) in
     let entered = (parsed.matches (ap is_simple_app same ∙ is_plain)).1 ∙ ap (λ (a : App). subcommand_of a words) same in
     subst (λ (r : OrderRead). IfErr r (λ fault. fault ≡ Usage → HasMistake (line_fault words))) (sym c.ok_or.ensures.value)
-    (refusal_from c.order_of.result words none (c.order_of.ensures ∙ ap order_at entered))
+    (refusal_from line.hkms order_named _ words plain none (ordered c.order_of.result words (c.order_of.ensures ∙ ap (order_at order_named) entered)))
