@@ -1,9 +1,9 @@
 -- The tables agree with the definitions. Each is computed at all of its indices at once.
-use Rattle.std.proofs.Common.{◌≡◌, ℕ, ◌+◌, ◌-◌, ◌≤◌, ◌<◌, List, [], ◌∷◌, get_or, map, refl, sym, ap, ◌∙◌, arith}
+use Rattle.std.proofs.Common.{◌≡◌, ℕ, ◌+◌, ◌-◌, ◌≤◌, ◌<◌, List, [], get_or, map, refl, sym, ap, ◌∙◌, arith}
 use Rattle.std.specs.List.{range_with_len}
 use Rattle.std.proofs.lemmas.List.FromFn.{get_or-map-range_with_len}
 use Rattle.aes_core.specs.Field.{field_product, power_of_x, s_box}
-use Rattle.aes_core.specs.Words.{byte_of, word_bytes}
+use Rattle.aes_core.specs.Words.{byte_of, times_0, times_1, times_2, times_3, word_bytes}
 use Rattle.aes_core.specs.declared.key_schedule.TheConstants.{RCON}
 use Rattle.aes_core.specs.declared.round_tables.TheConstants.{PRODUCTS}
 use Rattle.aes_core.specs.declared.substitution.TheConstants.{S_BOX}
@@ -28,19 +28,6 @@ pub rcon_is : (j : ℕ) → 1 ≤ j → j < 11 → get_or RCON j 0 ≡ power_of_
 rcon_is j positive within =
     let back : j - 1 + 1 ≡ j = omega arith in
     rw back at (same_below 0 (λ i. get_or RCON (i + 1) 0) power_of_x 10 (j - 1) rcon_table (omega arith))
-
--- a byte times column 0, 1, 2 and 3 of the matrix of MixColumns
-abbrev pub times_0 : ℕ → List ℕ
-times_0 s = field_product 2 s ∷ s ∷ s ∷ field_product 3 s ∷ []
-
-abbrev pub times_1 : ℕ → List ℕ
-times_1 s = field_product 3 s ∷ field_product 2 s ∷ s ∷ s ∷ []
-
-abbrev pub times_2 : ℕ → List ℕ
-times_2 s = s ∷ field_product 3 s ∷ field_product 2 s ∷ s ∷ []
-
-abbrev pub times_3 : ℕ → List ℕ
-times_3 s = s ∷ s ∷ field_product 3 s ∷ field_product 2 s ∷ []
 
 -- the tables of products agree with the table of the S-box
 table_0 : map (λ x. word_bytes (get_or (get_or PRODUCTS 0 []) x 0)) (range_with_len 0 256) ≡ map (λ x. times_0 (get_or S_BOX x 0)) (range_with_len 0 256)
