@@ -1,7 +1,7 @@
 -- Columns as words: their sums, and the columns of a round.
 use Rattle.std.proofs.Common.{◌≡◌, ℕ, ◌+◌, ◌*◌, ◌/◌, ◌%◌, ◌^◌, ◌<◌, List, [], ◌∷◌, ◌++◌, slice_index, slice_index_or, refl, ◌∙◌, arith, bit_xor}
 use Rattle.std.proofs.lemmas.Nat.{xor_shr, xor_mod, xor_comm}
-use Rattle.std.specs.Int.Bits.{xor_assoc}
+use Rattle.std.specs.Int.Bits.{xor_assoc, xor_zero_r}
 use Rattle.std.specs.Int.{w32, from_le_bytes}
 use Rattle.aes_core.specs.Field.{field_product}
 use Rattle.aes_core.specs.Aes.{add_round_key, mixed, word, xor_word}
@@ -49,6 +49,21 @@ full_column_is p q r s k a b c d key p_is q_is r_is s_is key_is =
     let three = sum_is (bit_xor p q) r _ _ two r_is in
     let four = sum_is (bit_xor (bit_xor p q) r) s _ _ three s_is in
     sum_is (bit_xor (bit_xor (bit_xor p q) r) s) k (mixed_word a b c d) key (four ∙ sum_of_products a b c d) key_is
+
+-- a column of the last round: the sum of words that have a byte each
+pub last_column_is : (p q r s k a b c d : ℕ) (key : List ℕ) → word_bytes p ≡ a ∷ 0 ∷ 0 ∷ 0 ∷ [] → word_bytes q ≡ 0 ∷ b ∷ 0 ∷ 0 ∷ [] → word_bytes r ≡ 0 ∷ 0 ∷ c ∷ 0 ∷ [] → word_bytes s ≡ 0 ∷ 0 ∷ 0 ∷ d ∷ []
+    → word_bytes k ≡ key → word_bytes (bit_xor (bit_xor (bit_xor (bit_xor p q) r) s) k) ≡ xor_word (a ∷ b ∷ c ∷ d ∷ []) key
+last_column_is p q r s k a b c d key p_is q_is r_is s_is key_is =
+    let two = sum_is p q _ _ p_is q_is in
+    let three = sum_is (bit_xor p q) r _ _ two r_is in
+    let four = sum_is (bit_xor (bit_xor p q) r) s _ _ three s_is in
+    let alone : (n : ℕ) → bit_xor n 0 ≡ n = xor_zero_r in
+    let twice : (n : ℕ) → bit_xor (bit_xor n 0) 0 ≡ n = λ n. alone (bit_xor n 0) ∙ alone n in
+    let first : bit_xor (bit_xor (bit_xor a 0) 0) 0 ≡ a = alone (bit_xor (bit_xor a 0) 0) ∙ twice a in
+    let second : bit_xor (bit_xor (bit_xor 0 b) 0) 0 ≡ b = twice b in
+    let third : bit_xor (bit_xor (bit_xor 0 0) c) 0 ≡ c = alone c in
+    let fourth : bit_xor (bit_xor (bit_xor 0 0) 0) d ≡ d = refl in
+    sum_is (bit_xor (bit_xor (bit_xor p q) r) s) k (a ∷ b ∷ c ∷ d ∷ []) key (four ∙ (λ i. first i ∷ second i ∷ third i ∷ fourth i ∷ [])) key_is
 
 -- column c of a state
 abbrev pub column_at : List ℕ → ℕ → List ℕ

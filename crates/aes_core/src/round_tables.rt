@@ -1,5 +1,5 @@
 //! Tables of the products in a round, one for each row of the state.
-ghost use Rattle.std.specs.Prelude.{◌≡◌};
+ghost use Rattle.std.specs.Prelude.{◌≡◌, [], ◌∷◌};
 ghost use Rattle.aes_core.specs.Aes.{xor_word};
 ghost use Rattle.aes_core.specs.Field.{s_box};
 ghost use Rattle.aes_core.specs.Words.{byte_of, mixed_word, times_0, times_1, times_2, times_3, word_bytes};
@@ -206,6 +206,43 @@ pub(crate) fn product_3(byte: u8) -> u32
     ensures { word_bytes result ≡ times_3 (s_box byte) }
 {
     PRODUCTS[3][byte as usize]
+}
+
+/// Returns the S-box value of a byte in row 0, for the last round. It is a byte of the byte's entry in
+/// one of the tables. So are those of the other rows: the last round needs no table of its own.
+#[inline(always)]
+#[tactic(auto, using(crate::proofs::Tables::last_0_is))]
+pub(crate) fn last_0(byte: u8) -> u32
+    ensures { word_bytes result ≡ s_box byte ∷ 0 ∷ 0 ∷ 0 ∷ [] }
+{
+    PRODUCTS[2][byte as usize] & 0xff
+}
+
+/// Returns the S-box value of a byte in row 1, for the last round.
+#[inline(always)]
+#[tactic(auto, using(crate::proofs::Tables::last_1_is))]
+pub(crate) fn last_1(byte: u8) -> u32
+    ensures { word_bytes result ≡ 0 ∷ s_box byte ∷ 0 ∷ 0 ∷ [] }
+{
+    PRODUCTS[3][byte as usize] & 0xff00
+}
+
+/// Returns the S-box value of a byte in row 2, for the last round.
+#[inline(always)]
+#[tactic(auto, using(crate::proofs::Tables::last_2_is))]
+pub(crate) fn last_2(byte: u8) -> u32
+    ensures { word_bytes result ≡ 0 ∷ 0 ∷ s_box byte ∷ 0 ∷ [] }
+{
+    PRODUCTS[0][byte as usize] & 0xff_0000
+}
+
+/// Returns the S-box value of a byte in row 3, for the last round.
+#[inline(always)]
+#[tactic(auto, using(crate::proofs::Tables::last_3_is))]
+pub(crate) fn last_3(byte: u8) -> u32
+    ensures { word_bytes result ≡ 0 ∷ 0 ∷ 0 ∷ s_box byte ∷ [] }
+{
+    PRODUCTS[1][byte as usize] & 0xff00_0000
 }
 
 /// Returns a column of the state after a full round. `a`, `b`, `c` and `d` are the columns before the

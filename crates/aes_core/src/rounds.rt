@@ -5,8 +5,9 @@ ghost use Rattle.aes_core.specs.Field.{s_box};
 ghost use Rattle.aes_core.specs.Aes.{add_round_key, encrypted, IsKeySize, mix_columns, shift_rows, state_after, sub_bytes, with_last, xor_word};
 ghost use Rattle.aes_core.specs.Words.{byte_of, state_bytes, times_0, times_1, times_2, times_3, word_bytes};
 
-use crate::round_tables::{full_column, product_0, product_1, product_2, product_3};
-use crate::substitution::substituted;
+use crate::round_tables::{
+    full_column, last_0, last_1, last_2, last_3, product_0, product_1, product_2, product_3,
+};
 use crate::words::{block_of, byte_0, byte_1, byte_2, byte_3, word_of};
 
 type Columns = [u32; 4];
@@ -34,13 +35,7 @@ fn last_column(a: u32, b: u32, c: u32, d: u32, key: &[u8; 4]) -> u32
         (s_box (byte_of a 0) ∷ s_box (byte_of b 1) ∷ s_box (byte_of c 2) ∷ s_box (byte_of d 3) ∷ [])
         key.now }
 {
-    let bytes = [
-        substituted(byte_0(a)),
-        substituted(byte_1(b)),
-        substituted(byte_2(c)),
-        substituted(byte_3(d)),
-    ];
-    word_of(&bytes) ^ word_of(key)
+    last_0(byte_0(a)) ^ last_1(byte_1(b)) ^ last_2(byte_2(c)) ^ last_3(byte_3(d)) ^ word_of(key)
 }
 
 #[inline(always)]
