@@ -1,13 +1,11 @@
 -- Columns as words: their sums, and the columns of a round.
-use Rattle.std.proofs.Common.{◌≡◌, ℕ, ◌+◌, ◌*◌, ◌/◌, ◌%◌, ◌^◌, ◌<◌, List, [], ◌∷◌, ◌++◌, get_or, slice_index, slice_index_or, refl, ◌∙◌, arith, bit_xor}
+use Rattle.std.proofs.Common.{◌≡◌, ℕ, ◌+◌, ◌*◌, ◌/◌, ◌%◌, ◌^◌, ◌<◌, List, [], ◌∷◌, ◌++◌, slice_index, slice_index_or, refl, ◌∙◌, arith, bit_xor}
 use Rattle.std.proofs.lemmas.Nat.{xor_shr, xor_mod, xor_comm}
-use Rattle.std.specs.Int.Bits.{xor_assoc}
+use Rattle.std.specs.Int.Bits.{xor_assoc, xor_zero_r}
 use Rattle.std.specs.Int.{w32, from_le_bytes}
-use Rattle.aes_core.specs.Field.{field_product, s_box}
+use Rattle.aes_core.specs.Field.{field_product}
 use Rattle.aes_core.specs.Aes.{add_round_key, mixed, word, xor_word}
-use Rattle.aes_core.specs.Words.{byte_of, mixed_word, word_bytes}
-use Rattle.aes_core.specs.declared.round_tables.TheConstants.{PRODUCTS}
-use Rattle.aes_core.proofs.Tables.{products_0_is, products_1_is, products_2_is, products_3_is, times_0, times_1, times_2, times_3}
+use Rattle.aes_core.specs.Words.{byte_of, mixed_word, times_0, times_1, times_2, times_3, word_bytes}
 
 -- the word of four bytes has these bytes
 pub word_bytes-from_le_bytes : (n a b c d : ℕ) → a < 256 → b < 256 → c < 256 → d < 256 → n ≡ from_le_bytes w32 (a ∷ b ∷ c ∷ d ∷ []) → word_bytes n ≡ a ∷ b ∷ c ∷ d ∷ []
@@ -44,15 +42,28 @@ sum_of_products a b c d =
     λ i. bit_xor (bit_xor (bit_xor (field_product 2 a) (field_product 3 b)) c) d ∷ second i ∷ third i ∷ fourth i ∷ []
 
 -- a column of a full round
-pub full_column_is : (a b c d k : ℕ) (key : List ℕ) → a < 256 → b < 256 → c < 256 → d < 256 → word_bytes k ≡ key
-    → word_bytes (bit_xor (bit_xor (bit_xor (bit_xor (get_or (get_or PRODUCTS 0 []) a 0) (get_or (get_or PRODUCTS 1 []) b 0)) (get_or (get_or PRODUCTS 2 []) c 0)) (get_or (get_or PRODUCTS 3 []) d 0)) k)
-    ≡ xor_word (mixed_word (s_box a) (s_box b) (s_box c) (s_box d)) key
-full_column_is a b c d k key small_a small_b small_c small_d key_is =
-    let two = sum_is _ _ _ _ (products_0_is a small_a) (products_1_is b small_b) in
-    let three = sum_is _ _ _ _ two (products_2_is c small_c) in
-    let four = sum_is _ _ _ _ three (products_3_is d small_d) in
-    sum_is (bit_xor (bit_xor (bit_xor (get_or (get_or PRODUCTS 0 []) a 0) (get_or (get_or PRODUCTS 1 []) b 0)) (get_or (get_or PRODUCTS 2 []) c 0)) (get_or (get_or PRODUCTS 3 []) d 0)) k
-    (mixed_word (s_box a) (s_box b) (s_box c) (s_box d)) key (four ∙ sum_of_products (s_box a) (s_box b) (s_box c) (s_box d)) key_is
+pub full_column_is : (p q r s k a b c d : ℕ) (key : List ℕ) → word_bytes p ≡ times_0 a → word_bytes q ≡ times_1 b → word_bytes r ≡ times_2 c → word_bytes s ≡ times_3 d → word_bytes k ≡ key
+    → word_bytes (bit_xor (bit_xor (bit_xor (bit_xor p q) r) s) k) ≡ xor_word (mixed_word a b c d) key
+full_column_is p q r s k a b c d key p_is q_is r_is s_is key_is =
+    let two = sum_is p q _ _ p_is q_is in
+    let three = sum_is (bit_xor p q) r _ _ two r_is in
+    let four = sum_is (bit_xor (bit_xor p q) r) s _ _ three s_is in
+    sum_is (bit_xor (bit_xor (bit_xor p q) r) s) k (mixed_word a b c d) key (four ∙ sum_of_products a b c d) key_is
+
+-- a column of the last round: the sum of words that have a byte each
+pub last_column_is : (p q r s k a b c d : ℕ) (key : List ℕ) → word_bytes p ≡ a ∷ 0 ∷ 0 ∷ 0 ∷ [] → word_bytes q ≡ 0 ∷ b ∷ 0 ∷ 0 ∷ [] → word_bytes r ≡ 0 ∷ 0 ∷ c ∷ 0 ∷ [] → word_bytes s ≡ 0 ∷ 0 ∷ 0 ∷ d ∷ []
+    → word_bytes k ≡ key → word_bytes (bit_xor (bit_xor (bit_xor (bit_xor p q) r) s) k) ≡ xor_word (a ∷ b ∷ c ∷ d ∷ []) key
+last_column_is p q r s k a b c d key p_is q_is r_is s_is key_is =
+    let two = sum_is p q _ _ p_is q_is in
+    let three = sum_is (bit_xor p q) r _ _ two r_is in
+    let four = sum_is (bit_xor (bit_xor p q) r) s _ _ three s_is in
+    let alone : (n : ℕ) → bit_xor n 0 ≡ n = xor_zero_r in
+    let twice : (n : ℕ) → bit_xor (bit_xor n 0) 0 ≡ n = λ n. alone (bit_xor n 0) ∙ alone n in
+    let first : bit_xor (bit_xor (bit_xor a 0) 0) 0 ≡ a = alone (bit_xor (bit_xor a 0) 0) ∙ twice a in
+    let second : bit_xor (bit_xor (bit_xor 0 b) 0) 0 ≡ b = twice b in
+    let third : bit_xor (bit_xor (bit_xor 0 0) c) 0 ≡ c = alone c in
+    let fourth : bit_xor (bit_xor (bit_xor 0 0) 0) d ≡ d = refl in
+    sum_is (bit_xor (bit_xor (bit_xor p q) r) s) k (a ∷ b ∷ c ∷ d ∷ []) key (four ∙ (λ i. first i ∷ second i ∷ third i ∷ fourth i ∷ [])) key_is
 
 -- column c of a state
 abbrev pub column_at : List ℕ → ℕ → List ℕ

@@ -1,9 +1,9 @@
 -- The tables agree with the definitions. Each is computed at all of its indices at once.
-use Rattle.std.proofs.Common.{◌≡◌, ℕ, ◌+◌, ◌-◌, ◌≤◌, ◌<◌, List, [], ◌∷◌, get_or, map, refl, sym, ap, ◌∙◌, arith}
+use Rattle.std.proofs.Common.{◌≡◌, ℕ, ◌+◌, ◌-◌, ◌≤◌, ◌<◌, List, [], ◌∷◌, get_or, map, refl, sym, ap, ◌∙◌, arith, bit_and}
 use Rattle.std.specs.List.{range_with_len}
 use Rattle.std.proofs.lemmas.List.FromFn.{get_or-map-range_with_len}
 use Rattle.aes_core.specs.Field.{field_product, power_of_x, s_box}
-use Rattle.aes_core.specs.Words.{byte_of, word_bytes}
+use Rattle.aes_core.specs.Words.{byte_of, times_0, times_1, times_2, times_3, word_bytes}
 use Rattle.aes_core.specs.declared.key_schedule.TheConstants.{RCON}
 use Rattle.aes_core.specs.declared.round_tables.TheConstants.{PRODUCTS}
 use Rattle.aes_core.specs.declared.substitution.TheConstants.{S_BOX}
@@ -28,19 +28,6 @@ pub rcon_is : (j : ℕ) → 1 ≤ j → j < 11 → get_or RCON j 0 ≡ power_of_
 rcon_is j positive within =
     let back : j - 1 + 1 ≡ j = omega arith in
     rw back at (same_below 0 (λ i. get_or RCON (i + 1) 0) power_of_x 10 (j - 1) rcon_table (omega arith))
-
--- a byte times column 0, 1, 2 and 3 of the matrix of MixColumns
-abbrev pub times_0 : ℕ → List ℕ
-times_0 s = field_product 2 s ∷ s ∷ s ∷ field_product 3 s ∷ []
-
-abbrev pub times_1 : ℕ → List ℕ
-times_1 s = field_product 3 s ∷ field_product 2 s ∷ s ∷ s ∷ []
-
-abbrev pub times_2 : ℕ → List ℕ
-times_2 s = s ∷ field_product 3 s ∷ field_product 2 s ∷ s ∷ []
-
-abbrev pub times_3 : ℕ → List ℕ
-times_3 s = s ∷ s ∷ field_product 3 s ∷ field_product 2 s ∷ []
 
 -- the tables of products agree with the table of the S-box
 table_0 : map (λ x. word_bytes (get_or (get_or PRODUCTS 0 []) x 0)) (range_with_len 0 256) ≡ map (λ x. times_0 (get_or S_BOX x 0)) (range_with_len 0 256)
@@ -76,3 +63,52 @@ products_2_is x within = products_at (get_or PRODUCTS 2 []) times_2 x table_2 wi
 
 pub products_3_is : (x : ℕ) → x < 256 → word_bytes (get_or (get_or PRODUCTS 3 []) x 0) ≡ times_3 (s_box x)
 products_3_is x within = products_at (get_or PRODUCTS 3 []) times_3 x table_3 within
+
+-- the S-box value alone is left of an entry, in the row that it is wanted in
+abbrev alone_0 : ℕ → List ℕ
+alone_0 s = s ∷ 0 ∷ 0 ∷ 0 ∷ []
+
+last_table_0 : map (λ x. word_bytes (bit_and (get_or (get_or PRODUCTS 2 []) x 0) 255)) (range_with_len 0 256) ≡ map (λ x. alone_0 (get_or S_BOX x 0)) (range_with_len 0 256)
+unfolding byte_of
+last_table_0 = refl
+
+pub last_0_is : (x : ℕ) → x < 256 → word_bytes (bit_and (get_or (get_or PRODUCTS 2 []) x 0) 255) ≡ s_box x ∷ 0 ∷ 0 ∷ 0 ∷ []
+last_0_is x within =
+    same_below [] (λ y. word_bytes (bit_and (get_or (get_or PRODUCTS 2 []) y 0) 255)) (λ y. alone_0 (get_or S_BOX y 0)) 256 x last_table_0 within
+    ∙ ap alone_0 (substituted_is x within)
+
+abbrev alone_1 : ℕ → List ℕ
+alone_1 s = 0 ∷ s ∷ 0 ∷ 0 ∷ []
+
+last_table_1 : map (λ x. word_bytes (bit_and (get_or (get_or PRODUCTS 3 []) x 0) 65280)) (range_with_len 0 256) ≡ map (λ x. alone_1 (get_or S_BOX x 0)) (range_with_len 0 256)
+unfolding byte_of
+last_table_1 = refl
+
+pub last_1_is : (x : ℕ) → x < 256 → word_bytes (bit_and (get_or (get_or PRODUCTS 3 []) x 0) 65280) ≡ 0 ∷ s_box x ∷ 0 ∷ 0 ∷ []
+last_1_is x within =
+    same_below [] (λ y. word_bytes (bit_and (get_or (get_or PRODUCTS 3 []) y 0) 65280)) (λ y. alone_1 (get_or S_BOX y 0)) 256 x last_table_1 within
+    ∙ ap alone_1 (substituted_is x within)
+
+abbrev alone_2 : ℕ → List ℕ
+alone_2 s = 0 ∷ 0 ∷ s ∷ 0 ∷ []
+
+last_table_2 : map (λ x. word_bytes (bit_and (get_or (get_or PRODUCTS 0 []) x 0) 16711680)) (range_with_len 0 256) ≡ map (λ x. alone_2 (get_or S_BOX x 0)) (range_with_len 0 256)
+unfolding byte_of
+last_table_2 = refl
+
+pub last_2_is : (x : ℕ) → x < 256 → word_bytes (bit_and (get_or (get_or PRODUCTS 0 []) x 0) 16711680) ≡ 0 ∷ 0 ∷ s_box x ∷ 0 ∷ []
+last_2_is x within =
+    same_below [] (λ y. word_bytes (bit_and (get_or (get_or PRODUCTS 0 []) y 0) 16711680)) (λ y. alone_2 (get_or S_BOX y 0)) 256 x last_table_2 within
+    ∙ ap alone_2 (substituted_is x within)
+
+abbrev alone_3 : ℕ → List ℕ
+alone_3 s = 0 ∷ 0 ∷ 0 ∷ s ∷ []
+
+last_table_3 : map (λ x. word_bytes (bit_and (get_or (get_or PRODUCTS 1 []) x 0) 4278190080)) (range_with_len 0 256) ≡ map (λ x. alone_3 (get_or S_BOX x 0)) (range_with_len 0 256)
+unfolding byte_of
+last_table_3 = refl
+
+pub last_3_is : (x : ℕ) → x < 256 → word_bytes (bit_and (get_or (get_or PRODUCTS 1 []) x 0) 4278190080) ≡ 0 ∷ 0 ∷ 0 ∷ s_box x ∷ []
+last_3_is x within =
+    same_below [] (λ y. word_bytes (bit_and (get_or (get_or PRODUCTS 1 []) y 0) 4278190080)) (λ y. alone_3 (get_or S_BOX y 0)) 256 x last_table_3 within
+    ∙ ap alone_3 (substituted_is x within)

@@ -89,6 +89,14 @@ encrypted words nr block = add_round_key words nr (shift_rows (sub_bytes (state_
 unfoldable pub cipher : List ℕ → List ℕ → List ℕ
 cipher key block = encrypted (key_expansion key) (length key / 4 + 6) block
 
+-- the block with x as its last byte
+abbrev pub with_last : List ℕ → ℕ → List ℕ
+with_last block x = map (λ k. cond (eqb k 15) x (slice_index block k)) (range_with_len 0 16)
+
+-- the ciphers of eight blocks: the block, and those that differ from it in the last byte, which is counted up
+abbrev pub eight_ciphers : List ℕ → List ℕ → List (List ℕ)
+eight_ciphers key block = map (λ i. cipher key (with_last block (slice_index block 15 + i))) (range_with_len 0 8)
+
 -- the number of words of a key and of its expansion: 4 and 44, 6 and 52, or 8 and 60
 abbrev pub IsKeySize : ℕ → ℕ → Type 0
 IsKeySize nk words = (4 ≤ nk) × (nk ≤ 8) × (nk % 2 ≡ 0) × (words ≡ 4 * nk + 28)

@@ -1,6 +1,6 @@
 //! AES for keys of all three lengths.
-ghost use Rattle.std.specs.Prelude.{◌≡◌};
-ghost use Rattle.aes_core.specs.Aes.{cipher};
+ghost use Rattle.std.specs.Prelude.{◌≡◌, ◌+◌, ◌<◌, slice_index};
+ghost use Rattle.aes_core.specs.Aes.{cipher, eight_ciphers};
 ghost use Rattle.aes_core.specs.AnyAes.{key_of};
 
 use crate::block_cipher::Aes;
@@ -41,6 +41,19 @@ impl AnyAes {
             AnyAes::A128(aes) => aes.encrypt_block(block),
             AnyAes::A192(aes) => aes.encrypt_block(block),
             AnyAes::A256(aes) => aes.encrypt_block(block),
+        }
+    }
+
+    /// Encrypts eight blocks: this one, and those that differ from it in the last byte, which is
+    /// counted up. This is faster than one block at a time.
+    pub fn encrypt_eight(&self, block: &[u8; 16], blocks: &mut [[u8; 16]; 8])
+        requires { slice_index block.now 15 + 7 < 256 }
+        ensures { blocks.new ≡ eight_ciphers (key_of self.now) block.now }
+    {
+        match self {
+            AnyAes::A128(aes) => aes.encrypt_eight(block, blocks),
+            AnyAes::A192(aes) => aes.encrypt_eight(block, blocks),
+            AnyAes::A256(aes) => aes.encrypt_eight(block, blocks),
         }
     }
 }

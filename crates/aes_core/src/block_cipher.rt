@@ -1,9 +1,9 @@
 //! AES for keys of one length.
-ghost use Rattle.std.specs.Prelude.{◌≡◌, ◌+◌, ◌*◌, List, ℕ, length};
-ghost use Rattle.aes_core.specs.Aes.{cipher, expanded_key, IsKeySize, key_bytes};
+ghost use Rattle.std.specs.Prelude.{◌≡◌, ◌+◌, ◌*◌, ◌<◌, List, ℕ, length, slice_index};
+ghost use Rattle.aes_core.specs.Aes.{cipher, eight_ciphers, expanded_key, IsKeySize, key_bytes};
 
 use crate::key_schedule::{key_term, xor_word};
-use crate::rounds::encrypted;
+use crate::rounds::{eight_encrypted, encrypted};
 use std::marker::Model;
 
 /// AES (FIPS 197) with a key of `NK` words, expanded to `W` words: `Aes<4, 44>` is AES-128,
@@ -46,5 +46,14 @@ impl<const NK: usize, const W: usize> Aes<NK, W> {
         ensures { result ≡ cipher self.now block.now }
     {
         encrypted::<NK, W>(&self.words, block)
+    }
+
+    /// Encrypts eight blocks: this one, and those that differ from it in the last byte, which is
+    /// counted up. This is faster than one block at a time.
+    pub fn encrypt_eight(&self, block: &[u8; 16], blocks: &mut [[u8; 16]; 8])
+        requires { slice_index block.now 15 + 7 < 256 }
+        ensures { blocks.new ≡ eight_ciphers self.now block.now }
+    {
+        eight_encrypted::<NK, W>(&self.words, block, blocks);
     }
 }

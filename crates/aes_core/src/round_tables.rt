@@ -1,8 +1,8 @@
 //! Tables of the products in a round, one for each row of the state.
-ghost use Rattle.std.specs.Prelude.{◌≡◌};
+ghost use Rattle.std.specs.Prelude.{◌≡◌, [], ◌∷◌};
 ghost use Rattle.aes_core.specs.Aes.{xor_word};
 ghost use Rattle.aes_core.specs.Field.{s_box};
-ghost use Rattle.aes_core.specs.Words.{byte_of, mixed_word, word_bytes};
+ghost use Rattle.aes_core.specs.Words.{byte_of, mixed_word, times_0, times_1, times_2, times_3, word_bytes};
 
 use crate::words::{byte_0, byte_1, byte_2, byte_3, word_of};
 
@@ -172,6 +172,79 @@ const PRODUCTS: [[u32; 256]; 4] = [
     ],
 ];
 
+/// Returns what a byte in row 0 adds to its column in a full round.
+#[inline(always)]
+#[tactic(auto, using(crate::proofs::Tables::products_0_is))]
+pub(crate) fn product_0(byte: u8) -> u32
+    ensures { word_bytes result ≡ times_0 (s_box byte) }
+{
+    PRODUCTS[0][byte as usize]
+}
+
+/// Returns what a byte in row 1 adds to its column in a full round.
+#[inline(always)]
+#[tactic(auto, using(crate::proofs::Tables::products_1_is))]
+pub(crate) fn product_1(byte: u8) -> u32
+    ensures { word_bytes result ≡ times_1 (s_box byte) }
+{
+    PRODUCTS[1][byte as usize]
+}
+
+/// Returns what a byte in row 2 adds to its column in a full round.
+#[inline(always)]
+#[tactic(auto, using(crate::proofs::Tables::products_2_is))]
+pub(crate) fn product_2(byte: u8) -> u32
+    ensures { word_bytes result ≡ times_2 (s_box byte) }
+{
+    PRODUCTS[2][byte as usize]
+}
+
+/// Returns what a byte in row 3 adds to its column in a full round.
+#[inline(always)]
+#[tactic(auto, using(crate::proofs::Tables::products_3_is))]
+pub(crate) fn product_3(byte: u8) -> u32
+    ensures { word_bytes result ≡ times_3 (s_box byte) }
+{
+    PRODUCTS[3][byte as usize]
+}
+
+/// Returns the S-box value of a byte in row 0, for the last round. It is a byte of the byte's entry in
+/// one of the tables. So are those of the other rows: the last round needs no table of its own.
+#[inline(always)]
+#[tactic(auto, using(crate::proofs::Tables::last_0_is))]
+pub(crate) fn last_0(byte: u8) -> u32
+    ensures { word_bytes result ≡ s_box byte ∷ 0 ∷ 0 ∷ 0 ∷ [] }
+{
+    PRODUCTS[2][byte as usize] & 0xff
+}
+
+/// Returns the S-box value of a byte in row 1, for the last round.
+#[inline(always)]
+#[tactic(auto, using(crate::proofs::Tables::last_1_is))]
+pub(crate) fn last_1(byte: u8) -> u32
+    ensures { word_bytes result ≡ 0 ∷ s_box byte ∷ 0 ∷ 0 ∷ [] }
+{
+    PRODUCTS[3][byte as usize] & 0xff00
+}
+
+/// Returns the S-box value of a byte in row 2, for the last round.
+#[inline(always)]
+#[tactic(auto, using(crate::proofs::Tables::last_2_is))]
+pub(crate) fn last_2(byte: u8) -> u32
+    ensures { word_bytes result ≡ 0 ∷ 0 ∷ s_box byte ∷ 0 ∷ [] }
+{
+    PRODUCTS[0][byte as usize] & 0xff_0000
+}
+
+/// Returns the S-box value of a byte in row 3, for the last round.
+#[inline(always)]
+#[tactic(auto, using(crate::proofs::Tables::last_3_is))]
+pub(crate) fn last_3(byte: u8) -> u32
+    ensures { word_bytes result ≡ 0 ∷ 0 ∷ 0 ∷ s_box byte ∷ [] }
+{
+    PRODUCTS[1][byte as usize] & 0xff00_0000
+}
+
 /// Returns a column of the state after a full round. `a`, `b`, `c` and `d` are the columns before the
 /// round from which ShiftRows moves the bytes of rows 0, 1, 2 and 3 here. `key` is the column's word
 /// of the round key.
@@ -182,9 +255,9 @@ pub(crate) fn full_column(a: u32, b: u32, c: u32, d: u32, key: &[u8; 4]) -> u32
         (mixed_word (s_box (byte_of a 0)) (s_box (byte_of b 1)) (s_box (byte_of c 2))
         (s_box (byte_of d 3))) key.now }
 {
-    PRODUCTS[0][byte_0(a) as usize]
-        ^ PRODUCTS[1][byte_1(b) as usize]
-        ^ PRODUCTS[2][byte_2(c) as usize]
-        ^ PRODUCTS[3][byte_3(d) as usize]
+    product_0(byte_0(a))
+        ^ product_1(byte_1(b))
+        ^ product_2(byte_2(c))
+        ^ product_3(byte_3(d))
         ^ word_of(key)
 }

@@ -1,11 +1,13 @@
 //! The rounds of the cipher, on a state of four columns.
-ghost use Rattle.std.specs.Prelude.{◌≡◌, ◌+◌, ◌*◌, ◌≤◌, [], ◌∷◌, length};
+ghost use Rattle.std.specs.Prelude.{◌≡◌, ◌+◌, ◌-◌, ◌*◌, ◌≤◌, ◌<◌, ℕ, List, [], ◌∷◌, length, map, slice_index};
+ghost use Rattle.std.specs.List.{range_with_len};
 ghost use Rattle.aes_core.specs.Field.{s_box};
-ghost use Rattle.aes_core.specs.Aes.{add_round_key, encrypted, IsKeySize, mix_columns, shift_rows, sub_bytes, xor_word};
-ghost use Rattle.aes_core.specs.Words.{byte_of, state_bytes, word_bytes};
+ghost use Rattle.aes_core.specs.Aes.{add_round_key, encrypted, IsKeySize, mix_columns, shift_rows, state_after, sub_bytes, with_last, xor_word};
+ghost use Rattle.aes_core.specs.Words.{byte_of, state_bytes, times_0, times_1, times_2, times_3, word_bytes};
 
-use crate::round_tables::full_column;
-use crate::substitution::substituted;
+use crate::round_tables::{
+    full_column, last_0, last_1, last_2, last_3, product_0, product_1, product_2, product_3,
+};
 use crate::words::{block_of, byte_0, byte_1, byte_2, byte_3, word_of};
 
 type Columns = [u32; 4];
@@ -33,13 +35,7 @@ fn last_column(a: u32, b: u32, c: u32, d: u32, key: &[u8; 4]) -> u32
         (s_box (byte_of a 0) ∷ s_box (byte_of b 1) ∷ s_box (byte_of c 2) ∷ s_box (byte_of d 3) ∷ [])
         key.now }
 {
-    let bytes = [
-        substituted(byte_0(a)),
-        substituted(byte_1(b)),
-        substituted(byte_2(c)),
-        substituted(byte_3(d)),
-    ];
-    word_of(&bytes) ^ word_of(key)
+    last_0(byte_0(a)) ^ last_1(byte_1(b)) ^ last_2(byte_2(c)) ^ last_3(byte_3(d)) ^ word_of(key)
 }
 
 #[inline(always)]
@@ -74,9 +70,50 @@ fn last_round(words: &[[u8; 4]], round: usize, columns: Columns) -> Columns
     round!(last_column, words, round, columns)
 }
 
+/// Adds to the columns after a full round what the bytes of column 0 before the round add to them.
+/// To add it twice is to take it away.
+#[inline(always)]
+fn plus_column_0(columns: Columns, a: u32) -> Columns
+    ensures column_0 { word_bytes (slice_index result 0) ≡
+        xor_word (word_bytes (slice_index columns 0)) (times_0 (s_box (byte_of a 0))) }
+    ensures column_1 { word_bytes (slice_index result 1) ≡
+        xor_word (word_bytes (slice_index columns 1)) (times_3 (s_box (byte_of a 3))) }
+    ensures column_2 { word_bytes (slice_index result 2) ≡
+        xor_word (word_bytes (slice_index columns 2)) (times_2 (s_box (byte_of a 2))) }
+    ensures column_3 { word_bytes (slice_index result 3) ≡
+        xor_word (word_bytes (slice_index columns 3)) (times_1 (s_box (byte_of a 1))) }
+{
+    let [p, q, r, s] = columns;
+    [
+        p ^ product_0(byte_0(a)),
+        q ^ product_3(byte_3(a)),
+        r ^ product_2(byte_2(a)),
+        s ^ product_1(byte_1(a)),
+    ]
+}
+
+/// Does the rounds from `from` on and returns the block.
+#[inline(always)]
+fn finished<const NK: usize, const W: usize>(
+    words: &[[u8; 4]; W],
+    from: usize,
+    columns: Columns,
+) -> [u8; 16]
+    requires size { IsKeySize NK W }
+    requires from { (1 ≤ from) × (from ≤ NK + 6) }
+    ensures { (block : List ℕ) → state_bytes columns ≡ state_after words.now block (from - 1)
+        → result ≡ encrypted words.now (NK + 6) block }
+{
+    let mut columns = columns;
+    for round in from..NK + 6 {
+        let next = full_round(words, round, columns);
+        columns = next;
+    }
+    block_of(last_round(words, NK + 6, columns))
+}
+
 /// Encrypts a block with the words of an expanded key, in `NK + 6` rounds.
 #[inline(always)]
-#[tactic(auto, unfolding(crate::specs::Aes::state_after, crate::specs::Aes::encrypted))]
 pub(crate) fn encrypted<const NK: usize, const W: usize>(
     words: &[[u8; 4]; W],
     block: &[u8; 16],
@@ -84,10 +121,33 @@ pub(crate) fn encrypted<const NK: usize, const W: usize>(
     requires { IsKeySize NK W }
     ensures { result ≡ encrypted words.now (NK + 6) block.now }
 {
-    let mut columns = first_columns(words, block);
-    for round in 1..NK + 6 {
-        let next = full_round(words, round, columns);
-        columns = next;
+    finished::<NK, W>(words, 1, first_columns(words, block))
+}
+
+/// Encrypts eight blocks: this one, and those that differ from it in the last byte, which is counted
+/// up. After the first round they differ in column 0 alone, so that most of two rounds is done once.
+#[inline(always)]
+pub(crate) fn eight_encrypted<const NK: usize, const W: usize>(
+    words: &[[u8; 4]; W],
+    block: &[u8; 16],
+    blocks: &mut [[u8; 16]; 8],
+)
+    requires size { IsKeySize NK W }
+    requires last { slice_index block.now 15 + 7 < 256 }
+    ensures { blocks.new ≡
+        map (λ i. encrypted words.now (NK + 6) (with_last block.now (slice_index block.now 15 + i)))
+        (range_with_len 0 8) }
+{
+    let columns = first_columns(words, block);
+    let first = full_round(words, 1, columns);
+    let second = full_round(words, 2, first);
+    let column_sum = first[0] ^ product_3(byte_3(columns[3]));
+    let sums = plus_column_0(second, first[0]);
+    for i in 0..8usize {
+        let last = block[15] + i as u8;
+        let column = column_sum ^ product_3(last ^ words[3][3]);
+        let start = plus_column_0(sums, column);
+        let made = finished::<NK, W>(words, 3, start);
+        blocks[i] = made;
     }
-    block_of(last_round(words, NK + 6, columns))
 }

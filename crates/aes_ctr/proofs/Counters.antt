@@ -1,6 +1,8 @@
 -- The bytes of a number in reverse order.
-use Rattle.std.proofs.Common.{◌≡◌, ℕ, zero, suc, ◌+◌, ◌*◌, ◌/◌, ◌%◌, ◌^◌, ◌<◌, List, [], ◌∷◌, ◌++◌, length, get_or, sym, ap, ◌∙◌, arith}
+use Rattle.std.proofs.Common.{◌≡◌, ℕ, zero, suc, ◌+◌, ◌*◌, ◌/◌, ◌%◌, ◌^◌, ◌<◌, List, [], ◌∷◌, ◌++◌, length, get_or, slice_index, sym, ap, ◌∙◌, arith, add-zero}
 use Rattle.std.specs.Int.{w64, w128, from_be_bytes, swap_bytes, to_be_bytes, to_le_bytes}
+use Rattle.aes_core.specs.Aes.{cipher, eight_ciphers, with_last}
+use Rattle.aes_ctr.specs.Ctr.{counter_block, eight_stream_blocks}
 use Rattle.std.proofs.Math.Nat.{pow-succ', div-div-eq-div-mul}
 
 abbrev AreBytes : List ℕ → Type 0
@@ -63,3 +65,46 @@ halves n =
     let at_1 : (n % 2 ^ 64) / 256 ^ 1 % 256 ≡ n / 256 ^ 1 % 256 = omega arith in
     let at_0 : (n % 2 ^ 64) % 256 ≡ n % 256 = omega arith in
     λ i. at_15 i ∷ at_14 i ∷ at_13 i ∷ at_12 i ∷ at_11 i ∷ at_10 i ∷ at_9 i ∷ at_8 i ∷ at_7 i ∷ at_6 i ∷ at_5 i ∷ at_4 i ∷ at_3 i ∷ at_2 i ∷ at_1 i ∷ at_0 i ∷ []
+
+-- a number whose last byte is counted up without a carry
+last_counted : (n i : ℕ) → n % 256 + i < 256 → to_be_bytes w128 (n + i) ≡ with_last (to_be_bytes w128 n) (n % 256 + i)
+last_counted n i no_carry =
+    let at_15 : (n + i) / 256 ^ 15 % 256 ≡ n / 256 ^ 15 % 256 = omega (arith, no_carry) in
+    let at_14 : (n + i) / 256 ^ 14 % 256 ≡ n / 256 ^ 14 % 256 = omega (arith, no_carry) in
+    let at_13 : (n + i) / 256 ^ 13 % 256 ≡ n / 256 ^ 13 % 256 = omega (arith, no_carry) in
+    let at_12 : (n + i) / 256 ^ 12 % 256 ≡ n / 256 ^ 12 % 256 = omega (arith, no_carry) in
+    let at_11 : (n + i) / 256 ^ 11 % 256 ≡ n / 256 ^ 11 % 256 = omega (arith, no_carry) in
+    let at_10 : (n + i) / 256 ^ 10 % 256 ≡ n / 256 ^ 10 % 256 = omega (arith, no_carry) in
+    let at_9 : (n + i) / 256 ^ 9 % 256 ≡ n / 256 ^ 9 % 256 = omega (arith, no_carry) in
+    let at_8 : (n + i) / 256 ^ 8 % 256 ≡ n / 256 ^ 8 % 256 = omega (arith, no_carry) in
+    let at_7 : (n + i) / 256 ^ 7 % 256 ≡ n / 256 ^ 7 % 256 = omega (arith, no_carry) in
+    let at_6 : (n + i) / 256 ^ 6 % 256 ≡ n / 256 ^ 6 % 256 = omega (arith, no_carry) in
+    let at_5 : (n + i) / 256 ^ 5 % 256 ≡ n / 256 ^ 5 % 256 = omega (arith, no_carry) in
+    let at_4 : (n + i) / 256 ^ 4 % 256 ≡ n / 256 ^ 4 % 256 = omega (arith, no_carry) in
+    let at_3 : (n + i) / 256 ^ 3 % 256 ≡ n / 256 ^ 3 % 256 = omega (arith, no_carry) in
+    let at_2 : (n + i) / 256 ^ 2 % 256 ≡ n / 256 ^ 2 % 256 = omega (arith, no_carry) in
+    let at_1 : (n + i) / 256 ^ 1 % 256 ≡ n / 256 ^ 1 % 256 = omega (arith, no_carry) in
+    let at_0 : (n + i) % 256 ≡ n % 256 + i = omega (arith, no_carry) in
+    λ p. at_15 p ∷ at_14 p ∷ at_13 p ∷ at_12 p ∷ at_11 p ∷ at_10 p ∷ at_9 p ∷ at_8 p ∷ at_7 p ∷ at_6 p ∷ at_5 p ∷ at_4 p ∷ at_3 p ∷ at_2 p ∷ at_1 p ∷ at_0 p ∷ []
+
+-- the counter block i blocks later differs in the last byte alone, if there is no carry from it
+pub counted_up : (counter : List ℕ) (j i : ℕ) → slice_index (counter_block counter j) 15 + i < 256
+    → with_last (counter_block counter j) (slice_index (counter_block counter j) 15 + i) ≡ counter_block counter (j + i)
+unfolding counter_block
+counted_up counter j i no_carry =
+    let first : ℕ = from_be_bytes w128 counter in
+    let n : ℕ = (first + j) % 2 ^ 128 in
+    let no_wrap : n + i ≡ (first + (j + i)) % 2 ^ 128 = omega (arith, no_carry) in
+    sym (last_counted n i no_carry) ∙ ap (λ (m : ℕ). to_be_bytes w128 m) no_wrap
+
+-- so eight counter blocks in a row are encrypted at once
+pub eight_are : (key counter block : List ℕ) (j : ℕ) → block ≡ counter_block counter j → slice_index block 15 + 7 < 256 → eight_ciphers key block ≡ eight_stream_blocks key counter j
+eight_are key counter block j block_is no_carry =
+    let first : List ℕ = counter_block counter j in
+    let room : slice_index first 15 + 7 < 256 = rw (← block_is) no_carry in
+    let at : (i : ℕ) → i < 8 → cipher key (with_last first (slice_index first 15 + i)) ≡ cipher key (counter_block counter (j + i)) =
+    λ i below. ap (λ (b : List ℕ). cipher key b) (counted_up counter j i (omega (arith, room))) in
+    let at_0 : cipher key (with_last first (slice_index first 15 + 0)) ≡ cipher key (counter_block counter j) =
+    at 0 (omega arith) ∙ ap (λ (m : ℕ). cipher key (counter_block counter m)) (add-zero j) in
+    ap (λ (b : List ℕ). eight_ciphers key b) block_is
+    ∙ (λ p. at_0 p ∷ at 1 (omega arith) p ∷ at 2 (omega arith) p ∷ at 3 (omega arith) p ∷ at 4 (omega arith) p ∷ at 5 (omega arith) p ∷ at 6 (omega arith) p ∷ at 7 (omega arith) p ∷ [])

@@ -41,7 +41,8 @@ fn xor_eight_blocks(key: &AnyAes, counter: [u8; 16], offset: u64, bytes: &mut [u
     ensures length { length bytes.new ≡ length bytes.old }
     ensures done { Advances (key_of key.now) counter offset bytes.old bytes.new at (at + 128) }
 {
-    let blocks = eight_stream_blocks(key, counter, (offset + at as u64) / 16);
+    let mut blocks = [[0u8; 16]; 8];
+    eight_stream_blocks(key, counter, (offset + at as u64) / 16, &mut blocks);
     xor_lanes(bytes, at, blocks[0]);
     xor_lanes(bytes, at + 16, blocks[1]);
     xor_lanes(bytes, at + 32, blocks[2]);

@@ -39,13 +39,25 @@ pub(crate) fn stream_block(key: &AnyAes, counter: [u8; 16], j: u64) -> [u8; 16]
     key.encrypt_block(&counter_block(counter, j))
 }
 
-/// Returns eight blocks of the key stream, from block `j` on.
+/// Makes eight blocks of the key stream, from block `j` on.
 #[inline(always)]
-pub(crate) fn eight_stream_blocks(key: &AnyAes, counter: [u8; 16], j: u64) -> [[u8; 16]; 8]
+pub(crate) fn eight_stream_blocks(
+    key: &AnyAes,
+    counter: [u8; 16],
+    j: u64,
+    blocks: &mut [[u8; 16]; 8],
+)
     requires { j + 7 < 2 ^ 64 }
-    ensures { result ≡ eight_stream_blocks (key_of key.now) counter j }
+    ensures { blocks.new ≡ eight_stream_blocks (key_of key.now) counter j }
 {
-    [
+    // The blocks are written where they are to be. A value that is returned from two places is
+    // compiled to a move or more for each byte.
+    let block = counter_block(counter, j);
+    if block[15] < 249 {
+        key.encrypt_eight(&block, blocks);
+        return;
+    }
+    *blocks = [
         stream_block(key, counter, j),
         stream_block(key, counter, j + 1),
         stream_block(key, counter, j + 2),
@@ -54,5 +66,5 @@ pub(crate) fn eight_stream_blocks(key: &AnyAes, counter: [u8; 16], j: u64) -> [[
         stream_block(key, counter, j + 5),
         stream_block(key, counter, j + 6),
         stream_block(key, counter, j + 7),
-    ]
+    ];
 }
