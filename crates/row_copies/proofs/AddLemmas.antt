@@ -57,7 +57,7 @@ all-same f (y ∷ ys) = (refl, all-same f ys)
 
 -- files
 
-and-no : (a b : Bool) → (b ≡ true → ⊥) → (a && b) ≡ false
+pub and-no : (a b : Bool) → (b ≡ true → ⊥) → (a && b) ≡ false
 and-no true true h = absurd (h refl)
 and-no true false h = refl
 and-no false b h = refl
