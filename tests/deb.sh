@@ -18,13 +18,15 @@ same 'its name' "hkms_${version#hkms }_$(dpkg --print-architecture).deb" "${pack
 
 fresh
 dpkg-deb -R "$package" "$room"
-same 'its files' 'usr/bin/hkfs
+same 'its files' 'usr/bin/hkcopy
+usr/bin/hkfs
 usr/bin/hkms
 usr/lib/systemd/system/hkms.service
 usr/lib/systemd/system/hkms.socket
 usr/lib/systemd/system/hkms@.service
 usr/lib/tmpfiles.d/hkms.conf
 usr/libexec/hkms-connection
+usr/share/bash-completion/completions/hkcopy
 usr/share/bash-completion/completions/hkfs
 usr/share/bash-completion/completions/hkms
 usr/share/doc/hkms/changelog.gz
@@ -32,11 +34,12 @@ usr/share/doc/hkms/copyright
 usr/share/doc/hkms/examples/inetd.conf
 usr/share/doc/hkms/examples/kms-acls.properties
 usr/share/doc/hkms/examples/nginx.conf
+usr/share/man/man1/hkcopy.1.gz
 usr/share/man/man1/hkfs.1.gz
 usr/share/man/man1/hkms.1.gz' "$(cd "$room" && find usr -type f | LC_ALL=C sort)"
 same 'owners of its files' 'root/root' "$(dpkg-deb -c "$package" | awk '{ print $2 }' | sort -u)"
 same 'paths that are not its own' '' "$(grep -rlaI /usr/local "$room")"
-for name in hkms hkfs; do
+for name in hkms hkfs hkcopy; do
     cmp "$room/usr/bin/$name" "crates/${name}_tool/out/${name}_tool"
     same "the proved $name" 0 $?
     same "the manual page of $name" "$(cat "docs/$name.1")" "$(gzip -dc "$room/usr/share/man/man1/$name.1.gz")"
@@ -81,6 +84,8 @@ output=$(cd "$room/var/lib/hkms" && ../../../usr/bin/hkms replay <<<'kms a creat
 same 'the installed program' '1 version k@0 2b7e151628aed2a6abf7158809cf4f3c' "$output"
 output=$(cd "$room/var/lib/hkms" && printf body | ../../../usr/bin/hkfs put a /b)
 same 'the installed hkfs' 'put 4' "$output"
+output=$(cd "$room/var/lib/hkms" && ../../../usr/bin/hkcopy copy /.reserved/raw/z /w)
+same 'the installed hkcopy' 'refused N2 NoSuchPath' "$output"
 
 chmod 750 "$room/var/lib/hkms"
 run_dpkg -i "$package"
@@ -91,7 +96,7 @@ same 'the folder after it' 750 "$(stat -c %a "$room/var/lib/hkms")"
 run_dpkg -P hkms
 same 'a removal' 0 "$status"
 same 'what is left of its files' '' "$(find "$room/usr" -type f 2>/dev/null)"
-same 'what is left of the folder' 'bodies keys.log names.log' "$(cd "$room/var/lib/hkms" && echo *)"
+same 'what is left of the folder' 'backup bodies copies keys.log names.log' "$(cd "$room/var/lib/hkms" && echo *)"
 same 'the account after it' 1 "$(account)"
 same 'the accounts of this machine' "$accounts" "$(getent passwd)"
 

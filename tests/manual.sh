@@ -1,14 +1,16 @@
 #!/usr/bin/env bash
-# The manual pages and the completions say what `hkms --help` and `hkfs --help` say: docs/hkms.1 and docs/hkfs.1 are made of the texts of
-# help, and the completions have the same commands and options. CHANGELOG.md has the version that the programs print.
+# The manual pages and the completions say what `hkms --help`, `hkfs --help` and `hkcopy --help` say: docs/hkms.1 and the others are made
+# of the texts of help, and the completions have the same commands and options. CHANGELOG.md has the version that the programs print.
 #
 #   tests/manual.sh                     compares
-#   tests/manual.sh --write [PROGRAM]   makes both pages anew, or that of one program
+#   tests/manual.sh --write [PROGRAM]   makes the pages anew, or that of one program
 set -u
 . "$(dirname "${BASH_SOURCE[0]}")/room.bash"
 
 # shellcheck disable=SC2034
 hkfs=${HKFS:-$PWD/hkfs}
+# shellcheck disable=SC2034
+hkcopy=${HKCOPY:-$PWD/hkcopy}
 
 # help PROGRAM [COMMAND]: the text of help of a program, or of a command of it.
 help() {
@@ -63,7 +65,8 @@ words_of() {
     'hkms serve') cat <<<'[\-\-port \fIN\fR] [\-\-conns \fIN\fR] [\-\-connections \fIN\fR]' ;;
     'hkms load') cat <<<'\fIN\fR' ;;
     'hkfs put') cat <<<'\fIUSER PATH\fR < \fIBODY\fR' ;;
-    'hkfs read') cat <<<'\fIUSER PATH FROM COUNT\fR > \fIBYTES\fR' ;;
+    'hkfs read' | 'hkcopy read') cat <<<'\fIUSER PATH FROM COUNT\fR > \fIBYTES\fR' ;;
+    'hkcopy copy') cat <<<'\fIFROM TO\fR' ;;
     esac
 }
 
@@ -138,7 +141,7 @@ compare() {
 }
 
 written=${2-}
-for name in ${written:-hkms hkfs}; do
+for name in ${written:-hkms hkfs hkcopy}; do
     "${!name}" --help >/dev/null || exit 1
     if [ "${1-}" = --write ]; then page "$name" >"docs/$name.1"; else compare "$name"; fi
 done

@@ -1,0 +1,4 @@
+mod OrderLemmas
+mod PlainLemmas
+mod SpellingLemmas
+mod ValueLemmas

@@ -1,0 +1,72 @@
+//! The commands of the program, as declared to `clap`.
+ghost use Rattle.std.specs.Prelude.{◌≡◌, IfOk};
+ghost use Rattle.clap.specs.Words.{app_of};
+ghost use Rattle.copy_command_line.specs.Line as line;
+
+use crate::help;
+use clap::Command;
+use clap_lines::word;
+use std::alloc::{AllocError, Global};
+
+/// Declares the program without its commands. A command is required, and `help` is not a command.
+fn top<'a>(alloc: Global) -> Result<Command<'a>, AllocError>
+    ensures { IfOk result (λ r. app_of r ≡ line.top) }
+{
+    Command::new(alloc, "hkcopy")
+        .about(help::PROGRAM)
+        .after_help(help::PROGRAM_NOTES)
+        .version(help::VERSION)
+        .no_binary_name(true)
+        .subcommand_required(true)
+        .disable_help_subcommand(true)
+        .bin_name("hkcopy")
+}
+
+/// Declares `copy` with its words.
+fn copy<'a>(alloc: Global) -> Result<Command<'a>, AllocError>
+    ensures { IfOk result (λ r. app_of r ≡ line.copy) }
+{
+    let plain = Command::new(alloc, "copy")
+        .about(help::COPY)
+        .after_help(help::COPY_NOTES);
+    let half = plain.arg(word(alloc, "source", "FROM", help::SOURCE))?;
+    half.arg(word(alloc, "target", "TO", help::TARGET))
+}
+
+/// Adds the command `copy`.
+fn with_copy<'a>(alloc: Global, program: Command<'a>) -> Result<Command<'a>, AllocError>
+    ensures { IfOk result (λ r. app_of r ≡ line.with_copy (app_of program.entry)) }
+{
+    let copy = copy(alloc)?;
+    program.subcommand(copy)
+}
+
+/// Declares `read` with its words.
+fn read<'a>(alloc: Global) -> Result<Command<'a>, AllocError>
+    ensures { IfOk result (λ r. app_of r ≡ line.read) }
+{
+    let plain = Command::new(alloc, "read")
+        .about(help::READ)
+        .after_help(help::READ_NOTES);
+    let one = plain.arg(word(alloc, "user", "USER", help::USER))?;
+    let two = one.arg(word(alloc, "path", "PATH", help::PATH))?;
+    let three = two.arg(word(alloc, "from", "FROM", help::FROM))?;
+    three.arg(word(alloc, "count", "COUNT", help::COUNT))
+}
+
+/// Adds the command `read`.
+fn with_read<'a>(alloc: Global, program: Command<'a>) -> Result<Command<'a>, AllocError>
+    ensures { IfOk result (λ r. app_of r ≡ line.with_read (app_of program.entry)) }
+{
+    let read = read(alloc)?;
+    program.subcommand(read)
+}
+
+/// Declares the program with its commands.
+pub(crate) fn hkcopy<'a>(alloc: Global) -> Result<Command<'a>, AllocError>
+    ensures { IfOk result (λ r. app_of r ≡ line.hkcopy) }
+{
+    let program = top(alloc)?;
+    let half = with_copy(alloc, program)?;
+    with_read(alloc, half)
+}

@@ -1,0 +1,35 @@
+//! What words name which order. The functions do nothing: their contracts are the laws.
+ghost use Rattle.std.specs.Prelude.{codes, [], ◌∷◌, ◌<◌, ◌≤◌, ◌^◌, ◌⊎◌, ◌≡◌, ℕ, List, length};
+ghost use Rattle.std.specs.Fmt.{decimal};
+ghost use Rattle.clap.specs.Words.{Text};
+ghost use Rattle.clap_lines.specs.Orders.{IsMistake, IsPlain};
+ghost use Rattle.copy_command_line.specs.Orders.{HasRightValues, IsSpelled, Names, line_fault};
+ghost use Rattle.copy_command_line.specs.declared.order.CopyOrder.{CopyOrder};
+ghost use Rattle.copy_command_line.specs.declared.order.CopyOrder.TheVariants as order;
+
+/// The words that spell an order name it, and an order that words name has values in their bounds: a user
+/// of 1 to 255 bytes, and numbers below 2^63.
+pub fn words_name_their_order()
+    ensures spelled { (o : CopyOrder) (words : List Text) → IsSpelled o words → Names o words }
+    ensures right { (o : CopyOrder) (words : List Text) → Names o words → HasRightValues o }
+    ensures copy { Names (order.Copy (codes "/.reserved/raw/z") (codes "/w"))
+        (codes "copy" ∷ codes "/.reserved/raw/z" ∷ codes "/w" ∷ []) }
+{}
+
+/// A user of no byte or of more than 255 is a mistake, and so are a number of 2^63 or more, a number with a
+/// leading zero or a sign, a word too few, and a word too many.
+pub fn other_words_are_refused()
+    ensures user { (user path : Text) → IsPlain user → IsPlain path →
+        ¬ ((1 ≤ length user) × (length user ≤ 255)) →
+        IsMistake (line_fault (codes "read" ∷ user ∷ path ∷ codes "0" ∷ codes "1" ∷ [])) }
+    ensures number { (number : ℕ) → number < 2 ^ 64 → 2 ^ 63 ≤ number →
+        IsMistake
+        (line_fault (codes "read" ∷ codes "alice" ∷ codes "/b" ∷ codes "0" ∷ decimal number ∷ [])) }
+    ensures zeros { IsMistake
+        (line_fault (codes "read" ∷ codes "alice" ∷ codes "/b" ∷ codes "00" ∷ codes "1" ∷ [])) }
+    ensures sign { IsMistake
+        (line_fault (codes "read" ∷ codes "alice" ∷ codes "/b" ∷ codes "0" ∷ codes "+1" ∷ [])) }
+    ensures one_less { IsMistake (line_fault (codes "copy" ∷ codes "/b" ∷ [])) }
+    ensures one_more { IsMistake
+        (line_fault (codes "copy" ∷ codes "/b" ∷ codes "/c" ∷ codes "/d" ∷ [])) }
+{}

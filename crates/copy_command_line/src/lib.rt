@@ -1,0 +1,13 @@
+//! The command line of `hkcopy`, parsed by `clap`.
+#![tactic(auto)]
+
+mod commands;
+mod help;
+mod laws;
+mod order;
+mod reading;
+
+pub use clap_lines::OrderFault;
+pub use laws::{other_words_are_refused, words_name_their_order};
+pub use order::CopyOrder;
+pub use reading::read_order;
