@@ -3,7 +3,8 @@ use Rattle.std.proofs.Common.{◌≡◌, ℕ, Bool, true, false, cond, List, [],
 use Rattle.std.specs.Prelude.{Option, Some, None}
 use Rattle.std.specs.Io.KnownBytes.{Appends}
 use Rattle.hk_base.specs.declared.names.Edek.{Edek}
-use Rattle.inode_tree.specs.Rows.{Entry, is_dir, row_at, same_path}
+use Rattle.inode_tree.specs.Rows.{Entry, is_dir, row_at}
+use Rattle.name_calls.specs.Paths.{same_path}
 use Rattle.inode_tree.specs.declared.rows.Kind.{Kind}
 use Rattle.inode_tree.specs.declared.rows.Kind.TheVariants.{File}
 use Rattle.inode_tree.specs.declared.rows.Row.{Row}
@@ -34,10 +35,10 @@ module _ (p : List (List ℕ)) (row : Row) (bodies copies : ℕ → List ℕ) wh
   copied_at [] [] at are has = absurd cc
   copied_at [] (y ∷ ys) at are has = absurd are
   copied_at (x ∷ xs) [] at are has = absurd are
-  copied_at (x ∷ xs) (y ∷ ys) at ((same_place, same_kind), are) (body, has) = go (same_path x.path p) (ap (λ (q : List (List ℕ)). same_path q p) same_place) at
+  copied_at (x ∷ xs) (y ∷ ys) at ((same_place, same_kind), are) (body, has) = go (same_path x.path p) (ap (λ (q : List (List ℕ)). same_path q p) same_place) at (λ e. copied_at xs ys e are has)
     where
-      go : (t : Bool) → same_path y.path p ≡ t → cond t (Some x.row) (row_at xs p) ≡ Some row → IsCopied (y ∷ ys) p row bodies copies
-      go true is e =
+      go : (t : Bool) → same_path y.path p ≡ t → cond t (Some x.row) (row_at xs p) ≡ Some row → (row_at xs p ≡ Some row → IsCopied ys p row bodies copies) → IsCopied (y ∷ ys) p row bodies copies
+      go true is e later =
           let own : x.row ≡ row = cc e in
           record {
             copy = y.row;
@@ -45,8 +46,8 @@ module _ (p : List (List ℕ)) (row : Row) (bodies copies : ℕ → List ℕ) wh
             kind = same_kind ∙ ap (λ (r : Row). r.kind) own;
             body = λ file. body (ap (λ (r : Row). is_dir r.kind) own ∙ file) ∙ ap (λ (r : Row). bodies r.id) own;
           }
-      go false is e =
-          let further = copied_at xs ys e are has in
+      go false is e later =
+          let further = later e in
           record { copy = further.copy; at = ap (λ (t : Bool). cond t (Some y.row) (row_at ys p)) is ∙ further.at; kind = further.kind; body = further.body }
 
 -- ---- what is read
@@ -63,7 +64,7 @@ no_dir kind edek e = ap is_dir (sym e)
 -- the draw of the source is that of its copy
 drawn : (keys : List KeyRow) (file : Row) (shown : ShownFile) (draw : Option Draw) → File shown.edek ≡ file.kind → StillOpens keys file draw → IsDrawOfCopy keys shown draw
 drawn keys file shown None is none = ap edek_of is ∙ none
-drawn keys file shown (Some draw) is (edek, has, opens) = (edek, ap edek_of is ∙ has, opens)
+drawn keys file shown (Some draw) is o = (o.0, ap edek_of is ∙ o.1, o.2, o.3, o.4, o.5)
 
 pub read_back : CopiesAreReadBack
 read_back known w path text count from wanted left left' old new copies draw place target below file before after keys rows written now put of was there opens is_text read =
