@@ -1,7 +1,6 @@
 -- What was put is read back of a copy.
-use Rattle.std.proofs.Common.{◌≡◌, ℕ, Bool, true, false, cond, List, [], ◌∷◌, ◌++◌, sym, ap, subst, ◌∙◌}
+use Rattle.std.proofs.Common.{◌≡◌, ℕ, Bool, true, false, cond, List, [], ◌∷◌, ◌++◌, sym, ap, ◌∙◌}
 use Rattle.std.specs.Prelude.{Option, Some, None}
-use Rattle.std.specs.Io.KnownBytes.{Appends}
 use Rattle.hk_base.specs.declared.names.Edek.{Edek}
 use Rattle.inode_tree.specs.Rows.{Entry, is_dir, row_at}
 use Rattle.name_calls.specs.Paths.{same_path}
