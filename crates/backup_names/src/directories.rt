@@ -1,9 +1,10 @@
 //! Directories of a copy.
-ghost use Rattle.std.specs.Prelude.{◌≡◌, IsErrOf};
+ghost use Rattle.std.specs.Prelude.{◌≡◌, IfErr, IsErrOf};
 ghost use Rattle.hk_base.specs.Faults.{Rose};
 ghost use Rattle.backup_names.specs.Changes.{Changes, MakesDirectory};
 ghost use Rattle.backup_names.specs.Ends.{change_end};
 ghost use Rattle.backup_names.specs.Orders.{HoldsNames, IsSettled, OrdersNames};
+ghost use Rattle.file_orders.specs.Ends.{IsFailure};
 
 use file_orders::{FsEnd, end_of_names};
 use hk_base::{Disk, Text};
@@ -37,6 +38,7 @@ pub fn make_directory<E: Disk>(
     ensures orders { OrdersNames (E.state disk.old) (E.state disk.new) name.old name.new }
     ensures fault { IsErrOf result FsEnd.StoreFault →
         Rose (E.state disk.old).faults (E.state disk.new).faults }
+    ensures failure { IfErr result IsFailure }
 {
     name.invariants();
     let path = match path.copy(alloc) {

@@ -1,8 +1,9 @@
 //! Files of a copy, with their encrypted keys.
-ghost use Rattle.std.specs.Prelude.{◌≡◌, IfOk, IsErrOf};
+ghost use Rattle.std.specs.Prelude.{◌≡◌, IfErr, IfOk, IsErrOf};
 ghost use Rattle.hk_base.specs.Faults.{Rose};
 ghost use Rattle.backup_names.specs.Changes.{Changes, FinishesFile, IsAsked};
 ghost use Rattle.backup_names.specs.Orders.{HoldsNames, IsSettled, OnlyAsks, OrdersNames};
+ghost use Rattle.file_orders.specs.Ends.{IsFailure};
 ghost use Rattle.name_calls.specs.declared.calls.Ask.TheVariants as ask;
 
 use crate::zones::finish_end;
@@ -18,6 +19,7 @@ pub fn ask_file(alloc: Global, name: &mut Name, user: &Text, path: &NPath) -> Re
     ensures asked { IfOk result (IsAsked (ask.Create path.now) name.new) }
     ensures only { OnlyAsks user.now (ask.Create path.now) name.old name.new }
     ensures fault { IsErrOf result FsEnd.StoreFault → ⊥ }
+    ensures failure { IfErr result IsFailure }
 {
     name.invariants();
     let path = match path.copy(alloc) {
@@ -45,6 +47,7 @@ pub fn finish_file<E: Disk>(
     ensures orders { OrdersNames (E.state disk.old) (E.state disk.new) name.old name.new }
     ensures fault { IsErrOf result FsEnd.StoreFault →
         Rose (E.state disk.old).faults (E.state disk.new).faults }
+    ensures failure { IfErr result IsFailure }
 {
     finish_end(name.finish_with(disk, id, KeyAnswer::Given(edek)))
 }

@@ -92,6 +92,7 @@ pub fn is_directory<E: Disk>(
         option_map (λ row. is_dir row.kind) (row_at name.old.store.table.rows path.now)) }
     ensures same { service_of name.new ≡ service_of name.old }
     ensures fault { IsErrOf result FsEnd.StoreFault → ⊥ }
+    ensures failure { IfErr result IsFailure }
     ensures orders { OrdersNames (E.state disk.old) (E.state disk.new) name.old name.new }
 {
     match look(alloc, name, disk, user, path) {

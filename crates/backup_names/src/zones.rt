@@ -1,9 +1,10 @@
 //! Zones of a copy, with their keys.
-ghost use Rattle.std.specs.Prelude.{◌≡◌, ◌⊎◌, IfOk, IsErrOf};
+ghost use Rattle.std.specs.Prelude.{◌≡◌, ◌⊎◌, IfErr, IfOk, IsErrOf};
 ghost use Rattle.hk_base.specs.Faults.{Rose};
 ghost use Rattle.backup_names.specs.Changes.{Changes, FinishesZone, IsAsked};
 ghost use Rattle.backup_names.specs.Ends.{IsFaultOfKeys, ShowsRefusal, finish_end};
 ghost use Rattle.backup_names.specs.Orders.{HoldsNames, IsSettled, OnlyAsks, OrdersNames};
+ghost use Rattle.file_orders.specs.Ends.{IsFailure};
 ghost use Rattle.name_calls.specs.declared.calls.Ask.TheVariants as ask;
 
 use file_orders::{FsEnd, end_of_names};
@@ -35,6 +36,7 @@ pub fn ask_zone(
     ensures asked { IfOk result (IsAsked (ask.Zone path.now key) name.new) }
     ensures only { OnlyAsks user.now (ask.Zone path.now key) name.old name.new }
     ensures fault { IsErrOf result FsEnd.StoreFault → ⊥ }
+    ensures failure { IfErr result IsFailure }
 {
     name.invariants();
     let path = match path.copy(alloc) {
@@ -64,6 +66,7 @@ pub fn finish_zone<E: Disk>(
     ensures refused { ShowsRefusal reply id name.old result }
     ensures fault { IsErrOf result FsEnd.StoreFault →
         Rose (E.state disk.old).faults (E.state disk.new).faults ⊎ IsFaultOfKeys reply }
+    ensures failure { IfErr result IsFailure }
 {
     let reply = Some(reply);
     finish_end(name.finish(disk, Answered { id, reply }))

@@ -1,10 +1,11 @@
 -- The reply to the call for a batch fits it: as many keys come back as were sent, each of the same key.
-use Rattle.std.proofs.Common.{◌≡◌, ℕ, ◌+◌, ◌<◌, Bool, true, false, cond, not, ◌&&◌, ◌||◌, suc, List, [], ◌∷◌, ◌++◌, length, map, take, get_or, Option, Some, None, is_none, Ok, Err, refl, sym, ap, subst, ◌∙◌}
+use Rattle.std.proofs.Common.{◌≡◌, ℕ, ◌+◌, ◌<◌, Bool, true, false, cond, not, ◌&&◌, suc, List, [], ◌∷◌, ◌++◌, length, map, take, get_or, Option, Some, None, is_none, Ok, Err, refl, sym, ap, subst, ◌∙◌}
 use Rattle.std.specs.List.{list_any}
 use Rattle.std.specs.Str.{bytes_eq}
 use Rattle.std.specs.declared.result.Result.{Result}
 use Rattle.std.proofs.lemmas.List.{take_more}
 use Rattle.std.proofs.lemmas.Slice.Eq.{bytes_eq-Decides}
+use Rattle.std.proofs.lemmas.Bool.{or_parts}
 use Rattle.hk_base.specs.declared.names.Edek.{Edek}
 use Rattle.hk_base.specs.declared.names.KeyName.{KeyName}
 use Rattle.hk_base.specs.declared.names.VersionName.{VersionName}
@@ -32,10 +33,6 @@ pub one-more-raw : (sent : List Sent) (i : ℕ) (x : Sent) (raw raw' : List RawE
     → raw' ≡ raw_keys (take (i + 1) sent)
 one-more-raw sent i x raw raw' key within at are is more =
     more ∙ (λ j. are j ++ is j ∷ []) ∙ ap (λ (y : Sent). raw_keys (take i sent) ++ sent_of y.edek ∷ []) (sym at) ∙ sym (map_more (λ (y : Sent). sent_of y.edek) (take i sent) (get_or sent i x)) ∙ ap raw_keys (sym (take_more sent i x within))
-
-pub neither : (a b : Bool) → (a || b) ≡ false → (a ≡ false) × (b ≡ false)
-neither true b h = absurd cc
-neither false b h = (refl, h)
 
 pub of-name : (name : KeyName) (x : Sent) → not (bytes_eq x.edek.version.key name) ≡ false → x.edek.version.key ≡ name
 of-name name x h = (bytes_eq-Decides x.edek.version.key name).0 (yes (bytes_eq x.edek.version.key name) h)
@@ -69,7 +66,7 @@ keys-of-sent : (s : KmsState) (name : KeyName) (row : KeyRow) (sent : List Sent)
     → are_of_keys sent (map (resealed s name) (raw_keys sent)) ≡ true
 keys-of-sent s name row [] found is none = refl
 keys-of-sent s name row (x ∷ xs) found is none =
-    let parts = neither (is_of_other_key name (sent_of x.edek)) (list_any (is_of_other_key name) (raw_keys xs)) none in
+    let parts = or_parts (is_of_other_key name (sent_of x.edek)) (list_any (is_of_other_key name) (raw_keys xs)) none in
     let mine : x.edek.version.key ≡ name = of-name name x parts.0 in
     let same : (resealed s name (sent_of x.edek)).version.key ≡ x.edek.version.key = resealed-key s name (sent_of x.edek) row found is mine ∙ sym mine in
     ap (λ b. b && are_of_keys xs (map (resealed s name) (raw_keys xs))) ((bytes_eq-Decides (resealed s name (sent_of x.edek)).version.key x.edek.version.key).1 same) ∙ keys-of-sent s name row xs found is parts.1

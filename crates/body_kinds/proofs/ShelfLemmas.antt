@@ -4,15 +4,10 @@ use Rattle.std.specs.Prelude.{nat_lt, OnErr, OnOk, Result, Ok, Err}
 use Rattle.std.specs.declared.alloc.AllocError.{AllocError}
 use Rattle.std.specs.List.{position, position_or_len}
 use Rattle.std.proofs.lemmas.Bool.Decides.{nat_tests}
+use Rattle.std.proofs.lemmas.Bool.{ltb-true, ltb-false}
 use Rattle.body_stream.specs.Vaults.{Grows, GrowsInPart}
 use Rattle.body_kinds.specs.Shelves.{body_in, has_id}
 use Rattle.body_kinds.specs.declared.shelf.Body.{Body}
-
-lower : (a b : ℕ) → nat_lt a b ≡ true → a < b
-lower a b h = grind (arith, nat_tests)
-
-not-lower : (a b : ℕ) → nat_lt a b ≡ false → b ≤ a
-not-lower a b h = grind (arith, nat_tests)
 
 next : (n : ℕ) → 1 + n ≡ suc n
 next n = omega arith
@@ -30,7 +25,7 @@ pub placed : (id : ℕ) (bodies : List Body) (at : ℕ) → position (has_id id)
 placed id bodies at h = go (nat_lt (place id bodies) (length bodies)) refl h
   where
     go : (b : Bool) → nat_lt (place id bodies) (length bodies) ≡ b → cond b (Some (place id bodies)) None ≡ Some at → (place id bodies ≡ at) × (at < length bodies)
-    go true e f = let same : place id bodies ≡ at = cc in (same, subst (λ (n : ℕ). n < length bodies) same (lower _ _ e))
+    go true e f = let same : place id bodies ≡ at = cc in (same, subst (λ (n : ℕ). n < length bodies) same (ltb-true _ _ e))
     go false e f = cc
 
 pub unplaced : (id : ℕ) (bodies : List Body) → position (has_id id) bodies ≡ None → length bodies ≤ place id bodies
@@ -38,7 +33,7 @@ unplaced id bodies h = go (nat_lt (place id bodies) (length bodies)) refl h
   where
     go : (b : Bool) → nat_lt (place id bodies) (length bodies) ≡ b → cond b (Some (place id bodies)) None ≡ None → length bodies ≤ place id bodies
     go true e f = cc
-    go false e f = not-lower _ _ e
+    go false e f = ltb-false _ _ e
 
 at_place : (id : ℕ) (bodies : List Body) (d : Body) → place id bodies < length bodies → body_in bodies id ≡ (get_or bodies (place id bodies) d).bytes.items
 at_place id [] d h = absurd (omega arith)

@@ -1,7 +1,7 @@
 -- Numbers in decimal: reading them, and how clap sees them as words.
-use Rattle.std.proofs.Common.{refl, List, [], ◌∷◌, ◌≡◌, ◌<◌, ◌≤◌, ◌^◌, ℕ, Some, None, Bool, true, false, arith, length, ◌==◌, ◌&&◌, ap, ◌∙◌, ◌⊎◌, inl, inr}
+use Rattle.std.proofs.Common.{refl, List, [], ◌∷◌, ◌≡◌, ◌<◌, ◌≤◌, ◌^◌, ℕ, Some, None, true, false, arith, length, ◌==◌, ◌&&◌, ap, ◌∙◌, ◌⊎◌, inl, inr}
 use Rattle.std.proofs.lemmas.Bool.Decides.{nat_tests}
-use Rattle.std.proofs.lemmas.Bool.{ne_eqb}
+use Rattle.std.proofs.lemmas.Bool.{ne_eqb, and_from, and_right, and_left}
 use Rattle.std.proofs.lemmas.Fmt.{decimal_is_IsNumeral}
 use Rattle.std.proofs.lemmas.Slice.Eq.{bytes_eq-Decides}
 use Rattle.std.proofs.lemmas.Str.Parse.{digit_from_value}
@@ -14,10 +14,6 @@ use Rattle.std.specs.Str.Parse.{AllDigits, IsNumeral, digits_value}
 use Rattle.clap.specs.Lexer.{long_of, short_of}
 use Rattle.clap.specs.ValueTests.{fits_i64, is_numeral, is_signed_in}
 use Rattle.command_line.specs.Orders.{in_range, number_at}
-
-both : (a b : Bool) → a ≡ true → b ≡ true → (a && b) ≡ true
-both true b d e = e
-both false b d e = cc
 
 -- ---- reading a number
 
@@ -39,12 +35,12 @@ pub record IsNumberWord (most : ℕ) (t : List ℕ) : Type 0 where
 
 all_digits : (t : List ℕ) → AllDigits 10 t → list_all (λ d. nat_lt (digit_value d) 10) t ≡ true
 all_digits [] h = refl
-all_digits (d ∷ ds) h = both (nat_lt (digit_value d) 10) _ (grind (arith, nat_tests)) (all_digits ds h.1)
+all_digits (d ∷ ds) h = and_from (nat_lt (digit_value d) 10) _ (grind (arith, nat_tests)) (all_digits ds h.1)
 
 fits : (most v : ℕ) → 1 ≤ v → v ≤ most → most < 2 ^ 63 → (fits_i64 (pos v) && (int_le (pos 1) (pos v) && int_le (pos v) (pos most))) ≡ true
 fits most v some few small =
-    both (nat_lt v (2 ^ 63)) _ (grind (arith, nat_tests))
-    (both (nat_le 1 v) (nat_le v most) (grind (arith, nat_tests)) (grind (arith, nat_tests)))
+    and_from (nat_lt v (2 ^ 63)) _ (grind (arith, nat_tests))
+    (and_from (nat_le 1 v) (nat_le v most) (grind (arith, nat_tests)) (grind (arith, nat_tests)))
 
 -- the word is no flag, and clap reads it as no number from 1 to `most`
 pub record IsRefusedWord (most : ℕ) (t : List ℕ) : Type 0 where
@@ -53,17 +49,9 @@ pub record IsRefusedWord (most : ℕ) (t : List ℕ) : Type 0 where
   pub no_dashes : bytes_eq t (45 ∷ 45 ∷ []) ≡ false
   pub refused : is_signed_in (pos 1) (pos most) t ≡ false
 
-no_second : (a b : Bool) → b ≡ false → (a && b) ≡ false
-no_second true b e = e
-no_second false b e = refl
-
-no_first : (a b : Bool) → a ≡ false → (a && b) ≡ false
-no_first true b e = cc
-no_first false b e = refl
-
 does_not_fit : (most v : ℕ) → (v ≡ 0) ⊎ (most < v) → (fits_i64 (pos v) && (int_le (pos 1) (pos v) && int_le (pos v) (pos most))) ≡ false
-does_not_fit most v (inl none) = no_second (nat_lt v (2 ^ 63)) _ (no_first (nat_le 1 v) (nat_le v most) (grind (arith, nat_tests)))
-does_not_fit most v (inr many) = no_second (nat_lt v (2 ^ 63)) _ (no_second (nat_le 1 v) (nat_le v most) (grind (arith, nat_tests)))
+does_not_fit most v (inl none) = and_right (nat_lt v (2 ^ 63)) _ (and_left (nat_le 1 v) (nat_le v most) (grind (arith, nat_tests)))
+does_not_fit most v (inr many) = and_right (nat_lt v (2 ^ 63)) _ (and_right (nat_le 1 v) (nat_le v most) (grind (arith, nat_tests)))
 
 other_numeral : (most : ℕ) (t : List ℕ) → IsNumeral 10 t → (digits_value 10 t ≡ 0) ⊎ (most < digits_value 10 t) → IsRefusedWord most t
 other_numeral most [] h other = absurd (omega (arith, h.0))
@@ -75,7 +63,7 @@ other_numeral most (d ∷ ds) h other =
       no_long = rw minus refl;
       no_short = rw minus refl;
       no_dashes = rw minus refl;
-      refused = rw (minus, plus) (no_second (is_numeral (d ∷ ds)) _ (does_not_fit most (digits_value 10 (d ∷ ds)) other));
+      refused = rw (minus, plus) (and_right (is_numeral (d ∷ ds)) _ (does_not_fit most (digits_value 10 (d ∷ ds)) other));
     }
 
 pub other_number : (most n : ℕ) → n < 2 ^ 64 → (n ≡ 0) ⊎ (most < n) → IsRefusedWord most (decimal n)
@@ -89,12 +77,12 @@ numeral_word most (d ∷ ds) h some few small =
     let range = digit_from_value d h.1.0 in
     let minus : (d == 45) ≡ false = ne_eqb _ _ (λ e. omega arith) in
     let plus : (d == 43) ≡ false = ne_eqb _ _ (λ e. omega arith) in
-    let numeral : is_numeral (d ∷ ds) ≡ true = both (nat_lt 0 (length (d ∷ ds))) _ (grind (arith, nat_tests)) (all_digits (d ∷ ds) h.1) in
+    let numeral : is_numeral (d ∷ ds) ≡ true = and_from (nat_lt 0 (length (d ∷ ds))) _ (grind (arith, nat_tests)) (all_digits (d ∷ ds) h.1) in
     record {
       no_long = rw minus refl;
       no_short = rw minus refl;
       no_dashes = rw minus refl;
-      accepted = rw (minus, plus) (both (is_numeral (d ∷ ds)) _ numeral (fits most (digits_value 10 (d ∷ ds)) some few small));
+      accepted = rw (minus, plus) (and_from (is_numeral (d ∷ ds)) _ numeral (fits most (digits_value 10 (d ∷ ds)) some few small));
     }
 
 pub number_word : (most n : ℕ) → 1 ≤ n → n ≤ most → most < 2 ^ 63 → IsNumberWord most (decimal n)

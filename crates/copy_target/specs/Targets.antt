@@ -1,8 +1,13 @@
 -- Two clusters: one that is only read, and the namesystem of another over its disk. Each has a vault.
-use Rattle.std.specs.Prelude.{◌≡◌, List}
+use Rattle.std.specs.Prelude.{◌≡◌, ◌≢◌, ◌⊎◌, ◌≤◌, ℕ, List, [], None}
 use Rattle.hk_base.specs.Disk.{DiskState}
-use Rattle.inode_tree.specs.Rows.{Entry}
-use Rattle.body_stream.specs.Vaults.{VaultState}
+use Rattle.hk_base.specs.Faults.{Rose}
+use Rattle.hk_base.specs.declared.names.KeyName.{KeyName}
+use Rattle.kms_calls.specs.declared.calls.KmsRefusal.{KmsRefusal}
+use Rattle.kms_calls.specs.declared.calls.KmsReply.{KmsReply}
+use Rattle.kms_calls.specs.declared.calls.KmsReply.TheVariants.{Refused}
+use Rattle.inode_tree.specs.Rows.{Entry, entry_of}
+use Rattle.body_stream.specs.Vaults.{TellsBodies, VaultState}
 use Rattle.backup_names.specs.Orders.{HoldsNames, IsSettled, OrdersNames}
 use Rattle.row_copies.specs.Clusters.{CopyState}
 use Rattle.row_copies.specs.Copies.{Steps}
@@ -28,7 +33,30 @@ pub record HoldsSame {S E V U : Type 0} (old new : BothClusters S E V U) : Type 
   pub copies : new.copies.ghost_name ≡ old.copies.ghost_name
 
 -- The source was read, and changes of the target were made.
-pub record WorksOn {S E V U : Type 0} (follows : S → S → Type 0) (disk : E → DiskState) (old new : BothClusters S E V U) : Type 0 where
+pub record WorksOn {S E V U : Type 0} (follows : S → S → Type 0) (disk : E → DiskState) (vault : V → VaultState) (copies : U → VaultState) (old new : BothClusters S E V U) : Type 0 where
   pub holds : HoldsSame old new
   pub source : Steps follows old.source.now new.source.now
   pub orders : OrdersNames (disk old.backup.now) (disk new.backup.now) old.names.now new.names.now
+  pub vault_later : (vault old.vault.now).faults ≤ (vault new.vault.now).faults
+  pub copies_later : (copies old.copies.now).faults ≤ (copies new.copies.now).faults
+
+-- the vault has a body under an id that no row has
+abbrev pub HasFreeBody : List Entry → VaultState → Type 0
+HasFreeBody rows vault = (id : ℕ) × (entry_of rows id ≡ None) × (vault.bodies id ≢ [])
+
+-- Why a body was not copied: one of the vaults failed, or the second had a body already for the new file.
+abbrev pub BodyFails : List Entry → (source source' old new : VaultState) → Type 0
+BodyFails rows source source' old new =
+    Rose source.faults source'.faults ⊎ (Rose old.faults new.faults ⊎ (TellsBodies source → TellsBodies old → HasFreeBody rows old))
+
+abbrev pub DiskFails : {S E V U : Type 0} → (E → DiskState) → (old new : BothClusters S E V U) → Type 0
+DiskFails disk old new = Rose (disk old.backup.now).faults (disk new.backup.now).faults
+
+abbrev pub VaultsFail : {S E V U : Type 0} → (V → VaultState) → (U → VaultState) → (old new : BothClusters S E V U) → Type 0
+VaultsFail vault copies old new = BodyFails old.names.now.store.table.rows (vault old.vault.now) (vault new.vault.now) (copies old.copies.now) (copies new.copies.now)
+
+-- The key management service was asked for the metadata of a key, and didn't refuse. This was its reply.
+pub record KnowsKey {S : Type 0} (replies : S → KeyName → KmsReply → S → Type 0) (old : S) (key : KeyName) (new : S) : Type 0 where
+  pub reply : KmsReply
+  pub replied : replies old key reply new
+  pub accepted : (why : KmsRefusal) → reply ≢ Refused why

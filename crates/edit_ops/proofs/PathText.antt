@@ -5,8 +5,9 @@ use Rattle.std.specs.List.{list_all, onto_first}
 use Rattle.std.proofs.lemmas.Bool.Decides.{nat_tests}
 use Rattle.std.proofs.lemmas.List.{take_more}
 use Rattle.std.proofs.lemmas.Option.{cond_some}
+use Rattle.std.proofs.lemmas.Bool.{leb-true, and_parts}
 use Rattle.name_calls.specs.Paths.{is_component, is_plain_byte, is_short, is_relative, is_absolute, absolute, relative, starts_reserved, names_text, path_text, read_path, read_relative}
-use Rattle.name_calls.proofs.PathLemmas.{parts_of, path-text-parts, and-parts, names-text-snoc}
+use Rattle.name_calls.proofs.PathLemmas.{parts_of, path-text-parts, names-text-snoc}
 
 -- a conditional that gave a value
 if_some : {A : Type 0} (b : Bool) (o : Option A) (y : A) → cond b o None ≡ Some y → (b ≡ true) × (o ≡ Some y)
@@ -31,7 +32,7 @@ path_takes (b ∷ c ∷ bytes) p e =
     subst (λ (q : List (List ℕ)). (b ∷ c ∷ bytes ≡ path_text q) × (is_absolute q ≡ true)) h.1 (ap (λ (x : ℕ). x ∷ c ∷ bytes) (eq_47 b g.0) ∙ sym (path-text-parts (c ∷ bytes)), h.0)
 
 plain_no_slash : (b : ℕ) → is_plain_byte b ≡ true → (b == 47) ≡ false
-plain_no_slash b h = let g = and-parts (not (b == 47) && not (b == 58)) (not (b == 0)) h in flip (b == 47) (and-parts (not (b == 47)) (not (b == 58)) g.0).0
+plain_no_slash b h = let g = and_parts (not (b == 47) && not (b == 58)) (not (b == 0)) h in flip (b == 47) (and_parts (not (b == 47)) (not (b == 58)) g.0).0
   where
     flip : (t : Bool) → not t ≡ true → t ≡ false
     flip true e = sym e
@@ -41,43 +42,40 @@ plain_no_slash b h = let g = and-parts (not (b == 47) && not (b == 58)) (not (b 
 name_before : (rest : List ℕ) (cs : List (List ℕ)) → parts_of rest ≡ [] ∷ cs → (c : List ℕ) → list_all is_plain_byte c ≡ true → parts_of (c ++ rest) ≡ c ∷ cs
 name_before rest cs is [] h = is
 name_before rest cs is (b ∷ c) h =
-    let g = and-parts (is_plain_byte b) (list_all is_plain_byte c) h in
+    let g = and_parts (is_plain_byte b) (list_all is_plain_byte c) h in
     ap (λ (t : Bool). cond t ([] ∷ parts_of (c ++ rest)) (onto_first b (parts_of (c ++ rest)))) (plain_no_slash b g.0) ∙ ap (onto_first b) (name_before rest cs is c g.1)
 
-le_from : (a b : ℕ) → nat_le a b ≡ true → a ≤ b
-le_from a b h = grind (arith, nat_tests)
-
 component_plain : (c : List ℕ) → is_component c ≡ true → list_all is_plain_byte c ≡ true
-component_plain c h = let a = (and-parts _ _ h).0 in let b = (and-parts _ _ a).0 in let d = (and-parts _ _ b).0 in (and-parts _ _ d).1
+component_plain c h = let a = (and_parts _ _ h).0 in let b = (and_parts _ _ a).0 in let d = (and_parts _ _ b).0 in (and_parts _ _ d).1
 
 component_some : (c : List ℕ) → is_component c ≡ true → nat_le 1 (length c) ≡ true
 component_some c h =
-    let a = (and-parts _ _ h).0 in let b = (and-parts _ _ a).0 in let d = (and-parts _ _ b).0 in let e = (and-parts _ _ d).0 in let f = (and-parts _ _ e).0 in (and-parts _ _ f).0
+    let a = (and_parts _ _ h).0 in let b = (and_parts _ _ a).0 in let d = (and_parts _ _ b).0 in let e = (and_parts _ _ d).0 in let f = (and_parts _ _ e).0 in (and_parts _ _ f).0
 
 pub component_length : (c : List ℕ) → is_component c ≡ true → length c ≤ 255
 component_length c h =
-    let a = (and-parts _ _ h).0 in let b = (and-parts _ _ a).0 in let d = (and-parts _ _ b).0 in let e = (and-parts _ _ d).0 in let f = (and-parts _ _ e).0 in
-    le_from (length c) 255 (and-parts _ _ f).1
+    let a = (and_parts _ _ h).0 in let b = (and_parts _ _ a).0 in let d = (and_parts _ _ b).0 in let e = (and_parts _ _ d).0 in let f = (and_parts _ _ e).0 in
+    leb-true (length c) 255 (and_parts _ _ f).1
 
 -- the text of names is split into an empty part and the names
 parts_again : (cs : List (List ℕ)) → list_all is_component cs ≡ true → parts_of (names_text cs) ≡ [] ∷ cs
 parts_again [] h = refl
 parts_again (d ∷ ds) h =
-    let g = and-parts (is_component d) (list_all is_component ds) h in
+    let g = and_parts (is_component d) (list_all is_component ds) h in
     ap (λ (ps : List (List ℕ)). [] ∷ ps) (name_before (names_text ds) ds (parts_again ds g.1) d (component_plain d g.0))
 
 -- the text of a path is read back as the path
 pub path_again : (p : List (List ℕ)) → is_absolute p ≡ true → read_path (path_text p) ≡ Some p
 path_again [] h = refl
 path_again ([] ∷ cs) h =
-    let r = (and-parts (is_relative ([] ∷ cs)) (not (starts_reserved ([] ∷ cs))) h).0 in
-    let l = (and-parts (list_all is_component ([] ∷ cs)) (is_short ([] ∷ cs)) r).0 in
-    let c = (and-parts (is_component []) (list_all is_component cs) l).0 in
+    let r = (and_parts (is_relative ([] ∷ cs)) (not (starts_reserved ([] ∷ cs))) h).0 in
+    let l = (and_parts (list_all is_component ([] ∷ cs)) (is_short ([] ∷ cs)) r).0 in
+    let c = (and_parts (is_component []) (list_all is_component cs) l).0 in
     absurd (cc (component_some [] c))
 path_again ((b ∷ c) ∷ cs) h =
-    let r = (and-parts (is_relative ((b ∷ c) ∷ cs)) (not (starts_reserved ((b ∷ c) ∷ cs))) h).0 in
-    let l = (and-parts (list_all is_component ((b ∷ c) ∷ cs)) (is_short ((b ∷ c) ∷ cs)) r).0 in
-    let g = and-parts (is_component (b ∷ c)) (list_all is_component cs) l in
+    let r = (and_parts (is_relative ((b ∷ c) ∷ cs)) (not (starts_reserved ((b ∷ c) ∷ cs))) h).0 in
+    let l = (and_parts (list_all is_component ((b ∷ c) ∷ cs)) (is_short ((b ∷ c) ∷ cs)) r).0 in
+    let g = and_parts (is_component (b ∷ c)) (list_all is_component cs) l in
     ap absolute (name_before (names_text cs) cs (parts_again cs g.1) (b ∷ c) (component_plain (b ∷ c) g.0))
     ∙ if_true (is_absolute ((b ∷ c) ∷ cs)) (Some ((b ∷ c) ∷ cs)) None h
 
@@ -95,22 +93,22 @@ relative_takes (b ∷ c ∷ bytes) p e =
 pub relative_again : (p : List (List ℕ)) → is_relative p ≡ true → read_relative (path_text p) ≡ Some p
 relative_again [] h = refl
 relative_again ([] ∷ cs) h =
-    let l = (and-parts (list_all is_component ([] ∷ cs)) (is_short ([] ∷ cs)) h).0 in
-    let c = (and-parts (is_component []) (list_all is_component cs) l).0 in
+    let l = (and_parts (list_all is_component ([] ∷ cs)) (is_short ([] ∷ cs)) h).0 in
+    let c = (and_parts (is_component []) (list_all is_component cs) l).0 in
     absurd (cc (component_some [] c))
 relative_again ((b ∷ c) ∷ cs) h =
-    let l = (and-parts (list_all is_component ((b ∷ c) ∷ cs)) (is_short ((b ∷ c) ∷ cs)) h).0 in
-    let g = and-parts (is_component (b ∷ c)) (list_all is_component cs) l in
+    let l = (and_parts (list_all is_component ((b ∷ c) ∷ cs)) (is_short ((b ∷ c) ∷ cs)) h).0 in
+    let g = and_parts (is_component (b ∷ c)) (list_all is_component cs) l in
     ap relative (name_before (names_text cs) cs (parts_again cs g.1) (b ∷ c) (component_plain (b ∷ c) g.0))
     ∙ if_true (is_relative ((b ∷ c) ∷ cs)) (Some ((b ∷ c) ∷ cs)) None h
 
 pub relative_length : (p : List (List ℕ)) → is_relative p ≡ true → length (path_text p) ≤ 8000
 relative_length p h =
-    let s = (and-parts (list_all is_component p) (is_short p) h).1 in
-    le_from (length (path_text p)) 8000 (and-parts (nat_le (length (path_text p)) 8000) (nat_le (length p) 100) s).0
+    let s = (and_parts (list_all is_component p) (is_short p) h).1 in
+    leb-true (length (path_text p)) 8000 (and_parts (nat_le (length (path_text p)) 8000) (nat_le (length p) 100) s).0
 
 pub absolute_length : (p : List (List ℕ)) → is_absolute p ≡ true → length (path_text p) ≤ 8000
-absolute_length p h = relative_length p (and-parts (is_relative p) (not (starts_reserved p)) h).0
+absolute_length p h = relative_length p (and_parts (is_relative p) (not (starts_reserved p)) h).0
 
 -- a path that keeps the rule of paths, and doesn't begin with `.reserved`, is absolute
 pub absolute_from : (p : List (List ℕ)) → is_relative p ≡ true → not (starts_reserved p) ≡ true → is_absolute p ≡ true

@@ -3,14 +3,13 @@ use Rattle.std.proofs.Common.{◌≡◌, ℕ, ◌^◌, ◌<◌, ◌≤◌, Bool,
 use Rattle.std.specs.Prelude.{IfOk, nat_lt, nat_le}
 use Rattle.std.specs.List.{AllByRecursion, list_all}
 use Rattle.std.specs.Int.{w16, w32, w64, to_be_bytes}
-use Rattle.std.proofs.lemmas.Bool.{eqb-true}
+use Rattle.std.proofs.lemmas.Bool.{eqb-true, eq-eqb, and_from, and_parts}
 use Rattle.std.proofs.lemmas.Bool.Decides.{nat_tests}
 use Rattle.std.proofs.lemmas.Option.{cond_some, same_Some}
 use Rattle.hk_base.specs.Names.{Encrypted, Version, IsKeyName, is_key_name, is_name_byte, is_key_length}
 use Rattle.hk_base.specs.declared.records.RecordFault.{RecordFault}
 use Rattle.hk_base.specs.declared.records.RecordFault.TheVariants.{NoRecord, NoMemory}
 use Rattle.name_calls.specs.Paths.{is_absolute, is_component, is_relative, path_text, read_path, read_relative, starts_reserved}
-use Rattle.name_calls.proofs.PathLemmas.{and-parts}
 use Rattle.key_rows.specs.Records.{name_field, text_field}
 use Rattle.key_rows.specs.Reading.{◌>>=◌, Gives, number_at}
 use Rattle.key_rows.proofs.FieldLemmas.{IsBytes, IsBytes-rest, bind_some, bind_is, number_again, number_takes, wide16, wide32, wide64}
@@ -50,9 +49,6 @@ is_sealed sealed = is_key_length (length sealed)
 sealed_front : IsFront sealed_at name_field (λ sealed. is_sealed sealed ≡ true)
 sealed_front = front_whole short_front (tested is_sealed) (λ sealed is. tt)
 
-same_number : (a b : ℕ) → a ≡ b → (a == b) ≡ true
-same_number a b e = grind (arith, nat_tests)
-
 version_whole : IsWhole version_of version_field IsVersion
 unfolding version_of
 version_whole =
@@ -70,7 +66,7 @@ edek_front =
     as_front encrypted (λ e. (e.version.key, (e.version.number, (e.iv, e.sealed)))) edek_field IsEdek
     (pair_front name_front (pair_front (number_front w16 (2 ^ 16) wide16) (pair_front iv_front sealed_front)))
     (λ e. refl)
-    (λ e is. (is.key, (is.number, (same_number (length e.iv) 16 is.iv, is.sealed))))
+    (λ e is. (is.key, (is.number, (eq-eqb (length e.iv) 16 is.iv, is.sealed))))
     (λ e. refl)
     (λ x is. record { key = is.0; number = is.1.0; iv = eqb-true (length x.1.1.0) 16 is.1.1.0; sealed = is.1.1.1 })
     (λ x. refl)
@@ -295,7 +291,7 @@ spelling_read (Unsnap path name) has = op_again unsnap_is (path, name) has
 spelling_read (Submit session path noted) has = op_again submit_is (session, (path, noted)) (has.0, (has.1, has.2))
 spelling_read (Update session failed mark files) has =
     let short : length files < 2 ^ 32 = omega (arith, has.3) in
-    op_again update_is (session, (length files, (failed, (mark, files)))) ((has.0, (short, (has.1, (has.2, (has.3, has.4))))), same_number (length files) (length files) refl)
+    op_again update_is (session, (length files, (failed, (mark, files)))) ((has.0, (short, (has.1, (has.2, (has.3, has.4))))), eq-eqb (length files) (length files) refl)
 spelling_read (Cancel session) has = op_again cancel_is session has
 spelling_read (Complete session) has = op_again complete_is session has
 
@@ -315,10 +311,7 @@ was_none bytes (Err NoRecord) given e other has same =
 was_none bytes (Err NoMemory) given e other has same = absurd cc
 
 not_reserved : (path : List (List ℕ)) → is_absolute path ≡ true → not (starts_reserved path) ≡ true
-not_reserved path is = (and-parts (is_relative path) (not (starts_reserved path)) is).1
-
-both_true : (a b : Bool) → a ≡ true → b ≡ true → (a && b) ≡ true
-both_true a b x y = ap (λ (t : Bool). t && b) x ∙ y
+not_reserved path is = (and_parts (is_relative path) (not (starts_reserved path)) is).1
 
 -- an operation that has a spelling fits
 pub spelled_fits : (op : EditOp) → HasSpelling op → fits op ≡ true
@@ -326,12 +319,12 @@ spelled_fits (Opened opening) has = refl
 spelled_fits (Mkdir id path) has = not_reserved path has.1
 spelled_fits (File id path edek) has = not_reserved path has.1
 spelled_fits (Remove path) has = not_reserved path has
-spelled_fits (Rename path to) has = both_true (not (starts_reserved path)) (not (starts_reserved to)) (not_reserved path has.0) (not_reserved to has.1)
+spelled_fits (Rename path to) has = and_from (not (starts_reserved path)) (not (starts_reserved to)) (not_reserved path has.0) (not_reserved to has.1)
 spelled_fits (Zone path key) has = not_reserved path has.0
 spelled_fits (Allow path) has = not_reserved path has
 spelled_fits (Disallow path) has = not_reserved path has
-spelled_fits (Snap path name) has = both_true (not (starts_reserved path)) (is_component name) (not_reserved path has.0) has.1
-spelled_fits (Unsnap path name) has = both_true (not (starts_reserved path)) (is_component name) (not_reserved path has.0) has.1
+spelled_fits (Snap path name) has = and_from (not (starts_reserved path)) (is_component name) (not_reserved path has.0) has.1
+spelled_fits (Unsnap path name) has = and_from (not (starts_reserved path)) (is_component name) (not_reserved path has.0) has.1
 spelled_fits (Submit session path noted) has = not_reserved path has.1
 spelled_fits (Update session failed mark files) has = refl
 spelled_fits (Cancel session) has = refl
@@ -341,8 +334,8 @@ spelled_fits (Complete session) has = refl
 
 name_length : (name : List ℕ) → IsKeyName name → length name ≤ 64
 name_length name is =
-    let g = and-parts (nat_lt 0 (length name) && nat_le (length name) 64) (list_all is_name_byte name) is in
-    let h = (and-parts (nat_lt 0 (length name)) (nat_le (length name) 64) g.0).1 in
+    let g = and_parts (nat_lt 0 (length name) && nat_le (length name) 64) (list_all is_name_byte name) is in
+    let h = (and_parts (nat_lt 0 (length name)) (nat_le (length name) 64) g.0).1 in
     grind (arith, nat_tests)
 
 key_length : (n : ℕ) → is_key_length n ≡ true → n ≤ 32

@@ -3,6 +3,7 @@ use Rattle.std.proofs.Common.{◌≡◌, ◌≢◌, ℕ, ◌<◌, ◌≤◌, zer
 use Rattle.std.specs.Prelude.{◌==◌, nat_lt}
 use Rattle.std.specs.List.{AllByRecursion}
 use Rattle.std.proofs.lemmas.Bool.Decides.{nat_tests}
+use Rattle.std.proofs.lemmas.Bool.{eqb-true, eq-eqb, ltb-true}
 use Rattle.hk_base.specs.declared.names.Edek.{Edek}
 use Rattle.eek_queues.specs.declared.order.QueuePlace.{QueuePlace}
 use Rattle.eek_queues.specs.Queues.{Queue, ready_in, has_queue, with_ready, set_ready, dropped, put_queue}
@@ -10,12 +11,6 @@ use Rattle.eek_queues.specs.Order.{with_place, place_of, places_of}
 use Rattle.eek_queues.specs.Kept.{Rising}
 use Rattle.eek_queues.proofs.Put.{all-put}
 use Rattle.eek_queues.proofs.Places.{all-at, all-so, with_place-two}
-
-pub is-same : (a b : ℕ) → (a == b) ≡ true → a ≡ b
-is-same a b h = grind (arith, nat_tests)
-
-pub same-is : (a b : ℕ) → a ≡ b → (a == b) ≡ true
-same-is a b h = grind (arith, nat_tests)
 
 pub other-is : (a b : ℕ) → a ≢ b → (a == b) ≡ false
 other-is a b h = grind (arith, nat_tests)
@@ -64,14 +59,14 @@ absent-dropped (q ∷ qs) birth h =
 
 pub has-at : (qs : List Queue) (birth at : ℕ) (d : Queue) → Rising qs → at < length qs → (get_or qs at d).birth ≡ birth → has_queue qs birth ≡ true
 has-at [] birth at d r b e = absurd (omega arith)
-has-at (q ∷ qs) birth zero d r b e = ap (λ t. cond t true (has_queue qs birth)) (same-is q.birth birth e)
+has-at (q ∷ qs) birth zero d r b e = ap (λ t. cond t true (has_queue qs birth)) (eq-eqb q.birth birth e)
 has-at (q ∷ qs) birth (suc at) d r b e =
     let l : q.birth < (get_or qs at d).birth = all-at (λ x. q.birth < x.birth) qs at d r.0 (omega arith) in
     ap (λ t. cond t true (has_queue qs birth)) (greater q.birth birth _ l e) ∙ has-at qs birth at d r.1 (omega arith) e
 
 pub ready-at : (qs : List Queue) (birth at : ℕ) (d : Queue) → Rising qs → at < length qs → (get_or qs at d).birth ≡ birth → ready_in qs birth ≡ (get_or qs at d).ready
 ready-at [] birth at d r b e = absurd (omega arith)
-ready-at (q ∷ qs) birth zero d r b e = ap (λ t. cond t q.ready (ready_in qs birth)) (same-is q.birth birth e)
+ready-at (q ∷ qs) birth zero d r b e = ap (λ t. cond t q.ready (ready_in qs birth)) (eq-eqb q.birth birth e)
 ready-at (q ∷ qs) birth (suc at) d r b e =
     let l : q.birth < (get_or qs at d).birth = all-at (λ x. q.birth < x.birth) qs at d r.0 (omega arith) in
     ap (λ t. cond t q.ready (ready_in qs birth)) (greater q.birth birth _ l e) ∙ ready-at qs birth at d r.1 (omega arith) e
@@ -80,7 +75,7 @@ pub set-at : (qs : List Queue) (birth at : ℕ) (d : Queue) (ready : List Edek) 
 set-at [] birth at d ready r b e = absurd (omega arith)
 set-at (q ∷ qs) birth zero d ready r b e =
     let new : Queue = record { birth = birth; ready = ready } in
-    let here : with_ready birth ready q ≡ new = ap (λ t. cond t new q) (same-is q.birth birth e) in
+    let here : with_ready birth ready q ≡ new = ap (λ t. cond t new q) (eq-eqb q.birth birth e) in
     let rest : set_ready qs birth ready ≡ qs = absent-set qs birth ready (above-absent qs q.birth birth r.0 (omega arith)) in
     sym (λ i. here i ∷ rest i)
 set-at (q ∷ qs) birth (suc at) d ready r b e =
@@ -101,7 +96,7 @@ dropped-set (q ∷ qs) birth ready = go (q.birth == birth) refl (dropped-set qs 
 
     go : (t : Bool) → (q.birth == birth) ≡ t → dropped rest birth ≡ dropped qs birth
         → dropped (cond t (record { birth = birth; ready = ready }) q ∷ rest) birth ≡ cond (not t) (q ∷ dropped qs birth) (dropped qs birth)
-    go true e ih = ap (λ t. cond (not t) (record { birth = birth; ready = ready } ∷ dropped rest birth) (dropped rest birth)) (same-is birth birth refl) ∙ ih
+    go true e ih = ap (λ t. cond (not t) (record { birth = birth; ready = ready } ∷ dropped rest birth) (dropped rest birth)) (eq-eqb birth birth refl) ∙ ih
     go false e ih = ap (λ t. cond (not t) (q ∷ dropped rest birth) (dropped rest birth)) e ∙ ap (λ xs. q ∷ xs) ih
 
 pub has-set : (qs : List Queue) (birth : ℕ) (ready : List Edek) (b : ℕ) → has_queue (set_ready qs birth ready) b ≡ has_queue qs b
@@ -113,7 +108,7 @@ has-set (q ∷ qs) birth ready b = go (q.birth == birth) refl (has-set qs birth 
 
     go : (t : Bool) → (q.birth == birth) ≡ t → has_queue rest b ≡ has_queue qs b
         → has_queue (cond t (record { birth = birth; ready = ready }) q ∷ rest) b ≡ cond (q.birth == b) true (has_queue qs b)
-    go true e ih = ap (λ (x : ℕ). cond (x == b) true (has_queue rest b)) (sym (is-same q.birth birth e)) ∙ ap (cond (q.birth == b) true) ih
+    go true e ih = ap (λ (x : ℕ). cond (x == b) true (has_queue rest b)) (sym (eqb-true q.birth birth e)) ∙ ap (cond (q.birth == b) true) ih
     go false e ih = ap (cond (q.birth == b) true) ih
 
 pub ready-set : (qs : List Queue) (birth : ℕ) (ready : List Edek) → has_queue qs birth ≡ true → ready_in (set_ready qs birth ready) birth ≡ ready
@@ -125,7 +120,7 @@ ready-set (q ∷ qs) birth ready h = go (q.birth == birth) refl h (ready-set qs 
 
     go : (t : Bool) → (q.birth == birth) ≡ t → cond t true (has_queue qs birth) ≡ true → (has_queue qs birth ≡ true → ready_in rest birth ≡ ready)
         → ready_in (cond t (record { birth = birth; ready = ready }) q ∷ rest) birth ≡ ready
-    go true e k ih = ap (λ t. cond t ready (ready_in rest birth)) (same-is birth birth refl)
+    go true e k ih = ap (λ t. cond t ready (ready_in rest birth)) (eq-eqb birth birth refl)
     go false e k ih = ap (λ t. cond t q.ready (ready_in rest birth)) e ∙ ih k
 
 all-mapped : (P : Queue → Type 0) (f : Queue → Queue) (qs : List Queue) → ((q : Queue) → P q → P (f q)) → AllByRecursion P qs → AllByRecursion P (map f qs)
@@ -136,7 +131,7 @@ pub birth-with_ready : (birth : ℕ) (ready : List Edek) (q : Queue) → (with_r
 birth-with_ready birth ready q = go (q.birth == birth) refl
   where
     go : (t : Bool) → (q.birth == birth) ≡ t → (cond t (record { birth = birth; ready = ready }) q).birth ≡ q.birth
-    go true e = sym (is-same q.birth birth e)
+    go true e = sym (eqb-true q.birth birth e)
     go false e = refl
 
 pub rising-set : (qs : List Queue) (birth : ℕ) (ready : List Edek) → Rising qs → Rising (set_ready qs birth ready)
@@ -163,9 +158,6 @@ rising-dropped (q ∷ qs) birth r = go (not (q.birth == birth)) (rising-dropped 
     go true ih = (all-dropped (λ x. q.birth < x.birth) qs birth r.0, ih)
     go false ih = ih
 
-below-is : (a b : ℕ) → nat_lt a b ≡ true → a < b
-below-is a b h = grind (arith, nat_tests)
-
 above-is : (a b : ℕ) → nat_lt a b ≡ false → (a == b) ≡ false → b < a
 above-is a b h k = grind (arith, nat_tests)
 
@@ -175,7 +167,7 @@ rising-put q (x ∷ xs) n r = go (nat_lt x.birth q.birth) refl (absent-parts x x
   where
     go : (t : Bool) → nat_lt x.birth q.birth ≡ t → ((x.birth == q.birth) ≡ false) × (has_queue xs q.birth ≡ false) → (has_queue xs q.birth ≡ false → Rising xs → Rising (put_queue q xs))
         → Rising (cond t (x ∷ put_queue q xs) (q ∷ x ∷ xs))
-    go true e p ih = (all-put (λ a b. nat_lt a.birth b.birth) (λ y. x.birth < y.birth) q xs (below-is x.birth q.birth e) r.0, ih p.1 r.1)
+    go true e p ih = (all-put (λ a b. nat_lt a.birth b.birth) (λ y. x.birth < y.birth) q xs (ltb-true x.birth q.birth e) r.0, ih p.1 r.1)
     go false e p ih =
         let l : q.birth < x.birth = above-is x.birth q.birth e p.0 in
         ((l, all-so (λ y. x.birth < y.birth) (λ y. q.birth < y.birth) xs (λ y h. omega arith) r.0), r)
@@ -193,7 +185,7 @@ places-dropped n (q ∷ qs) birth r h = go (q.birth == birth) refl h (places-dro
         → (has_queue qs birth ≡ true → places_of n qs ≡ with_place n (record { count = length (ready_in qs birth); birth = birth }) (places_of n (dropped qs birth)))
         → with_place n (place_of q) (places_of n qs) ≡ with_place n (record { count = length (cond t q.ready (ready_in qs birth)); birth = birth }) (places_of n (cond (not t) (q ∷ dropped qs birth) (dropped qs birth)))
     go true e k ih =
-        let b : q.birth ≡ birth = is-same q.birth birth e in
+        let b : q.birth ≡ birth = eqb-true q.birth birth e in
         let rest : dropped qs birth ≡ qs = absent-dropped qs birth (above-absent qs q.birth birth r.0 (omega arith)) in
         λ i. with_place n (record { count = length q.ready; birth = b i }) (places_of n (sym rest i))
     go false e k ih =

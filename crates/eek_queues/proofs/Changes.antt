@@ -1,9 +1,10 @@
 -- The queues after one of them was made, changed or dropped. A crate above cites these.
 use Rattle.std.proofs.Common.{◌≡◌, ◌≢◌, ℕ, Bool, true, false, not, cond, List, [], ◌∷◌, refl, sym, ap, ◌∙◌}
 use Rattle.std.specs.Prelude.{◌==◌, nat_lt}
+use Rattle.std.proofs.lemmas.Bool.{eqb-true, eq-eqb}
 use Rattle.hk_base.specs.declared.names.Edek.{Edek}
 use Rattle.eek_queues.specs.Queues.{Queue, ready_in, has_queue, set_ready, dropped, put_queue}
-use Rattle.eek_queues.proofs.Births.{is-same, other-is, same-is}
+use Rattle.eek_queues.proofs.Births.{other-is}
 
 -- ---- a change
 
@@ -18,7 +19,7 @@ ready-set_other (q ∷ qs) birth ready b n = go (q.birth == birth) refl (ready-s
     go true e ih =
         let other : (birth == b) ≡ false = other-is birth b (λ k. n (sym k)) in
         ap (λ t. cond t ready (ready_in rest b)) other ∙ ih
-        ∙ sym (ap (λ t. cond t q.ready (ready_in qs b)) (ap (λ (x : ℕ). x == b) (is-same q.birth birth e) ∙ other))
+        ∙ sym (ap (λ t. cond t q.ready (ready_in qs b)) (ap (λ (x : ℕ). x == b) (eqb-true q.birth birth e) ∙ other))
     go false e ih = ap (cond (q.birth == b) q.ready) ih
 
 -- ---- a drop
@@ -37,7 +38,7 @@ has-dropped_other (q ∷ qs) birth b n = go (q.birth == birth) refl (has-dropped
   where
     go : (t : Bool) → (q.birth == birth) ≡ t → has_queue (dropped qs birth) b ≡ has_queue qs b → has_queue (cond (not t) (q ∷ dropped qs birth) (dropped qs birth)) b ≡ cond (q.birth == b) true (has_queue qs b)
     go true e ih =
-        ih ∙ sym (ap (λ t. cond t true (has_queue qs b)) (ap (λ (x : ℕ). x == b) (is-same q.birth birth e) ∙ other-is birth b (λ k. n (sym k))))
+        ih ∙ sym (ap (λ t. cond t true (has_queue qs b)) (ap (λ (x : ℕ). x == b) (eqb-true q.birth birth e) ∙ other-is birth b (λ k. n (sym k))))
     go false e ih = ap (cond (q.birth == b) true) ih
 
 pub ready-dropped_other : (qs : List Queue) (birth b : ℕ) → b ≢ birth → ready_in (dropped qs birth) b ≡ ready_in qs b
@@ -46,13 +47,13 @@ ready-dropped_other (q ∷ qs) birth b n = go (q.birth == birth) refl (ready-dro
   where
     go : (t : Bool) → (q.birth == birth) ≡ t → ready_in (dropped qs birth) b ≡ ready_in qs b → ready_in (cond (not t) (q ∷ dropped qs birth) (dropped qs birth)) b ≡ cond (q.birth == b) q.ready (ready_in qs b)
     go true e ih =
-        ih ∙ sym (ap (λ t. cond t q.ready (ready_in qs b)) (ap (λ (x : ℕ). x == b) (is-same q.birth birth e) ∙ other-is birth b (λ k. n (sym k))))
+        ih ∙ sym (ap (λ t. cond t q.ready (ready_in qs b)) (ap (λ (x : ℕ). x == b) (eqb-true q.birth birth e) ∙ other-is birth b (λ k. n (sym k))))
     go false e ih = ap (cond (q.birth == b) q.ready) ih
 
 -- ---- one more queue
 
 pub has-put : (q : Queue) (qs : List Queue) → has_queue (put_queue q qs) q.birth ≡ true
-has-put q [] = ap (λ t. cond t true false) (same-is q.birth q.birth refl)
+has-put q [] = ap (λ t. cond t true false) (eq-eqb q.birth q.birth refl)
 has-put q (x ∷ xs) = go (nat_lt x.birth q.birth) (has-put q xs)
   where
     go : (t : Bool) → has_queue (put_queue q xs) q.birth ≡ true → has_queue (cond t (x ∷ put_queue q xs) (q ∷ x ∷ xs)) q.birth ≡ true
@@ -61,7 +62,7 @@ has-put q (x ∷ xs) = go (nat_lt x.birth q.birth) (has-put q xs)
         either : (t : Bool) → cond t true (has_queue (put_queue q xs) q.birth) ≡ true
         either true = refl
         either false = ih
-    go false ih = ap (λ t. cond t true (has_queue (x ∷ xs) q.birth)) (same-is q.birth q.birth refl)
+    go false ih = ap (λ t. cond t true (has_queue (x ∷ xs) q.birth)) (eq-eqb q.birth q.birth refl)
 
 pub has-put_other : (q : Queue) (qs : List Queue) (b : ℕ) → b ≢ q.birth → has_queue (put_queue q qs) b ≡ has_queue qs b
 has-put_other q [] b n = ap (λ t. cond t true false) (other-is q.birth b (λ k. n (sym k)))
@@ -81,7 +82,7 @@ ready-put_other q (x ∷ xs) b n = go (nat_lt x.birth q.birth) (ready-put_other 
 
 -- the birth had no queue, so there is none before the new one
 pub ready-put : (q : Queue) (qs : List Queue) → has_queue qs q.birth ≡ false → ready_in (put_queue q qs) q.birth ≡ q.ready
-ready-put q [] h = ap (λ t. cond t q.ready []) (same-is q.birth q.birth refl)
+ready-put q [] h = ap (λ t. cond t q.ready []) (eq-eqb q.birth q.birth refl)
 ready-put q (x ∷ xs) h = go (nat_lt x.birth q.birth) (x.birth == q.birth) h (ready-put q xs)
   where
     go : (t u : Bool) → cond u true (has_queue xs q.birth) ≡ false → (has_queue xs q.birth ≡ false → ready_in (put_queue q xs) q.birth ≡ q.ready) → ready_in (cond t (x ∷ put_queue q xs) (q ∷ x ∷ xs)) q.birth ≡ q.ready
@@ -90,4 +91,4 @@ ready-put q (x ∷ xs) h = go (nat_lt x.birth q.birth) (x.birth == q.birth) h (r
         passed : (u : Bool) → cond u true (has_queue xs q.birth) ≡ false → (has_queue xs q.birth ≡ false → ready_in (put_queue q xs) q.birth ≡ q.ready) → cond u x.ready (ready_in (put_queue q xs) q.birth) ≡ q.ready
         passed true k ih = cc
         passed false k ih = ih k
-    go false u k ih = ap (λ t. cond t q.ready (ready_in (x ∷ xs) q.birth)) (same-is q.birth q.birth refl)
+    go false u k ih = ap (λ t. cond t q.ready (ready_in (x ∷ xs) q.birth)) (eq-eqb q.birth q.birth refl)

@@ -3,6 +3,7 @@ use Rattle.std.proofs.Common.{◌≡◌, ℕ, ◌<◌, ◌≤◌, zero, suc, Boo
 use Rattle.std.specs.Prelude.{◌==◌, nat_lt, slice_get, All, IsNone}
 use Rattle.std.specs.Option.{option_map}
 use Rattle.std.proofs.lemmas.Bool.Decides.{nat_tests}
+use Rattle.std.proofs.lemmas.Bool.{ltb-false, ltb-true, le-ltb}
 use Rattle.eek_queues.specs.declared.order.QueuePlace.{QueuePlace}
 use Rattle.eek_queues.specs.Queues.{IsLowest, Queue, is_lower, lower_of, lowest, put, ready_in}
 use Rattle.eek_queues.specs.Order.{is_before, place_of, places_of}
@@ -45,15 +46,6 @@ pub birth-of-place : (o : Option Queue) → option_map (λ (p : QueuePlace). p.b
 birth-of-place None = refl
 birth-of-place (Some q) = refl
 
-not-low : (m n : ℕ) → nat_lt m n ≡ false → n ≤ m
-not-low m n h = grind (arith, nat_tests)
-
-low-is : (m n : ℕ) → nat_lt m n ≡ true → m < n
-low-is m n h = grind (arith, nat_tests)
-
-high-is : (m n : ℕ) → n ≤ m → nat_lt m n ≡ false
-high-is m n h = grind (arith, nat_tests)
-
 -- ---- no queue is low
 
 pub lowest-none : (n : ℕ) (qs : List Queue) → lowest n qs ≡ None → All (λ q. n ≤ length q.ready) qs
@@ -62,13 +54,13 @@ lowest-none n (q ∷ qs) h k d b = go (nat_lt (length q.ready) n) refl h (lowest
   where
     go : (t : Bool) → nat_lt (length q.ready) n ≡ t → cond t (Some (lower_of q (lowest n qs))) (lowest n qs) ≡ None → (lowest n qs ≡ None → All (λ q. n ≤ length q.ready) qs) → All (λ q. n ≤ length q.ready) (q ∷ qs)
     go true e f ih k d b = cc
-    go false e f ih zero d b = not-low (length q.ready) n e
+    go false e f ih zero d b = ltb-false (length q.ready) n e
     go false e f ih (suc k) d b = ih f k d (omega arith)
 
 pub none-lowest : (n : ℕ) (qs : List Queue) → All (λ q. n ≤ length q.ready) qs → lowest n qs ≡ None
 none-lowest n [] all = refl
 none-lowest n (q ∷ qs) all =
-    ap (λ t. cond t (Some (lower_of q (lowest n qs))) (lowest n qs)) (high-is (length q.ready) n (all 0 q (omega arith)))
+    ap (λ t. cond t (Some (lower_of q (lowest n qs))) (lowest n qs)) (le-ltb (length q.ready) n (all 0 q (omega arith)))
     ∙ none-lowest n qs (λ k d b. all (suc k) d (omega arith))
 
 pub none-is : (n : ℕ) (qs : List Queue) (r : Option ℕ) → r ≡ option_map (λ (q : Queue). q.birth) (lowest n qs) → (IsNone r → All (λ q. n ≤ length q.ready) qs) × (All (λ q. n ≤ length q.ready) qs → IsNone r)
@@ -120,12 +112,12 @@ is-low n (x ∷ xs) q h = go (nat_lt (length x.ready) n) refl (lowest n xs) refl
 
     go : (t : Bool) → nat_lt (length x.ready) n ≡ t → (o : Option Queue) → lowest n xs ≡ o → cond t (Some (lower_of x o)) o ≡ Some q → ((y : Queue) → lowest n xs ≡ Some y → IsLow n xs y) → IsLow n (x ∷ xs) q
     go true e None f h ih =
-        subst (IsLow n (x ∷ xs)) (same h) (first (low-is (length x.ready) n e) (λ k d b. not-lower x (get_or xs k d) n (low-is (length x.ready) n e) (lowest-none n xs f k d b)))
-    go true e (Some y) f h ih = subst (IsLow n (x ∷ xs)) (same h) (two y (is_lower y x) refl (low-is (length x.ready) n e) (ih y f))
+        subst (IsLow n (x ∷ xs)) (same h) (first (ltb-true (length x.ready) n e) (λ k d b. not-lower x (get_or xs k d) n (ltb-true (length x.ready) n e) (lowest-none n xs f k d b)))
+    go true e (Some y) f h ih = subst (IsLow n (x ∷ xs)) (same h) (two y (is_lower y x) refl (ltb-true (length x.ready) n e) (ih y f))
     go false e None f h ih = cc
     go false e (Some y) f h ih =
         let i : IsLow n xs y = ih y f in
-        subst (IsLow n (x ∷ xs)) (same h) (later y i (not-lower y x n i.low (not-low (length x.ready) n e)))
+        subst (IsLow n (x ∷ xs)) (same h) (later y i (not-lower y x n i.low (ltb-false (length x.ready) n e)))
 
 no-fewer : (a x b y : ℕ) → cond (y == x) (nat_lt b a) (nat_lt y x) ≡ false → x ≤ y
 no-fewer a x b y h = grind (arith, nat_tests)

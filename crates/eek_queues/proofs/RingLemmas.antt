@@ -4,7 +4,7 @@ use Rattle.std.specs.Prelude.{◌==◌, nat_lt, slice_get, IsNone}
 use Rattle.std.specs.List.{AllByRecursion, insert, remove}
 use Rattle.std.specs.List.Sorted.{IsNonDecreasingBy, IsPartitionPoint}
 use Rattle.std.proofs.lemmas.Bool.Decides.{nat_tests}
-use Rattle.std.proofs.lemmas.Bool.{cases_lt}
+use Rattle.std.proofs.lemmas.Bool.{cases_lt, ltb-false, eq-eqb}
 use Rattle.std.proofs.lemmas.List.{drop_all, get_or-map, length-map, length-set, map-set}
 use Rattle.circular_buffer.specs.Buffer.{Buffer, buffer}
 use Rattle.hk_base.specs.declared.names.Edek.{Edek}
@@ -15,7 +15,7 @@ use Rattle.eek_queues.specs.Order.{Stands, is_before, with_place, place_of, plac
 use Rattle.eek_queues.specs.Kept.{IsKept, Rising, queue_of, queues_of}
 use Rattle.eek_queues.proofs.Put.{length-put, map-put, put-insert}
 use Rattle.eek_queues.proofs.Places.{all-at, in_order-places_of}
-use Rattle.eek_queues.proofs.Births.{above-absent, absent-dropped, absent-ready, has-at, other-is, places-dropped, places-put, places-set, ready-at, rising-dropped, rising-put, rising-set, same-is, set-at}
+use Rattle.eek_queues.proofs.Births.{above-absent, absent-dropped, absent-ready, has-at, other-is, places-dropped, places-put, places-set, ready-at, rising-dropped, rising-put, rising-set, set-at}
 
 -- ---- the place of a birth
 
@@ -41,9 +41,6 @@ parted-next r rs birth at h = (λ k d low high. h.0 (suc k) d (omega arith) (ome
 lesser-other : (a b : ℕ) → nat_lt a b ≡ true → (a == b) ≡ false
 lesser-other a b h = grind (arith, nat_tests)
 
-not-lesser : (a b : ℕ) → nat_lt a b ≡ false → b ≤ a
-not-lesser a b h = grind (arith, nat_tests)
-
 -- a birth whose place is past the last ring has no queue
 pub absent-past : (rings : List Ring) (birth : ℕ) → PartedAt rings birth (length rings) → has_queue (queues_of rings) birth ≡ false
 absent-past [] birth h = refl
@@ -56,7 +53,7 @@ pub absent-place : (rings : List Ring) (birth at : ℕ) (d : Ring) → Rising (q
 absent-place [] birth at d h b p n = absurd (omega arith)
 absent-place (r ∷ rs) birth zero d h b p n =
     ap (λ t. cond t true (has_queue (queues_of rs) birth)) (other-is r.birth birth n)
-    ∙ above-absent (queues_of rs) r.birth birth h.0 (not-lesser r.birth birth (p.1 0 r (omega arith) (omega arith)))
+    ∙ above-absent (queues_of rs) r.birth birth h.0 (ltb-false r.birth birth (p.1 0 r (omega arith) (omega arith)))
 absent-place (r ∷ rs) birth (suc at) d h b p n =
     ap (λ t. cond t true (has_queue (queues_of rs) birth)) (lesser-other r.birth birth (p.0 0 r (omega arith) (omega arith)))
     ∙ absent-place rs birth at d h.1 (omega arith) (parted-next r rs birth at p) n
@@ -94,7 +91,7 @@ module _ (rings : List Ring) (birth at : ℕ) (ring : Ring) (h : IsAt rings birt
 remove-rings : (rings : List Ring) (birth at : ℕ) (d : Ring) → Rising (queues_of rings) → at < length rings → (get_or rings at d).birth ≡ birth → queues_of (remove rings at) ≡ dropped (queues_of rings) birth
 remove-rings [] birth at d h b e = absurd (omega arith)
 remove-rings (r ∷ rs) birth zero d h b e =
-    sym (ap (λ t. cond (not t) (queue_of r ∷ dropped (queues_of rs) birth) (dropped (queues_of rs) birth)) (same-is r.birth birth e)
+    sym (ap (λ t. cond (not t) (queue_of r ∷ dropped (queues_of rs) birth) (dropped (queues_of rs) birth)) (eq-eqb r.birth birth e)
     ∙ absent-dropped (queues_of rs) birth (above-absent (queues_of rs) r.birth birth h.0 (omega arith)))
 remove-rings (r ∷ rs) birth (suc at) d h b e =
     let l : r.birth < birth = omega (arith, birth-at rs r.birth at d h.0 (omega arith), e) in

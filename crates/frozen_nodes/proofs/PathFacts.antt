@@ -7,8 +7,8 @@ use Rattle.std.specs.Str.{bytes_eq}
 use Rattle.std.specs.declared.cmp.Ordering.TheVariants.{Less, Equal, Greater}
 use Rattle.std.proofs.lemmas.Cmp.{nat_list_cmp_total, tied_itself}
 use Rattle.std.proofs.lemmas.Slice.Eq.{bytes_eq-Decides}
+use Rattle.std.proofs.lemmas.Bool.{and_parts}
 use Rattle.name_calls.specs.Paths.{is_before, is_component, is_prefix, is_relative, is_short, last_name, parent, path_cmp}
-use Rattle.name_calls.proofs.PathLemmas.{and-parts}
 use Rattle.inode_tree.proofs.PathBytes.{name-short}
 use Rattle.inode_tree.specs.Below.{seen_from}
 use Rattle.inode_tree.specs.Rows.{Entry}
@@ -22,12 +22,12 @@ parent-last (x ∷ []) lt = refl
 parent-last (x ∷ y ∷ p) lt = λ i. x ∷ parent-last (y ∷ p) (omega arith) i
 
 pub last-ruled : (p : List (List ℕ)) → is_relative p ≡ true → 0 < length p → is_component (last_name p) ≡ true
-last-ruled p h lt = go p (and-parts (list_all is_component p) (is_short p) h).0 lt
+last-ruled p h lt = go p (and_parts (list_all is_component p) (is_short p) h).0 lt
   where
     go : (q : List (List ℕ)) → list_all is_component q ≡ true → 0 < length q → is_component (last_name q) ≡ true
     go [] h lt = absurd (omega arith)
-    go (x ∷ []) h lt = (and-parts (is_component x) true h).0
-    go (x ∷ y ∷ q) h lt = go (y ∷ q) (and-parts (is_component x) (list_all is_component (y ∷ q)) h).1 (omega arith)
+    go (x ∷ []) h lt = (and_parts (is_component x) true h).0
+    go (x ∷ y ∷ q) h lt = go (y ∷ q) (and_parts (is_component x) (list_all is_component (y ∷ q)) h).1 (omega arith)
 
 pub last-short : (p : List (List ℕ)) → is_relative p ≡ true → length (last_name p) ≤ 255
 last-short [] h = omega arith
@@ -39,8 +39,8 @@ prefix-trans [] q r h k = refl
 prefix-trans (x ∷ p) [] r h k = cc
 prefix-trans (x ∷ p) (y ∷ q) [] h k = cc
 prefix-trans (x ∷ p) (y ∷ q) (z ∷ r) h k =
-    let v = and-parts (bytes_eq x y) (is_prefix p q) h in
-    let w = and-parts (bytes_eq y z) (is_prefix q r) k in
+    let v = and_parts (bytes_eq x y) (is_prefix p q) h in
+    let w = and_parts (bytes_eq y z) (is_prefix q r) k in
     let same : x ≡ z = (bytes_eq-Decides x y).0 v.0 ∙ (bytes_eq-Decides y z).0 w.0 in
     ap (λ (t : Bool). t && is_prefix p r) ((bytes_eq-Decides x z).1 same) ∙ prefix-trans p q r v.1 w.1
 
@@ -65,10 +65,10 @@ seen-name p x q zero e h = absurd (omega arith)
 seen-name [] x [] (suc m) e h = cc
 seen-name [] x (y ∷ q) (suc m) e h =
     let zero_is : m ≡ 0 = omega arith in
-    let w = and-parts (bytes_eq x y) true h in
+    let w = and_parts (bytes_eq x y) true h in
     λ i. (bytes_eq-Decides x y).0 w.0 i ∷ drop (zero_is i) q
 seen-name (z ∷ p) x [] (suc m) e h = cc
-seen-name (z ∷ p) x (y ∷ q) (suc m) e h = seen-name p x q m (omega arith) (and-parts (bytes_eq z y) (is_prefix (p ++ x ∷ []) q) h).1
+seen-name (z ∷ p) x (y ∷ q) (suc m) e h = seen-name p x q m (omega arith) (and_parts (bytes_eq z y) (is_prefix (p ++ x ∷ []) q) h).1
 
 pub seen-under : (p : List (List ℕ)) (x : List ℕ) (m : ℕ) (es : List Entry) → m ≡ length p + 1 → AllAtOrBelow (p ++ x ∷ []) es → map (under x) (map (seen_from m) es) ≡ map (seen_from (length p)) es
 seen-under p x m [] e a = refl

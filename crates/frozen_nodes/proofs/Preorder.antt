@@ -7,10 +7,9 @@ use Rattle.std.specs.List.{All}
 use Rattle.std.specs.Ordering.{is_lt, ordering_reverse}
 use Rattle.std.proofs.lemmas.Cmp.{lists_total, nat_list_cmp_total}
 use Rattle.std.specs.Str.{bytes_eq}
-use Rattle.std.proofs.lemmas.Bool.{cases_lt}
+use Rattle.std.proofs.lemmas.Bool.{cases_lt, and_parts}
 use Rattle.std.proofs.lemmas.Slice.Eq.{bytes_eq-Decides}
 use Rattle.name_calls.specs.Paths.{is_before, is_prefix, parent, path_cmp, same_path}
-use Rattle.name_calls.proofs.PathLemmas.{and-parts}
 use Rattle.inode_tree.specs.Rows.{AllAfter, Entry, IsRising, is_dir_at, row_at}
 use Rattle.inode_tree.proofs.Blocks.{between, prefix-not-before}
 
@@ -34,7 +33,7 @@ pub same-is : (p q : List (List ℕ)) → same_path p q ≡ true → p ≡ q
 same-is [] [] h = refl
 same-is [] (y ∷ q) h = cc
 same-is (x ∷ p) [] h = cc
-same-is (x ∷ p) (y ∷ q) h = let w = and-parts (bytes_eq x y) (same_path p q) h in λ i. (bytes_eq-Decides x y).0 w.0 i ∷ same-is p q w.1 i
+same-is (x ∷ p) (y ∷ q) h = let w = and_parts (bytes_eq x y) (same_path p q) h in λ i. (bytes_eq-Decides x y).0 w.0 i ∷ same-is p q w.1 i
 
 -- what is found at a path is one of the rows
 pub row-there : (rows : List Entry) (d : Entry) (p : List (List ℕ)) → is_dir_at (row_at rows p) ≡ true → (j : ℕ) × (j < length rows) × (path_at rows d j ≡ p)
@@ -80,7 +79,7 @@ prefix-is : (p q : List (List ℕ)) → is_prefix p q ≡ true → length p ≡ 
 prefix-is [] [] h e = refl
 prefix-is [] (y ∷ q) h e = absurd (omega arith)
 prefix-is (x ∷ p) [] h e = cc
-prefix-is (x ∷ p) (y ∷ q) h e = let w = and-parts (bytes_eq x y) (is_prefix p q) h in λ i. (bytes_eq-Decides x y).0 w.0 i ∷ prefix-is p q w.1 (omega arith) i
+prefix-is (x ∷ p) (y ∷ q) h e = let w = and_parts (bytes_eq x y) (is_prefix p q) h in λ i. (bytes_eq-Decides x y).0 w.0 i ∷ prefix-is p q w.1 (omega arith) i
 
 -- two prefixes of a path, the shorter first
 nested : (p q x : List (List ℕ)) → is_prefix p x ≡ true → is_prefix q x ≡ true → length p ≤ length q → is_prefix p q ≡ true
@@ -88,8 +87,8 @@ nested [] q x h k le = refl
 nested (a ∷ p) [] x h k le = absurd (omega arith)
 nested (a ∷ p) (b ∷ q) [] h k le = cc
 nested (a ∷ p) (b ∷ q) (c ∷ x) h k le =
-    let v = and-parts (bytes_eq a c) (is_prefix p x) h in
-    let w = and-parts (bytes_eq b c) (is_prefix q x) k in
+    let v = and_parts (bytes_eq a c) (is_prefix p x) h in
+    let w = and_parts (bytes_eq b c) (is_prefix q x) k in
     let same : a ≡ b = (bytes_eq-Decides a c).0 v.0 ∙ sym ((bytes_eq-Decides b c).0 w.0) in
     ap (λ (t : Bool). t && is_prefix p q) ((bytes_eq-Decides a b).1 same) ∙ nested p q x v.1 w.1 (omega arith)
 

@@ -1,5 +1,5 @@
 -- The place of the '@' in the text of a version.
-use Rattle.std.proofs.Common.{◌≡◌, ℕ, ◌+◌, ◌-◌, ◌^◌, ◌<◌, ap₂, List, ◌∷◌, ◌++◌, length, take, drop, get_or, Bool, true, false, ◌&&◌, Some, refl, ap, sym, ◌∙◌, arith, append_assoc, length-append, drop-cons, add-one, codes}
+use Rattle.std.proofs.Common.{◌≡◌, ℕ, ◌+◌, ◌-◌, ◌^◌, ◌<◌, ap₂, List, ◌∷◌, ◌++◌, length, take, drop, get_or, Bool, true, false, Some, refl, ap, sym, ◌∙◌, arith, append_assoc, length-append, drop-cons, add-one, codes}
 use Rattle.std.specs.List.{list_all, All, position}
 use Rattle.std.specs.Fmt.{decimal}
 use Rattle.std.specs.Str.Parse.{digits_value}
@@ -10,15 +10,12 @@ use Rattle.std.proofs.lemmas.List.Folds.{list_all_at}
 use Rattle.std.proofs.lemmas.List.Quantifiers.{position-Some}
 use Rattle.std.proofs.lemmas.Bool.Decides.{Decides-eqb}
 use Rattle.std.proofs.Math.Seq.{get_or-append_seam, take-append_seam, drop-append_seam}
+use Rattle.std.proofs.lemmas.Bool.{and_parts}
 use Rattle.hk_base.specs.Names.{is_name_byte, IsKeyName, is_at_sign, version_text}
-
-and_both : (a b : Bool) → (a && b) ≡ true → (a ≡ true) × (b ≡ true)
-and_both true b h = (refl, h)
-and_both false b h = absurd cc
 
 -- each byte of a name is a name byte
 bytes_may_stand : (key : List ℕ) → IsKeyName key → list_all is_name_byte key ≡ true
-bytes_may_stand key name = (and_both _ _ name).1
+bytes_may_stand key name = (and_parts _ _ name).1
 
 -- a name byte is not '@'
 not_at_sign : (b : ℕ) → is_name_byte b ≡ true → is_at_sign b ≡ true → ⊥

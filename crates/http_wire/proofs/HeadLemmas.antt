@@ -1,7 +1,7 @@
 -- The end of a head, one byte at a time.
-use Rattle.std.proofs.Common.{◌≡◌, Bool, true, false, ℕ, ◌+◌, ◌<◌, ◌≤◌, List, [], ◌∷◌, ◌++◌, length, take, sym, ap, subst, ◌∙◌, ⊎_elim, arith, length-append}
+use Rattle.std.proofs.Common.{◌≡◌, ℕ, ◌+◌, ◌<◌, ◌≤◌, List, [], ◌∷◌, ◌++◌, length, take, ap, subst, ⊎_elim, arith, length-append}
 use Rattle.std.proofs.lemmas.List.{take-append-le, take_all}
-use Rattle.std.proofs.lemmas.Bool.{cases_lt, false≢true}
+use Rattle.std.proofs.lemmas.Bool.{cases_lt}
 use Rattle.http_wire.specs.Heads.{EndsIn, EndsHead, HasNoEnd, IsHeadText}
 
 -- a tail is no longer than the bytes
@@ -35,7 +35,3 @@ head_ended bytes b none ends few =
       first = λ n below. no_end_before bytes b none n (omega arith);
       fits = omega arith;
     }
-
--- a test that is false is not true
-pub is_not : (b : Bool) → b ≡ false → b ≡ true → ⊥
-is_not b is_false is_true = false≢true (sym is_false ∙ is_true)

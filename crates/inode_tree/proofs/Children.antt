@@ -1,29 +1,18 @@
 -- Whether rows lie in a directory, by the row that follows it in path order.
-use Rattle.std.proofs.Common.{◌≡◌, ℕ, ◌+◌, ◌<◌, ◌≤◌, zero, suc, Bool, true, false, ◌&&◌, ◌||◌, List, [], ◌∷◌, ◌++◌, length, get_or, Option, Some, None, refl, sym, ap, ◌∙◌, subst, arith, length-append, ◌⊎◌, inl, inr}
+use Rattle.std.proofs.Common.{◌≡◌, ℕ, ◌+◌, ◌<◌, ◌≤◌, zero, suc, Bool, true, false, ◌||◌, List, [], ◌∷◌, ◌++◌, length, get_or, Option, Some, None, refl, sym, ap, ◌∙◌, subst, arith, length-append, ◌⊎◌, inl, inr}
 use Rattle.std.specs.Prelude.{◌==◌}
-use Rattle.std.proofs.lemmas.Bool.{cases_lt}
-use Rattle.std.proofs.lemmas.Bool.Decides.{nat_tests}
+use Rattle.std.proofs.lemmas.Bool.{cases_lt, eqb-true, eq-eqb, and_from, and_parts}
 use Rattle.inode_tree.specs.declared.rows.Node.{Node}
 use Rattle.name_calls.specs.Paths.{is_before, is_child, is_prefix, same_path}
 use Rattle.inode_tree.specs.Rows.{Entry, has_children}
 use Rattle.inode_tree.specs.Arena.{IsTree, IsRising, rank, rows_of, node_at, path_of, number_of}
 use Rattle.inode_tree.proofs.Asked.{none-at}
 use Rattle.inode_tree.proofs.Blocks.{between, prefix-not-before}
-use Rattle.name_calls.proofs.PathLemmas.{and-parts}
 use Rattle.inode_tree.proofs.Puts.{not-both, same-turned}
 use Rattle.inode_tree.proofs.Ranks.{any_entry, rank-above, rank-below, rows-at, length-rows, within-at}
 use Rattle.inode_tree.proofs.Seeks.{same-is, same-itself, before-not-same, not-before-itself, other-before, number-live}
 use Rattle.inode_tree.proofs.Ups.{path-root}
 use Rattle.inode_tree.proofs.ZoneLemmas.{prefix-snoc, prefix-itself, prefix-whole, rising-before}
-
-eq-yes : (a b : ℕ) → (a == b) ≡ true → a ≡ b
-eq-yes a b h = grind (arith, nat_tests)
-
-yes-eq : (a b : ℕ) → a ≡ b → (a == b) ≡ true
-yes-eq a b h = grind (arith, nat_tests)
-
-both : (a b : Bool) → a ≡ true → b ≡ true → (a && b) ≡ true
-both a b e f = cc
 
 -- a path below another comes after it
 below-after : (p q : List (List ℕ)) → is_prefix p q ≡ true → same_path p q ≡ false → is_before p q ≡ true
@@ -138,8 +127,8 @@ module _ (ns : List Node) (order : List ℕ) (ids : ℕ → Option ℕ) (t : IsT
               (longer-apart (at w.place) (at (k + 1)) grows)
 
           two : (s : Bool) → same_path p (at w.place) ≡ s → is_child p (at (k + 1)) ≡ true
-          two true s = both (is_prefix p (at (k + 1))) (length (at (k + 1)) == length p + 1) h
-              (yes-eq (length (at (k + 1))) (length p + 1) (let f = ap length (same-is p (at w.place) s) in omega (arith, grows)))
+          two true s = and_from (is_prefix p (at (k + 1))) (length (at (k + 1)) == length p + 1) h
+              (eq-eqb (length (at (k + 1))) (length p + 1) (let f = ap length (same-is p (at w.place) s) in omega (arith, grows)))
           two false s =
               let behind : is_before (at k) (at w.place) ≡ true = subst (λ (q : List (List ℕ)). is_before q (at w.place) ≡ true) (sym e) (below-after p (at w.place) inner s) in
               let here : k < length order = omega arith in
@@ -149,8 +138,8 @@ module _ (ns : List Node) (order : List ℕ) (ids : ℕ → Option ℕ) (t : IsT
 
   child-after : (j : ℕ) → is_child p (at j) ≡ true → (is_prefix p (at j) ≡ true) × (is_before p (at j) ≡ true)
   child-after j h =
-      let parts = and-parts (is_prefix p (at j)) (length (at j) == length p + 1) h in
-      (parts.0, below-after p (at j) parts.0 (longer-apart p (at j) (eq-yes _ _ parts.1)))
+      let parts = and_parts (is_prefix p (at j)) (length (at j) == length p + 1) h in
+      (parts.0, below-after p (at j) parts.0 (longer-apart p (at j) (eqb-true _ _ parts.1)))
 
   -- no row is a child of p if the one after p is not below p
   none-child : (k : ℕ) → k < length order → at k ≡ p → (k + 1 < length order → is_prefix p (at (k + 1)) ≡ false) → (j : ℕ) → j < length order → is_child p (at j) ≡ false
@@ -187,8 +176,8 @@ module _ (ns : List Node) (order : List ℕ) (ids : ℕ → Option ℕ) (t : IsT
       go : (u : Bool) → is_child p (at j) ≡ u → u ≡ false
       go false u = refl
       go true u =
-          let parts = and-parts (is_prefix p (at j)) (length (at j) == length p + 1) u in
-          let long : length (at j) ≡ length p + 1 = eq-yes _ _ parts.1 in
+          let parts = and_parts (is_prefix p (at j)) (length (at j) == length p + 1) u in
+          let long : length (at j) ≡ length p + 1 = eqb-true _ _ parts.1 in
           with parts.0 long (parent-of j b (λ f. let g = ap length f in omega arith))
         where
           with : is_prefix p (at j) ≡ true → length (at j) ≡ length p + 1 → HasParent j → true ≡ false

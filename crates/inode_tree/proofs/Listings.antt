@@ -1,9 +1,8 @@
 -- The children of a directory, by places of rows.
-use Rattle.std.proofs.Common.{◌≡◌, ℕ, ◌+◌, ◌<◌, ◌≤◌, zero, suc, Bool, true, false, cond, map, ◌&&◌, ◌||◌, List, [], ◌∷◌, ◌++◌, length, get_or, drop, Option, refl, sym, ap, ◌∙◌, subst, arith, inl, inr}
+use Rattle.std.proofs.Common.{◌≡◌, ℕ, ◌+◌, ◌<◌, ◌≤◌, zero, suc, Bool, true, false, cond, map, ◌||◌, List, [], ◌∷◌, ◌++◌, length, get_or, drop, Option, refl, sym, ap, ◌∙◌, subst, arith, inl, inr}
 use Rattle.std.specs.Prelude.{◌==◌}
 use Rattle.std.specs.List.{filter}
-use Rattle.std.proofs.lemmas.Bool.{cases_lt}
-use Rattle.std.proofs.lemmas.Bool.Decides.{nat_tests}
+use Rattle.std.proofs.lemmas.Bool.{cases_lt, eqb-true, eq-eqb, ne_eqb, and_from, and_right, and_left, false_from_ne_true, and_parts}
 use Rattle.inode_tree.specs.declared.rows.Node.{Node}
 use Rattle.name_calls.specs.declared.listing.Child.{Child}
 use Rattle.name_calls.specs.Paths.{is_before, is_child, is_prefix, last_name}
@@ -11,35 +10,11 @@ use Rattle.inode_tree.specs.Listing.{child_of, children}
 use Rattle.inode_tree.specs.Rows.{Entry, is_dir}
 use Rattle.inode_tree.specs.Arena.{IsRising, IsSkip, IsTree, node_at, path_of, rank, rank_past, rows_of}
 use Rattle.inode_tree.proofs.Blocks.{prefix-not-before}
-use Rattle.name_calls.proofs.PathLemmas.{and-parts}
 use Rattle.inode_tree.proofs.Pasts.{block-at, past-above, past-most, past-on, rising-at}
 use Rattle.inode_tree.proofs.Ranks.{any_entry, length-rows, rank-below, rows-at, within-at}
 use Rattle.inode_tree.proofs.Seeks.{not-before-itself}
 use Rattle.inode_tree.proofs.Ups.{path-root}
 use Rattle.inode_tree.proofs.ZoneLemmas.{prefix-itself, prefix-whole}
-
-eq-yes : (a b : ℕ) → (a == b) ≡ true → a ≡ b
-eq-yes a b h = grind (arith, nat_tests)
-
-yes-eq : (a b : ℕ) → a ≡ b → (a == b) ≡ true
-yes-eq a b h = grind (arith, nat_tests)
-
-no-eq : (a b : ℕ) → (a ≡ b → ⊥) → (a == b) ≡ false
-no-eq a b h = grind (arith, nat_tests)
-
-both : (a b : Bool) → a ≡ true → b ≡ true → (a && b) ≡ true
-both a b e f = cc
-
-not-right : (a b : Bool) → b ≡ false → (a && b) ≡ false
-not-right true b h = h
-not-right false b h = refl
-
-not-left : (a b : Bool) → a ≡ false → (a && b) ≡ false
-not-left a b h = ap (λ (c : Bool). c && b) h
-
-false-of : (b : Bool) → (b ≡ true → ⊥) → b ≡ false
-false-of true h = absurd (h refl)
-false-of false h = refl
 
 -- no row before the path is a child of it
 pub children-rank : (es : List Entry) (p : List (List ℕ)) → children (drop (rank es p) es) p ≡ children es p
@@ -51,7 +26,7 @@ children-rank (e ∷ es) p = go (is_before e.path p) refl (children-rank es p)
     go true f ih = ih ∙ sym (ap (λ (b : Bool). map child_of (cond b (e ∷ filter (λ y. is_child p y.path) es) (filter (λ y. is_child p y.path) es))) apart)
       where
         apart : is_child p e.path ≡ false
-        apart = not-left (is_prefix p e.path) _ (false-of (is_prefix p e.path) (λ g. let k = prefix-not-before p e.path g in cc))
+        apart = and_left (is_prefix p e.path) _ (false_from_ne_true (is_prefix p e.path) (λ g. let k = prefix-not-before p e.path g in cc))
 
 -- a stretch of rows that are no children
 pub children-none : (es : List Entry) (p : List (List ℕ)) (at next : ℕ) → at ≤ next → next ≤ length es → ((k : ℕ) → at ≤ k → k < next → is_child p (get_or es k any_entry).path ≡ false) → children (drop at es) p ≡ children (drop next es) p
@@ -82,7 +57,7 @@ children-past es p at r h = elim (cases_lt at (length es)) [
     past-all (x ∷ xs) (suc n) l = past-all xs n (omega arith)
 
     off : (k : ℕ) → at ≤ k → k < length es → is_child p (get_or es k any_entry).path ≡ false
-    off k i j = not-left (is_prefix p (get_or es k any_entry).path) _ (false-of (is_prefix p (get_or es k any_entry).path) (λ g. let low = past-above es p k r j (upto (is_before (get_or es k any_entry).path p) (is_prefix p (get_or es k any_entry).path) g) in omega arith))
+    off k i j = and_left (is_prefix p (get_or es k any_entry).path) _ (false_from_ne_true (is_prefix p (get_or es k any_entry).path) (λ g. let low = past-above es p k r j (upto (is_before (get_or es k any_entry).path p) (is_prefix p (get_or es k any_entry).path) g) in omega arith))
       where
         upto : (a b : Bool) → b ≡ true → (a || b) ≡ true
         upto true b e = refl
@@ -136,13 +111,13 @@ module _ (ns : List Node) (order : List ℕ) (ids : ℕ → Option ℕ) (t : IsT
     passed a = children-none (rows_of ns order) p at (at + 1) (omega arith) (omega (arith, length-rows ns order)) (λ k i j.
         let e : k ≡ at = omega arith in
         ap (λ (m : ℕ). is_child p (get_or (rows_of ns order) m any_entry).path) e ∙ ap (is_child p) (path-at at inside)
-        ∙ not-right (is_prefix p (path_of ns (get_or order at 0))) (length (path_of ns (get_or order at 0)) == length p + 1) (no-eq (length (path_of ns (get_or order at 0))) (length p + 1) a))
+        ∙ and_right (is_prefix p (path_of ns (get_or order at 0))) (length (path_of ns (get_or order at 0)) == length p + 1) (ne_eqb (length (path_of ns (get_or order at 0))) (length p + 1) a))
 
     -- a child, and the rows below it
     pub taken : (next : ℕ) → IsSkip ns order at next → length (path_of ns (get_or order at 0)) ≡ length p + 1
         → children (drop at (rows_of ns order)) p ≡ record { name = (node_at ns (get_or order at 0)).name; directory = is_dir (node_at ns (get_or order at 0)).row.kind } ∷ children (drop next (rows_of ns order)) p
     taken next s long =
-        children-take (rows_of ns order) p at inside-rows (ap (is_child p) (path-at at inside) ∙ both (is_prefix p (path_of ns (get_or order at 0))) (length (path_of ns (get_or order at 0)) == length p + 1) here (yes-eq (length (path_of ns (get_or order at 0))) (length p + 1) long))
+        children-take (rows_of ns order) p at inside-rows (ap (is_child p) (path-at at inside) ∙ and_from (is_prefix p (path_of ns (get_or order at 0))) (length (path_of ns (get_or order at 0)) == length p + 1) here (eq-eqb (length (path_of ns (get_or order at 0))) (length p + 1) long))
         ∙ ap (λ (x : Entry). child_of x ∷ children (drop (at + 1) (rows_of ns order)) p) (rows-at ns order at inside)
         ∙ ap (λ (x : List ℕ). record { name = x; directory = is_dir (node_at ns (get_or order at 0)).row.kind } ∷ children (drop (at + 1) (rows_of ns order)) p) name-is
         ∙ ap (λ (cs : List Child). record { name = (node_at ns (get_or order at 0)).name; directory = is_dir (node_at ns (get_or order at 0)).row.kind } ∷ cs) rest
@@ -153,10 +128,10 @@ module _ (ns : List Node) (order : List ℕ) (ids : ℕ → Option ℕ) (t : IsT
             ap last_name (t.linked.step (get_or order at 0) (within-at (length ns) order at t.within inside) apart) ∙ last-snoc (path_of ns (node_at ns (get_or order at 0)).parent) (node_at ns (get_or order at 0)).name
 
         off : (k : ℕ) → at < k → k < next → is_child p (path_of ns (get_or order k 0)) ≡ false
-        off k a b = false-of (is_child p (path_of ns (get_or order k 0))) (λ g.
+        off k a b = false_from_ne_true (is_child p (path_of ns (get_or order k 0))) (λ g.
             let c : k < length order = let m = s.most in omega arith in
-            let parts = and-parts (is_prefix p (path_of ns (get_or order k 0))) (length (path_of ns (get_or order k 0)) == length p + 1) g in
-            let l : length (path_of ns (get_or order k 0)) ≡ length p + 1 = eq-yes _ _ parts.1 in
+            let parts = and_parts (is_prefix p (path_of ns (get_or order k 0))) (length (path_of ns (get_or order k 0)) == length p + 1) g in
+            let l : length (path_of ns (get_or order k 0)) ≡ length p + 1 = eqb-true _ _ parts.1 in
             let e : path_of ns (get_or order at 0) ≡ path_of ns (get_or order k 0) = prefix-whole (path_of ns (get_or order at 0)) (path_of ns (get_or order k 0)) (s.below k a b) (omega arith) in
             let f : is_before (path_of ns (get_or order k 0)) (path_of ns (get_or order k 0)) ≡ true = subst (λ (q : List (List ℕ)). is_before q (path_of ns (get_or order k 0)) ≡ true) e (rising-at ns order at k t.rising a c) in
             let h = not-before-itself (path_of ns (get_or order k 0)) in cc)

@@ -7,6 +7,7 @@ use Rattle.std.specs.List.{All, AllByRecursion}
 use Rattle.std.proofs.lemmas.Bool.Decides.{nat_tests}
 use Rattle.std.proofs.lemmas.List.{append-nil}
 use Rattle.std.proofs.lemmas.List.Elements.{All-from_recursion, recursion_from_All}
+use Rattle.std.proofs.lemmas.Bool.{eqb-true}
 use Rattle.name_calls.specs.Paths.{is_before, is_prefix, is_relative, parent, same_path}
 use Rattle.inode_tree.specs.declared.rows.Row.{Row}
 use Rattle.inode_tree.specs.Rows.{AllAfter, Entry, IsRising, IsRoot, IsRows, entry_of, is_dir_at, put, row_at}
@@ -58,9 +59,6 @@ pub rising-order : (es : List Entry) → Apart es → IsRising (in_order es)
 rising-order [] a = tt
 rising-order (e ∷ es) a = rising-put (in_order es) e (rising-order es a.1) (row-order es e.path a.1 ∙ a.0)
 
-eq-yes : (a b : ℕ) → (a == b) ≡ true → a ≡ b
-eq-yes a b h = grind (arith, nat_tests)
-
 eq-flip : (a b : ℕ) → (a == b) ≡ false → (b == a) ≡ false
 eq-flip a b h = grind (arith, nat_tests)
 
@@ -80,7 +78,7 @@ entry-put e (x ∷ es) id h = go (is_before e.path x.path) (entry-put e es id (n
   where
     swap : (s t : Bool) → (x.row.id == id) ≡ s → (e.row.id == id) ≡ t → cond s (Some x) (cond t (Some e) (entry_of es id)) ≡ cond t (Some e) (cond s (Some x) (entry_of es id))
     swap true true a b =
-        let f : x.row.id ≡ e.row.id = eq-yes x.row.id id a ∙ sym (eq-yes e.row.id id b) in
+        let f : x.row.id ≡ e.row.id = eqb-true x.row.id id a ∙ sym (eqb-true e.row.id id b) in
         let g : (e.row.id == e.row.id) ≡ false = subst (λ (n : ℕ). (n == e.row.id) ≡ false) f (none-parts x es e.row.id h).0 in
         let i = eq-self e.row.id in cc
     swap true false a b = refl

@@ -1,11 +1,11 @@
 -- The lengths of the paths below a path.
 use Rattle.std.proofs.Common.{◌≡◌, ℕ, ◌+◌, ◌-◌, ◌<◌, ◌≤◌, zero, suc, Bool, true, cond, List, [], ◌∷◌, ◌++◌, length, drop, get_or, map, take, refl, sym, ap, ◌∙◌, arith, length-append, length-drop}
-use Rattle.std.specs.Prelude.{max, nat_le}
+use Rattle.std.specs.Prelude.{max}
 use Rattle.std.specs.List.{AllByRecursion, between, filter}
-use Rattle.std.proofs.lemmas.Bool.Decides.{nat_tests}
 use Rattle.std.proofs.lemmas.List.{append-nil, drop_more}
+use Rattle.std.proofs.lemmas.Bool.{leb-true, and_parts}
 use Rattle.name_calls.specs.Paths.{is_prefix, is_relative, is_short, names_text, path_text}
-use Rattle.name_calls.proofs.PathLemmas.{and-parts, names-text-snoc}
+use Rattle.name_calls.proofs.PathLemmas.{names-text-snoc}
 use Rattle.inode_tree.specs.declared.rows.Node.{Node}
 use Rattle.inode_tree.specs.Rows.{Entry, IsRising}
 use Rattle.inode_tree.specs.Arena.{entry_at, path_of, rank, rank_past, rows_of}
@@ -86,15 +86,12 @@ names-text-drop zero p = omega arith
 names-text-drop (suc k) [] = omega arith
 names-text-drop (suc k) (x ∷ p) = let i = names-text-drop k p in omega (arith, length-append x (names_text p))
 
-le-from : (a b : ℕ) → nat_le a b ≡ true → a ≤ b
-le-from a b h = grind (arith, nat_tests)
-
 pub short-text : (p : List (List ℕ)) (k : ℕ) → is_relative p ≡ true → length (names_text (drop k p)) ≤ 8000
 short-text [] k h = let i = names-text-drop k [] in omega arith
 short-text (x ∷ p) k h =
     let i = names-text-drop k (x ∷ p) in
-    let s = (and-parts _ (is_short (x ∷ p)) h).1 in
-    let b = le-from (length (path_text (x ∷ p))) 8000 (and-parts _ _ s).0 in omega arith
+    let s = (and_parts _ (is_short (x ∷ p)) h).1 in
+    let b = leb-true (length (path_text (x ∷ p))) 8000 (and_parts _ _ s).0 in omega arith
 
 -- one name more from the end
 pub size-more : (p q : List (List ℕ)) (x : List ℕ) (count : ℕ) → p ≡ q ++ x ∷ [] → 0 < count → count ≤ length p → length (names_text (drop (length p - count) p)) ≡ length (names_text (drop (length q - (count - 1)) q)) + length x + 1

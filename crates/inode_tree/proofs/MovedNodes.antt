@@ -4,9 +4,9 @@ use Rattle.std.specs.List.{AllByRecursion, between, drop-map, list_all, take-map
 use Rattle.std.specs.Str.{bytes_eq}
 use Rattle.std.proofs.lemmas.Slice.Eq.{bytes_eq-Decides}
 use Rattle.std.proofs.lemmas.List.{map-append}
-use Rattle.std.proofs.lemmas.Bool.{cases_eq}
+use Rattle.std.proofs.lemmas.Bool.{cases_eq, and_parts}
 use Rattle.name_calls.specs.Paths.{is_component, is_prefix, is_relative, is_short, same_path}
-use Rattle.name_calls.proofs.PathLemmas.{and-parts, relative-short}
+use Rattle.name_calls.proofs.PathLemmas.{relative-short}
 use Rattle.inode_tree.specs.declared.rows.Node.{Node}
 use Rattle.inode_tree.specs.declared.rows.Row.{Row}
 use Rattle.inode_tree.specs.Rows.{Entry, is_dir}
@@ -35,7 +35,7 @@ pub record HasMoved (ns : List Node) (order : List ℕ) (ids : ℕ → Option �
 
 -- a path that keeps the rule has no empty name at its front
 named-first : (r : List (List ℕ)) → is_relative ([] ∷ r) ≡ true → ⊥
-named-first r h = let a = (and-parts (list_all is_component ([] ∷ r)) (is_short ([] ∷ r)) h).0 in cc
+named-first r h = let a = (and_parts (list_all is_component ([] ∷ r)) (is_short ([] ∷ r)) h).0 in cc
 
 module _ (ns : List Node) (order : List ℕ) (ids : ℕ → Option ℕ) (p q : List (List ℕ)) (n h : ℕ) (name : List ℕ) (m : HasMoved ns order ids p q n h name) where
   abbrev x : Node

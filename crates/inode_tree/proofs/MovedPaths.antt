@@ -8,8 +8,8 @@ use Rattle.std.proofs.lemmas.Slice.Eq.{bytes_eq-Decides}
 use Rattle.std.proofs.lemmas.Cmp.{nat_list_cmp_total, tied_itself}
 use Rattle.std.proofs.lemmas.List.{append-nil, drop_at}
 use Rattle.std.proofs.lemmas.Map.Lookups.{exact_bytes}
+use Rattle.std.proofs.lemmas.Bool.{and_parts}
 use Rattle.name_calls.specs.Paths.{is_before, is_prefix, path_cmp, same_path}
-use Rattle.name_calls.proofs.PathLemmas.{and-parts}
 use Rattle.inode_tree.specs.Moves.{moved_path}
 use Rattle.inode_tree.proofs.Seeks.{same-is}
 
@@ -27,7 +27,7 @@ pub prefix-split : (p r : List (List ℕ)) → is_prefix p r ≡ true → r ≡ 
 prefix-split [] r h = refl
 prefix-split (a ∷ p) [] h = cc
 prefix-split (a ∷ p) (b ∷ r) h =
-    let parts = and-parts (bytes_eq a b) (is_prefix p r) h in
+    let parts = and_parts (bytes_eq a b) (is_prefix p r) h in
     let e : a ≡ b = (bytes_eq-Decides a b).0 parts.0 in
     ap (λ (s : List (List ℕ)). b ∷ s) (prefix-split p r parts.1) ∙ ap (λ (c : List ℕ). c ∷ (p ++ drop (length p) r)) (sym e)
 
@@ -37,8 +37,8 @@ prefix-trans [] q r h k = refl
 prefix-trans (a ∷ p) [] r h k = cc
 prefix-trans (a ∷ p) (b ∷ q) [] h k = cc
 prefix-trans (a ∷ p) (b ∷ q) (d ∷ r) h k =
-    let first = and-parts (bytes_eq a b) (is_prefix p q) h in
-    let second = and-parts (bytes_eq b d) (is_prefix q r) k in
+    let first = and_parts (bytes_eq a b) (is_prefix p q) h in
+    let second = and_parts (bytes_eq b d) (is_prefix q r) k in
     let e : b ≡ d = (bytes_eq-Decides b d).0 second.0 in
     ap (λ (t : Bool). t && is_prefix p r) (ap (bytes_eq a) (sym e) ∙ first.0) ∙ prefix-trans p q r first.1 second.1
 

@@ -2,13 +2,12 @@
 use Rattle.std.proofs.Common.{◌≡◌, ℕ, ◌-◌, ◌<◌, ◌≤◌, zero, suc, Bool, true, false, cond, ◌&&◌, ◌||◌, List, [], ◌∷◌, ◌++◌, length, length-take, drop, take, refl, sym, ap, ◌∙◌, subst, arith, Option, Some, None, map, inl, inr, get_or}
 use Rattle.std.proofs.lemmas.List.{map-append}
 use Rattle.std.proofs.lemmas.List.Elements.{recursion_from_All}
-use Rattle.std.proofs.lemmas.Bool.{cases_lt}
+use Rattle.std.proofs.lemmas.Bool.{cases_lt, and_parts}
 use Rattle.std.specs.Prelude.{is_some}
 use Rattle.std.specs.Str.{bytes_eq}
 use Rattle.inode_tree.specs.declared.rows.Row.{Row}
 use Rattle.std.specs.List.{All, AllByRecursion, between}
 use Rattle.name_calls.specs.Paths.{is_before, is_prefix, parent, same_path}
-use Rattle.name_calls.proofs.PathLemmas.{and-parts}
 use Rattle.inode_tree.specs.Rows.{AllAfter, Entry, IsRising, is_dir_at, row_at}
 use Rattle.inode_tree.specs.Arena.{rank, rank_past}
 use Rattle.inode_tree.specs.Listed.{turned}
@@ -206,7 +205,7 @@ module _ (rows : List Entry) (housed : All (λ e. is_dir_at (row_at rows (parent
   below-parent [] (a ∷ s) h l = cc
   below-parent (b ∷ []) (a ∷ s) h l = absurd (omega arith)
   below-parent (b ∷ d ∷ r) (a ∷ s) h l =
-      let parts = and-parts (bytes_eq a b) (is_prefix s (d ∷ r)) h in
+      let parts = and_parts (bytes_eq a b) (is_prefix s (d ∷ r)) h in
       ap (λ (t : Bool). t && is_prefix s (parent (d ∷ r))) parts.0 ∙ below-parent (d ∷ r) s parts.1 (omega arith)
 
   dir-some : (o : Option Row) → is_dir_at o ≡ true → is_some o ≡ true

@@ -5,6 +5,7 @@ use Rattle.std.specs.Option.{option_map}
 use Rattle.std.specs.List.{AllByRecursion}
 use Rattle.std.proofs.lemmas.Bool.Decides.{nat_tests}
 use Rattle.std.proofs.lemmas.List.Elements.{All-from_recursion, recursion_from_All}
+use Rattle.std.proofs.lemmas.Bool.{leb-true, leb-false, le-leb}
 use Rattle.name_calls.specs.Paths.{is_relative}
 use Rattle.inode_tree.specs.declared.rows.Node.{Node}
 use Rattle.inode_tree.specs.declared.rows.Row.{Row}
@@ -23,21 +24,12 @@ use Rattle.inode_tree.proofs.Ranks.{any_entry, length-rows, rank-most, rows-at, 
 use Rattle.inode_tree.proofs.RowFacts.{is-rows}
 use Rattle.inode_tree.proofs.Seeks.{number-live, row-number}
 
-le-yes : (a b : ℕ) → nat_le a b ≡ true → a ≤ b
-le-yes a b h = grind (arith, nat_tests)
-
-le-no : (a b : ℕ) → nat_le a b ≡ false → b < a
-le-no a b h = grind (arith, nat_tests)
-
-yes-le : (a b : ℕ) → a ≤ b → nat_le a b ≡ true
-yes-le a b h = grind (arith, nat_tests)
-
 no-le : (a b : ℕ) → (a ≤ b → ⊥) → nat_le a b ≡ false
 no-le a b h = grind (arith, nat_tests)
 
 -- a test of the places picks the runs that change places
 pub shifted-left : {X : Type 0} (xs : List X) (from end at : ℕ) → at ≤ from → shifted from end at xs ≡ turned at from end xs
-shifted-left xs from end at h = ap (λ (t : Bool). cond t (turned at from end xs) (turned from end at xs)) (yes-le at from h)
+shifted-left xs from end at h = ap (λ (t : Bool). cond t (turned at from end xs) (turned from end at xs)) (le-leb at from h)
 
 pub shifted-right : {X : Type 0} (xs : List X) (from end at : ℕ) → (at ≤ from → ⊥) → shifted from end at xs ≡ turned from end at xs
 shifted-right xs from end at h = ap (λ (t : Bool). cond t (turned at from end xs) (turned from end at xs)) (no-le at from h)
@@ -118,5 +110,5 @@ module _ (ns : List Node) (order : List ℕ) (ids : ℕ → Option ℕ) (t : IsT
     moves = go (nat_le (rank rows q) (rank rows p)) refl
       where
         go : (b : Bool) → nat_le (rank rows q) (rank rows p) ≡ b → Moves (cond b (turned (rank rows q) (rank rows p) (rank_past rows p) order) (turned (rank rows p) (rank_past rows p) (rank rows q) order))
-        go true e = let l = le-yes _ _ e in let w = runs-left l in runs _ _ _ w.0 w.1 w.2 (moved-left rows p q t.rising free l)
-        go false e = let l = le-no _ _ e in let w = runs-right (λ k. omega arith) in runs _ _ _ w.0 w.1 w.2 (moved-right rows p q t.rising free w.1)
+        go true e = let l = leb-true _ _ e in let w = runs-left l in runs _ _ _ w.0 w.1 w.2 (moved-left rows p q t.rising free l)
+        go false e = let l = leb-false _ _ e in let w = runs-right (λ k. omega arith) in runs _ _ _ w.0 w.1 w.2 (moved-right rows p q t.rising free w.1)

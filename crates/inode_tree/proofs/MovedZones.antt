@@ -6,8 +6,8 @@ use Rattle.std.specs.Str.{bytes_eq}
 use Rattle.std.specs.List.{AllByRecursion, filter}
 use Rattle.std.proofs.lemmas.Bool.Decides.{nat_tests}
 use Rattle.std.proofs.lemmas.Slice.Eq.{bytes_eq-Decides}
+use Rattle.std.proofs.lemmas.Bool.{ltb-true, ltb-false, lt-ltb, le-ltb, and_parts}
 use Rattle.name_calls.specs.Paths.{is_before, is_prefix, parent, same_path}
-use Rattle.name_calls.proofs.PathLemmas.{and-parts}
 use Rattle.inode_tree.specs.Rows.{Entry, IsRows, is_marked, longer, move_allowed, put, row_at, same_id, zone_id, zone_of}
 use Rattle.inode_tree.specs.Moves.{CanMove, in_order, moved, moved_path, renamed}
 use Rattle.inode_tree.proofs.Asked.{parent-take}
@@ -24,43 +24,31 @@ use Rattle.inode_tree.proofs.ZoneLemmas.{prefix-itself, prefix-length, prefix-sn
 abbrev with_zone : List (List ℕ) → Entry → Option Entry → Option Entry
 with_zone r e o = cond (is_marked e.row && is_prefix e.path r) (Some (longer e o)) o
 
-lt-yes : (a b : ℕ) → nat_lt a b ≡ true → a < b
-lt-yes a b h = grind (arith, nat_tests)
-
-lt-no : (a b : ℕ) → nat_lt a b ≡ false → b ≤ a
-lt-no a b h = grind (arith, nat_tests)
-
-yes-lt : (a b : ℕ) → a < b → nat_lt a b ≡ true
-yes-lt a b h = grind (arith, nat_tests)
-
-no-lt : (a b : ℕ) → b ≤ a → nat_lt a b ≡ false
-no-lt a b h = grind (arith, nat_tests)
-
 -- rows whose paths have different lengths may be taken in either order
 longer-swap : (e x : Entry) (o : Option Entry) → (length e.path ≡ length x.path → ⊥) → longer e (Some (longer x o)) ≡ longer x (Some (longer e o))
 longer-swap e x None apart = go (nat_lt (length e.path) (length x.path)) refl (nat_lt (length x.path) (length e.path)) refl
   where
     go : (s : Bool) → nat_lt (length e.path) (length x.path) ≡ s → (t : Bool) → nat_lt (length x.path) (length e.path) ≡ t → cond s x e ≡ cond t e x
-    go true a true b = let f = lt-yes _ _ a in let g = lt-yes _ _ b in absurd (omega arith)
+    go true a true b = let f = ltb-true _ _ a in let g = ltb-true _ _ b in absurd (omega arith)
     go true a false b = refl
     go false a true b = refl
-    go false a false b = let f = lt-no _ _ a in let g = lt-no _ _ b in absurd (apart (omega arith))
+    go false a false b = let f = ltb-false _ _ a in let g = ltb-false _ _ b in absurd (apart (omega arith))
 longer-swap e x (Some f) apart = go (nat_lt (length e.path) (length f.path)) refl (nat_lt (length x.path) (length f.path)) refl
   where
     two : nat_lt (length e.path) (length f.path) ≡ false → nat_lt (length x.path) (length f.path) ≡ false → (s : Bool) → nat_lt (length e.path) (length x.path) ≡ s → (t : Bool) → nat_lt (length x.path) (length e.path) ≡ t → cond s x e ≡ cond t e x
-    two c d true a true b = let f = lt-yes _ _ a in let g = lt-yes _ _ b in absurd (omega arith)
+    two c d true a true b = let f = ltb-true _ _ a in let g = ltb-true _ _ b in absurd (omega arith)
     two c d true a false b = refl
     two c d false a true b = refl
-    two c d false a false b = let f = lt-no _ _ a in let g = lt-no _ _ b in absurd (apart (omega arith))
+    two c d false a false b = let f = ltb-false _ _ a in let g = ltb-false _ _ b in absurd (apart (omega arith))
 
     go : (s : Bool) → nat_lt (length e.path) (length f.path) ≡ s → (t : Bool) → nat_lt (length x.path) (length f.path) ≡ t → longer e (Some (cond t f x)) ≡ longer x (Some (cond s f e))
     go true a true b = ap (λ (u : Bool). cond u f e) a ∙ sym (ap (λ (u : Bool). cond u f x) b)
     go true a false b =
-        let low = lt-yes _ _ a in let high = lt-no _ _ b in
-        ap (λ (u : Bool). cond u x e) (yes-lt (length e.path) (length x.path) (omega arith)) ∙ sym (ap (λ (u : Bool). cond u f x) b)
+        let low = ltb-true _ _ a in let high = ltb-false _ _ b in
+        ap (λ (u : Bool). cond u x e) (lt-ltb (length e.path) (length x.path) (omega arith)) ∙ sym (ap (λ (u : Bool). cond u f x) b)
     go false a true b =
-        let high = lt-no _ _ a in let low = lt-yes _ _ b in
-        ap (λ (u : Bool). cond u f e) a ∙ sym (ap (λ (u : Bool). cond u e x) (yes-lt (length x.path) (length e.path) (omega arith)))
+        let high = ltb-false _ _ a in let low = ltb-true _ _ b in
+        ap (λ (u : Bool). cond u f e) a ∙ sym (ap (λ (u : Bool). cond u e x) (lt-ltb (length x.path) (length e.path) (omega arith)))
     go false a false b = two a b (nat_lt (length e.path) (length x.path)) refl (nat_lt (length x.path) (length e.path)) refl
 
 -- paths above a path that have the same length are one
@@ -70,8 +58,8 @@ above-once [] (y ∷ b) r h k l = absurd (omega arith)
 above-once (x ∷ a) [] r h k l = absurd (omega arith)
 above-once (x ∷ a) (y ∷ b) [] h k l = cc
 above-once (x ∷ a) (y ∷ b) (z ∷ r) h k l =
-    let first = and-parts (bytes_eq x z) (is_prefix a r) h in
-    let second = and-parts (bytes_eq y z) (is_prefix b r) k in
+    let first = and_parts (bytes_eq x z) (is_prefix a r) h in
+    let second = and_parts (bytes_eq y z) (is_prefix b r) k in
     let e : x ≡ z = (bytes_eq-Decides x z).0 first.0 in
     let f : y ≡ z = (bytes_eq-Decides y z).0 second.0 in
     let g : a ≡ b = above-once a b r first.1 second.1 (omega arith) in cc
@@ -83,7 +71,7 @@ zone-put e (x ∷ es) r h = go (is_before e.path x.path) (zone-put e es r (absen
     swap : (s t : Bool) → (is_marked x.row && is_prefix x.path r) ≡ s → (is_marked e.row && is_prefix e.path r) ≡ t
         → cond s (Some (longer x (cond t (Some (longer e (zone_of es r))) (zone_of es r)))) (cond t (Some (longer e (zone_of es r))) (zone_of es r)) ≡ cond t (Some (longer e (cond s (Some (longer x (zone_of es r))) (zone_of es r)))) (cond s (Some (longer x (zone_of es r))) (zone_of es r))
     swap true true a b = ap (λ (f : Entry). Some f) (longer-swap x e (zone_of es r) (λ l.
-        let f : x.path ≡ e.path = above-once x.path e.path r (and-parts (is_marked x.row) (is_prefix x.path r) a).1 (and-parts (is_marked e.row) (is_prefix e.path r) b).1 l in
+        let f : x.path ≡ e.path = above-once x.path e.path r (and_parts (is_marked x.row) (is_prefix x.path r) a).1 (and_parts (is_marked e.row) (is_prefix e.path r) b).1 l in
         let g : same_path e.path e.path ≡ false = subst (λ (y : List (List ℕ)). same_path y e.path ≡ false) f (absent-parts x es e.path h).0 in
         let i = same-itself e.path in cc))
     swap true false a b = refl
@@ -129,8 +117,8 @@ shift-lt : (a b c d p q : ℕ) → c + p ≡ a + q → d + p ≡ b + q → nat_l
 shift-lt a b c d p q e f = go (nat_lt a b) refl
   where
     go : (t : Bool) → nat_lt a b ≡ t → nat_lt c d ≡ t
-    go true h = let i = lt-yes a b h in yes-lt c d (omega arith)
-    go false h = let i = lt-no a b h in no-lt c d (omega arith)
+    go true h = let i = ltb-true a b h in lt-ltb c d (omega arith)
+    go false h = let i = ltb-false a b h in le-ltb c d (omega arith)
 
 -- the rows at p and below it, and all other rows
 module _ (p q : List (List ℕ)) (some : 0 < length q) (apart : is_prefix p (parent q) ≡ false) (x : List (List ℕ)) where
@@ -207,7 +195,7 @@ module _ (p q : List (List ℕ)) (some : 0 < length q) (apart : is_prefix p (par
       let k = b f refl in
       let s = parent-shorter in
       let r = prefix-length p e.path h in
-      ap (λ (t : Bool). Some (cond t f (moved p q e))) (no-lt (length (moved_path p q e.path)) (length f.path) (omega arith))
+      ap (λ (t : Bool). Some (cond t f (moved p q e))) (le-ltb (length (moved_path p q e.path)) (length f.path) (omega arith))
   step-in e true (Some i) o h a b = ap (λ (f : Entry). Some f) (longer-moved e i h (a i refl))
 
   -- one more row elsewhere
@@ -221,7 +209,7 @@ module _ (p q : List (List ℕ)) (some : 0 < length q) (apart : is_prefix p (par
       let k = s refl in
       let n = parent-shorter in
       let f = ap length same in
-      ap (λ (t : Bool). Some (cond t (moved p q i) (moved p q e))) (yes-lt (length (moved_path p q e.path)) (length (moved_path p q i.path)) (omega arith))
+      ap (λ (t : Bool). Some (cond t (moved p q i) (moved p q e))) (lt-ltb (length (moved_path p q e.path)) (length (moved_path p q i.path)) (omega arith))
 
   -- the zone of a path at q or below it: that among the rows that moved, or else that of the parent of q
   pub zone-split : (es : List Entry) → AllByRecursion (λ e. is_prefix p e.path ≡ false → is_prefix q e.path ≡ false) es → zone_of (map (moved p q) es) (q ++ x) ≡ or_zone (option_map (moved p q) (zone_inside p es x)) (zone_of es (parent q))
@@ -246,7 +234,7 @@ module _ (p q : List (List ℕ)) (some : 0 < length q) (apart : is_prefix p (par
       go false h ih =
           ap (with_zone (q ++ x) (moved p q e)) ih
           ∙ ap (λ (t : Bool). cond (is_marked e.row && t) (Some (longer (moved p q e) (both (zone_inside p es x) (zone_of es (parent q))))) (both (zone_inside p es x) (zone_of es (parent q)))) (ap (λ (s : List (List ℕ)). is_prefix s (q ++ x)) (path-stays p q e.path h) ∙ above-parent e.path (a.0 h))
-          ∙ step-out e (is_marked e.row && is_prefix e.path (parent q)) (zone_inside p es x) (zone_of es (parent q)) (λ m. prefix-length e.path (parent q) (and-parts (is_marked e.row) (is_prefix e.path (parent q)) m).1) (path-stays p q e.path h) (inside-below es)
+          ∙ step-out e (is_marked e.row && is_prefix e.path (parent q)) (zone_inside p es x) (zone_of es (parent q)) (λ m. prefix-length e.path (parent q) (and_parts (is_marked e.row) (is_prefix e.path (parent q)) m).1) (path-stays p q e.path h) (inside-below es)
 
 -- a path that is not above any moved row keeps its zone
 zone-other : (p q r : List (List ℕ)) (es : List Entry) → is_prefix p r ≡ false → is_prefix q r ≡ false → zone_of (map (moved p q) es) r ≡ zone_of es r

@@ -4,7 +4,7 @@ use Rattle.std.specs.declared.cmp.Ordering.TheVariants.{Less, Equal, Greater}
 use Rattle.std.specs.Prelude.{nat_le}
 use Rattle.std.specs.Ordering.{is_eq, is_lt, nat_cmp, ordering_then}
 use Rattle.std.specs.List.{remove}
-use Rattle.std.proofs.lemmas.Bool.{cases_eq, cases_lt}
+use Rattle.std.proofs.lemmas.Bool.{cases_eq, cases_lt, or_right, or_left}
 use Rattle.std.proofs.lemmas.Bool.Decides.{nat_tests}
 use Rattle.inode_tree.specs.declared.rows.Node.{Node}
 use Rattle.name_calls.specs.Paths.{is_before, is_prefix}
@@ -40,22 +40,14 @@ or-cases : (a b : Bool) → (a || b) ≡ true → (a ≡ false → b ≡ true)
 or-cases true b h f = cc
 or-cases false b h f = h
 
-or-right : (a b : Bool) → b ≡ true → (a || b) ≡ true
-or-right true b h = refl
-or-right false b h = h
-
-or-left : (a b : Bool) → a ≡ true → (a || b) ≡ true
-or-left true b h = refl
-or-left false b h = cc
-
 -- a row before such a row is one, too
 pub upto-before : (p q r : List (List ℕ)) → is_before q r ≡ true → is_upto p r ≡ true → is_upto p q ≡ true
 upto-before p q r b h = go (is_before q p) refl (is_before r p) refl h
   where
     go : (s : Bool) → is_before q p ≡ s → (t : Bool) → is_before r p ≡ t → (t || is_prefix p r) ≡ true → (is_before q p || is_prefix p q) ≡ true
-    go true e t f k = or-left (is_before q p) (is_prefix p q) e
+    go true e t f k = or_left (is_before q p) (is_prefix p q) e
     go false e true f k = let g = before-trans q r p b f in cc
-    go false e false f k = or-right (is_before q p) (is_prefix p q) (between p q r e b k)
+    go false e false f k = or_right (is_before q p) (is_prefix p q) (between p q r e b k)
 
 pub rising-at : (ns : List Node) (os : List ℕ) (i j : ℕ) → IsRising (rows_of ns os) → i < j → j < length os → is_before (path_of ns (get_or os i 0)) (path_of ns (get_or os j 0)) ≡ true
 rising-at ns [] i j r h b = absurd (omega arith)
@@ -163,7 +155,7 @@ none-removed e [] p a h = refl
 none-removed e (x ∷ es) p a h = go (is_prefix p x.path) refl (none-removed e es p a.1 h)
   where
     go : (t : Bool) → is_prefix p x.path ≡ t → removed p es ≡ es → cond (not t) (x ∷ removed p es) (removed p es) ≡ x ∷ es
-    go true f ih = let g = upto-before p e.path x.path a.0 (or-right (is_before x.path p) (is_prefix p x.path) f) in cc
+    go true f ih = let g = upto-before p e.path x.path a.0 (or_right (is_before x.path p) (is_prefix p x.path) f) in cc
     go false f ih = ap (λ (ys : List Entry). x ∷ ys) ih
 
 -- if no row is at or below the path, none is removed
@@ -208,13 +200,13 @@ last-leaf ns order ids p at t deep low high = record {
 
     child : (k : ℕ) → k < length order → (x : List ℕ) → path_of ns (get_or order k 0) ≡ path_of ns (get_or order at 0) ++ x ∷ [] → ⊥
     child k b x step =
-        let lies : is_prefix p (path_of ns (get_or order k 0)) ≡ true = ap (is_prefix p) step ∙ prefix-snoc p (path_of ns (get_or order at 0)) x ∙ or-left _ _ here in
-        let low : k < at + 1 = subst (λ (j : ℕ). k < j) high (past-above (rows_of ns order) p k t.rising (omega (arith, length-rows ns order)) (ap (is_upto p) (path-at k b) ∙ or-right (is_before (path_of ns (get_or order k 0)) p) (is_prefix p (path_of ns (get_or order k 0))) lies)) in
+        let lies : is_prefix p (path_of ns (get_or order k 0)) ≡ true = ap (is_prefix p) step ∙ prefix-snoc p (path_of ns (get_or order at 0)) x ∙ or_left _ _ here in
+        let low : k < at + 1 = subst (λ (j : ℕ). k < j) high (past-above (rows_of ns order) p k t.rising (omega (arith, length-rows ns order)) (ap (is_upto p) (path-at k b) ∙ or_right (is_before (path_of ns (get_or order k 0)) p) (is_prefix p (path_of ns (get_or order k 0))) lies)) in
         elim (cases_lt k at) [
           | inl a ↦ (
               let bef : is_before (path_of ns (get_or order k 0)) (path_of ns (get_or order at 0)) ≡ true = rising-at ns order k at t.rising a inside in
               let not : is_before (path_of ns (get_or order k 0)) (path_of ns (get_or order at 0)) ≡ false = prefix-not-before (path_of ns (get_or order at 0)) (path_of ns (get_or order k 0))
-              (ap (is_prefix (path_of ns (get_or order at 0))) step ∙ prefix-snoc (path_of ns (get_or order at 0)) (path_of ns (get_or order at 0)) x ∙ or-left _ _ (prefix-itself (path_of ns (get_or order at 0)))) in cc)
+              (ap (is_prefix (path_of ns (get_or order at 0))) step ∙ prefix-snoc (path_of ns (get_or order at 0)) (path_of ns (get_or order at 0)) x ∙ or_left _ _ (prefix-itself (path_of ns (get_or order at 0)))) in cc)
           | inr a ↦ (
               let same : k ≡ at = omega arith in
               let l = ap length (sym (ap (λ (j : ℕ). path_of ns (get_or order j 0)) same) ∙ step) in

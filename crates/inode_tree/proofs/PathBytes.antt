@@ -4,8 +4,8 @@ use Rattle.std.specs.Prelude.{nat_le}
 use Rattle.std.specs.List.{list_all}
 use Rattle.std.proofs.lemmas.Bool.Decides.{nat_tests}
 use Rattle.std.proofs.lemmas.List.{append-nil}
+use Rattle.std.proofs.lemmas.Bool.{and_parts}
 use Rattle.name_calls.specs.Paths.{is_component, is_relative, is_short}
-use Rattle.name_calls.proofs.PathLemmas.{and-parts}
 use Rattle.inode_tree.specs.Written.{last_bytes, path_bytes}
 use Rattle.inode_tree.proofs.Places.{last-names}
 
@@ -18,14 +18,14 @@ le-256 n h = grind (arith, nat_tests)
 
 component-short : (x : List ℕ) → is_component x ≡ true → length x < 256
 component-short x h =
-    let a = (and-parts _ _ h).0 in let b = (and-parts _ _ a).0 in let d = (and-parts _ _ b).0 in let e = (and-parts _ _ d).0 in let f = (and-parts _ _ e).0 in le-256 (length x) (and-parts _ _ f).1
+    let a = (and_parts _ _ h).0 in let b = (and_parts _ _ a).0 in let d = (and_parts _ _ b).0 in let e = (and_parts _ _ d).0 in let f = (and_parts _ _ e).0 in le-256 (length x) (and_parts _ _ f).1
 
 pub name-short : (p : List (List ℕ)) (x : List ℕ) → is_relative (p ++ x ∷ []) ≡ true → length x < 256
-name-short p x h = last p (and-parts (list_all is_component (p ++ x ∷ [])) (is_short (p ++ x ∷ [])) h).0
+name-short p x h = last p (and_parts (list_all is_component (p ++ x ∷ [])) (is_short (p ++ x ∷ [])) h).0
   where
     last : (q : List (List ℕ)) → list_all is_component (q ++ x ∷ []) ≡ true → length x < 256
-    last [] e = component-short x (and-parts (is_component x) true e).0
-    last (y ∷ q) e = last q (and-parts (is_component y) (list_all is_component (q ++ x ∷ [])) e).1
+    last [] e = component-short x (and_parts (is_component x) true e).0
+    last (y ∷ q) e = last q (and_parts (is_component y) (list_all is_component (q ++ x ∷ [])) e).1
 
 -- one name more from the end
 pub last-more : (p q : List (List ℕ)) (x : List ℕ) (count : ℕ) → p ≡ q ++ x ∷ [] → (count ≡ 0 → ⊥) → count ≤ length p → last_bytes count p ≡ last_bytes (count - 1) q ++ length x ∷ x

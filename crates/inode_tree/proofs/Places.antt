@@ -6,13 +6,12 @@ use Rattle.std.specs.List.{list_all}
 use Rattle.std.specs.Option.{option_map, option_map_or}
 use Rattle.std.specs.Ordering.{nat_cmp, is_eq, ordering_then, ordering_reverse}
 use Rattle.std.specs.Cmp.Lexicographic.{slice_cmp}
-use Rattle.std.proofs.lemmas.Bool.Decides.{nat_tests}
 use Rattle.std.proofs.lemmas.Cmp.{nat_list_cmp_total}
+use Rattle.std.proofs.lemmas.Bool.{and_from, leb-true, le-leb, and_parts}
 use Rattle.inode_tree.specs.declared.rows.Node.{Node}
 use Rattle.inode_tree.specs.Arena.{IsTree, cmp_front, entry_at, rows_of}
 use Rattle.name_calls.specs.Paths.{is_component, is_prefix, is_relative, is_short, names_text, path_text}
 use Rattle.inode_tree.specs.Rows.{Entry, entry_of}
-use Rattle.name_calls.proofs.PathLemmas.{and-parts}
 use Rattle.inode_tree.proofs.Prefixes.{prefix-front}
 use Rattle.inode_tree.proofs.Ranks.{length-rows}
 use Rattle.inode_tree.proofs.Trees.{entry-number}
@@ -30,7 +29,7 @@ eq-reverse Greater = refl
 eq-turned : (x y : List ℕ) → is_eq (slice_cmp nat_cmp x y) ≡ is_eq (slice_cmp nat_cmp y x)
 eq-turned x y = ap is_eq (nat_list_cmp_total.antisymm x y) ∙ eq-reverse (slice_cmp nat_cmp y x)
 
--- whether two paths agree as far as both go, either way round
+-- whether two paths agree as far as and_from go, either way round
 front-turned : (p q : List (List ℕ)) → is_eq (cmp_front p q) ≡ is_eq (cmp_front q p)
 front-turned [] [] = refl
 front-turned [] (y ∷ q) = refl
@@ -45,15 +44,6 @@ front-turned (x ∷ p) (y ∷ q) =
 pub prefix-back : (p q : List (List ℕ)) → is_prefix p q ≡ (is_eq (cmp_front p q) && nat_le (length p) (length q))
 prefix-back p q = prefix-front p q ∙ ap (λ (b : Bool). b && nat_le (length p) (length q)) (front-turned q p)
 
-both : (a b : Bool) → a ≡ true → b ≡ true → (a && b) ≡ true
-both a b e f = cc
-
-le-yes : (a b : ℕ) → nat_le a b ≡ true → a ≤ b
-le-yes a b h = grind (arith, nat_tests)
-
-yes-le : (a b : ℕ) → a ≤ b → nat_le a b ≡ true
-yes-le a b h = grind (arith, nat_tests)
-
 text-tail : (c : List ℕ) (p : List (List ℕ)) → is_component c ≡ true → length (path_text p) ≤ length (path_text (c ∷ p))
 text-tail c [] h = omega (arith, length-append c [])
 text-tail c (x ∷ p) h = omega (arith, length-append c (names_text (x ∷ p)))
@@ -61,14 +51,14 @@ text-tail c (x ∷ p) h = omega (arith, length-append c (names_text (x ∷ p)))
 -- a path that keeps the rule keeps it without its first name
 relative-tail : (c : List ℕ) (p : List (List ℕ)) → is_relative (c ∷ p) ≡ true → is_relative p ≡ true
 relative-tail c p h =
-    let w : (list_all is_component (c ∷ p) ≡ true) × (is_short (c ∷ p) ≡ true) = and-parts _ _ h in
-    let n : (is_component c ≡ true) × (list_all is_component p ≡ true) = and-parts _ _ w.0 in
-    let v : (nat_le (length (path_text (c ∷ p))) 8000 ≡ true) × (nat_le (length (c ∷ p)) 100 ≡ true) = and-parts _ _ w.1 in
-    let bytes : length (path_text (c ∷ p)) ≤ 8000 = le-yes _ _ v.0 in
-    let names : length (c ∷ p) ≤ 100 = le-yes _ _ v.1 in
+    let w : (list_all is_component (c ∷ p) ≡ true) × (is_short (c ∷ p) ≡ true) = and_parts _ _ h in
+    let n : (is_component c ≡ true) × (list_all is_component p ≡ true) = and_parts _ _ w.0 in
+    let v : (nat_le (length (path_text (c ∷ p))) 8000 ≡ true) × (nat_le (length (c ∷ p)) 100 ≡ true) = and_parts _ _ w.1 in
+    let bytes : length (path_text (c ∷ p)) ≤ 8000 = leb-true _ _ v.0 in
+    let names : length (c ∷ p) ≤ 100 = leb-true _ _ v.1 in
     let fewer : length (path_text p) ≤ 8000 = omega (arith, text-tail c p n.0) in
     let less : length p ≤ 100 = omega arith in
-    both (list_all is_component p) (is_short p) n.1 (both (nat_le (length (path_text p)) 8000) (nat_le (length p) 100) (yes-le _ _ fewer) (yes-le _ _ less))
+    and_from (list_all is_component p) (is_short p) n.1 (and_from (nat_le (length (path_text p)) 8000) (nat_le (length p) 100) (le-leb _ _ fewer) (le-leb _ _ less))
 
 pub relative-drop : (n : ℕ) (p : List (List ℕ)) → is_relative p ≡ true → is_relative (drop n p) ≡ true
 relative-drop zero p h = h

@@ -8,11 +8,11 @@ use Rattle.std.specs.Str.{bytes_eq}
 use Rattle.std.proofs.lemmas.Slice.Eq.{bytes_eq-Decides}
 use Rattle.std.proofs.lemmas.Map.Text.{is_eq-slice_cmp}
 use Rattle.std.proofs.lemmas.Cmp.{tied_itself}
+use Rattle.std.proofs.lemmas.Bool.{and_parts}
 use Rattle.inode_tree.specs.declared.rows.Node.{Node}
 use Rattle.name_calls.specs.Paths.{path_cmp, is_before, same_path}
 use Rattle.inode_tree.specs.Rows.{row_at}
 use Rattle.inode_tree.specs.Arena.{AllAfter, IsRising, rank, rows_of, node_at, path_of, number_of}
-use Rattle.name_calls.proofs.PathLemmas.{and-parts}
 use Rattle.inode_tree.proofs.Ranks.{path-total}
 
 pub same-is : (p q : List (List ℕ)) → same_path p q ≡ true → p ≡ q
@@ -20,7 +20,7 @@ same-is [] [] h = refl
 same-is [] (y ∷ q) h = cc
 same-is (x ∷ p) [] h = cc
 same-is (x ∷ p) (y ∷ q) h =
-    let parts = and-parts (bytes_eq x y) (same_path p q) h in
+    let parts = and_parts (bytes_eq x y) (same_path p q) h in
     let e : x ≡ y = (bytes_eq-Decides x y).0 parts.0 in
     let f : p ≡ q = same-is p q parts.1 in cc
 

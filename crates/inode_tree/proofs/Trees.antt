@@ -4,6 +4,7 @@ use Rattle.std.specs.Prelude.{◌==◌}
 use Rattle.std.specs.Ordering.{is_eq}
 use Rattle.std.specs.Option.{option_map}
 use Rattle.std.proofs.lemmas.Bool.Decides.{nat_tests}
+use Rattle.std.proofs.lemmas.Bool.{eqb-true}
 use Rattle.inode_tree.specs.declared.rows.Node.{Node}
 use Rattle.inode_tree.specs.declared.rows.Row.{Row}
 use Rattle.name_calls.specs.Paths.{path_cmp, same_path}
@@ -32,18 +33,12 @@ row-found ns order p n row e f = ap Some f ∙ sym (row-number ns order p ∙ ap
 pub row-missing : (ns : List Node) (order : List ℕ) (p : List (List ℕ)) → number_of ns order p ≡ None → None ≡ row_at (rows_of ns order) p
 row-missing ns order p e = sym (row-number ns order p ∙ ap (option_map (λ (j : ℕ). (node_at ns j).row)) e)
 
-eq-yes : (a b : ℕ) → (a == b) ≡ true → a ≡ b
-eq-yes a b h = grind (arith, nat_tests)
-
-eq-no : (a b : ℕ) → (a == b) ≡ false → a ≡ b → ⊥
-eq-no a b h e = grind (arith, nat_tests)
-
 entry-none : (ns : List Node) (order : List ℕ) (id : ℕ) → ((k : ℕ) → k < length order → (node_at ns (get_or order k 0)).row.id ≡ id → ⊥) → entry_of (rows_of ns order) id ≡ None
 entry-none ns [] id h = refl
 entry-none ns (n ∷ order) id h = go ((node_at ns n).row.id == id) refl (entry-none ns order id (λ k b. h (suc k) (omega arith)))
   where
     go : (t : Bool) → ((node_at ns n).row.id == id) ≡ t → entry_of (rows_of ns order) id ≡ None → cond t (Some (entry_at ns n)) (entry_of (rows_of ns order) id) ≡ None
-    go true e f = absurd (h 0 (omega arith) (eq-yes _ _ e))
+    go true e f = absurd (h 0 (omega arith) (eqb-true _ _ e))
     go false e f = f
 
 entry-some : (ns : List Node) (order : List ℕ) (id n k : ℕ) → k < length order → get_or order k 0 ≡ n → (node_at ns n).row.id ≡ id
@@ -56,7 +51,7 @@ entry-some ns (m ∷ order) id n zero h e f one = ap (λ (b : Bool). cond b (Som
 entry-some ns (m ∷ order) id n (suc k) h e f one = go ((node_at ns m).row.id == id) refl (entry-some ns order id n k (omega arith) e f (λ j b. one (suc j) (omega arith)))
   where
     go : (t : Bool) → ((node_at ns m).row.id == id) ≡ t → entry_of (rows_of ns order) id ≡ Some (entry_at ns n) → cond t (Some (entry_at ns m)) (entry_of (rows_of ns order) id) ≡ Some (entry_at ns n)
-    go true g ih = ap (λ (j : ℕ). Some (entry_at ns j)) (one 0 (omega arith) (eq-yes _ _ g))
+    go true g ih = ap (λ (j : ℕ). Some (entry_at ns j)) (one 0 (omega arith) (eqb-true _ _ g))
     go false g ih = ih
 
 -- the row of an id

@@ -5,6 +5,7 @@ use Rattle.std.specs.Str.{bytes_eq}
 use Rattle.std.proofs.lemmas.Slice.Eq.{bytes_eq-Decides}
 use Rattle.std.proofs.lemmas.List.{take_more}
 use Rattle.std.proofs.lemmas.Bool.Decides.{nat_tests}
+use Rattle.std.proofs.lemmas.Bool.{and_parts}
 use Rattle.name_calls.specs.Paths.{is_before, is_prefix, same_path}
 use Rattle.inode_tree.specs.Rows.{zone_of, longer, is_marked}
 use Rattle.inode_tree.specs.declared.rows.Node.{Node}
@@ -13,7 +14,6 @@ use Rattle.inode_tree.specs.Arena.{IsTree, AllAfter, IsRising, node_at, rows_of,
 use Rattle.inode_tree.proofs.Asked.{none-at}
 use Rattle.inode_tree.proofs.Ups.{path-root}
 use Rattle.inode_tree.proofs.Ranks.{within-at}
-use Rattle.name_calls.proofs.PathLemmas.{and-parts}
 use Rattle.inode_tree.proofs.Seeks.{same-is, not-before-itself}
 
 spread : (b u v : Bool) → (b && (u || v)) ≡ ((b && u) || (b && v))
@@ -29,14 +29,14 @@ prefix-snoc (y ∷ a) (z ∷ p) x = ap (λ (b : Bool). bytes_eq y z && b) (prefi
 pub prefix-length : (a p : List (List ℕ)) → is_prefix a p ≡ true → length a ≤ length p
 prefix-length [] p h = omega arith
 prefix-length (x ∷ a) [] h = cc
-prefix-length (x ∷ a) (y ∷ p) h = let i = prefix-length a p (and-parts _ _ h).1 in omega arith
+prefix-length (x ∷ a) (y ∷ p) h = let i = prefix-length a p (and_parts _ _ h).1 in omega arith
 
 pub prefix-whole : (a p : List (List ℕ)) → is_prefix a p ≡ true → length p ≤ length a → a ≡ p
 prefix-whole [] [] h l = refl
 prefix-whole [] (y ∷ p) h l = absurd (omega arith)
 prefix-whole (x ∷ a) [] h l = cc
 prefix-whole (x ∷ a) (y ∷ p) h l =
-    let parts = and-parts (bytes_eq x y) (is_prefix a p) h in
+    let parts = and_parts (bytes_eq x y) (is_prefix a p) h in
     let e : x ≡ y = (bytes_eq-Decides x y).0 parts.0 in
     let f : a ≡ p = prefix-whole a p parts.1 (omega arith) in cc
 
@@ -49,7 +49,7 @@ zone-short [] p f h = cc
 zone-short (e ∷ es) p f h = go (is_marked e.row && is_prefix e.path p) refl (zone_of es p) refl (zone-short es p) h
   where
     mine : (is_marked e.row && is_prefix e.path p) ≡ true → length e.path ≤ length p
-    mine t = prefix-length e.path p (and-parts (is_marked e.row) (is_prefix e.path p) t).1
+    mine t = prefix-length e.path p (and_parts (is_marked e.row) (is_prefix e.path p) t).1
 
     go : (t : Bool) → (is_marked e.row && is_prefix e.path p) ≡ t → (o : Option Entry) → zone_of es p ≡ o → ((g : Entry) → zone_of es p ≡ Some g → length g.path ≤ length p) → cond t (Some (longer e o)) o ≡ Some f → length f.path ≤ length p
     go true t None eo ih k = let g : e ≡ f = cc in subst (λ (x : Entry). length x.path ≤ length p) g (mine t)
@@ -106,7 +106,7 @@ zone-here ns (n ∷ order) p (suc k) r h e m = go (is_marked (node_at ns n).row 
         → cond t (Some (longer (entry_at ns n) (zone_of (rows_of ns order) p))) (zone_of (rows_of ns order) p) ≡ Some (entry_at ns (get_or order k 0))
     go false t ih = ih
     go true t ih =
-        let pre : is_prefix (path_of ns n) p ≡ true = (and-parts _ _ t).1 in
+        let pre : is_prefix (path_of ns n) p ≡ true = (and_parts _ _ t).1 in
         let bef : is_before (path_of ns n) p ≡ true = subst (λ (q : List (List ℕ)). is_before (path_of ns n) q ≡ true) e (rising-before ns n order k r.0 (omega arith)) in
         let b : nat_lt (length (path_of ns n)) (length (path_of ns (get_or order k 0))) ≡ true = lt-from (path_of ns n) p (path_of ns (get_or order k 0)) e pre bef in
         ap (λ (o : Option Entry). Some (longer (entry_at ns n) o)) ih ∙ ap (λ (u : Bool). Some (cond u (entry_at ns (get_or order k 0)) (entry_at ns n))) b

@@ -2,7 +2,7 @@
 use Rattle.std.proofs.Common.{◌≡◌, ◌≢◌, ℕ, ◌+◌, ◌<◌, ◌≤◌, Bool, true, false, not, cond, nat_lt, List, [], ◌∷◌, map, find, Option, None, Some, IfSome, refl, sym, ◌∙◌, ap, subst, arith, inl, inr}
 use Rattle.std.specs.Prelude.{option_and_then, slice_get}
 use Rattle.std.specs.List.{AllByRecursion}
-use Rattle.std.proofs.lemmas.Bool.{cases_eq, ltb-true}
+use Rattle.std.proofs.lemmas.Bool.{cases_eq, ltb-true, and_parts}
 use Rattle.std.proofs.lemmas.Bool.Decides.{Decides-eqb}
 use Rattle.std.proofs.lemmas.Option.{same_Some}
 use Rattle.hk_base.specs.declared.names.Dek.{Dek}
@@ -10,7 +10,7 @@ use Rattle.hk_base.specs.declared.names.VersionName.{VersionName}
 use Rattle.key_rows.specs.declared.rows.KeyCommand.{KeyCommand}
 use Rattle.key_rows.specs.declared.rows.KeyCommand.TheVariants.{Opened, Create, Roll, Delete}
 use Rattle.key_rows.specs.Sound.{Rising}
-use Rattle.key_rows.proofs.Births.{both, each_filter, each_more, found_has}
+use Rattle.key_rows.proofs.Births.{each_filter, each_more, found_has}
 use Rattle.key_index.specs.declared.cache.MaterialKey.{MaterialKey}
 use Rattle.key_index.specs.declared.rows.PlacedRow.{PlacedRow}
 use Rattle.key_index.specs.Index.{Index, Materials, after_at, applies_at, first_version, is_born, is_named, materials_after, may_roll_at, newest, older_place, place_of, rolled_at, rows_of, with_version}
@@ -69,7 +69,7 @@ module _ (m : Materials) (x : Index) (place : ℕ) (is : IsSound x) where
           born = omega (arith, says.above, cached.1.born);
         },
       )
-  one_after (Roll birth number material) may entry cached = cached_roll birth number material (both (nat_lt 0 x.opening) (may_roll_at (find (is_born birth) x.rows) number material) may).1 entry cached
+  one_after (Roll birth number material) may entry cached = cached_roll birth number material (and_parts (nat_lt 0 x.opening) (may_roll_at (find (is_born birth) x.rows) number material) may).1 entry cached
   one_after (Delete birth) may entry cached = (
     cached.0,
     record { older = each_filter (λ (placed : PlacedRow). placed.row.birth ≡ entry.0.birth → entry.0.number + 1 < placed.row.versions) (λ placed. not (is_born birth placed)) x.rows cached.1.older; born = cached.1.born },

@@ -4,12 +4,13 @@ use Rattle.std.specs.List.{AllByRecursion}
 use Rattle.std.specs.Option.{option_map_or}
 use Rattle.std.proofs.lemmas.List.{length-map}
 use Rattle.std.proofs.lemmas.Bool.Decides.{Decides-eqb}
+use Rattle.std.proofs.lemmas.Bool.{and_parts}
 use Rattle.key_rows.specs.declared.rows.KeyRow.{KeyRow}
 use Rattle.key_rows.specs.declared.rows.KeyCommand.{KeyCommand}
 use Rattle.key_rows.specs.declared.rows.KeyCommand.TheVariants.{Opened, Create, Roll, Delete}
 use Rattle.key_rows.specs.Table.{applies, find_name, is_born as is_born_row, is_length, may_roll, opening_of}
 use Rattle.key_rows.specs.Sound.{Rising}
-use Rattle.key_rows.proofs.Births.{both, found_has, none_born}
+use Rattle.key_rows.proofs.Births.{found_has, none_born}
 use Rattle.key_index.specs.declared.rows.PlacedRow.{PlacedRow}
 use Rattle.key_index.specs.Index.{Index, Materials, applies_at, is_born, is_named, may_roll_at, newest, row_of, rows_of, table_of}
 use Rattle.key_index.specs.Sound.{IsPlacedRow, IsSound}
@@ -50,8 +51,8 @@ pub record RollsRow (placed : PlacedRow) (number : ℕ) (material : List ℕ) : 
 
 pub roll_says : (placed : PlacedRow) (number : ℕ) (material : List ℕ) → may_roll_at (Some placed) number material ≡ true → RollsRow placed number material
 roll_says placed number material may =
-    let a = both (number == placed.row.versions && nat_lt number 65535) (length material == placed.row.bits / 8) may in
-    let b = both (number == placed.row.versions) (nat_lt number 65535) a.0 in
+    let a = and_parts (number == placed.row.versions && nat_lt number 65535) (length material == placed.row.bits / 8) may in
+    let b = and_parts (number == placed.row.versions) (nat_lt number 65535) a.0 in
     record { count = sym ((Decides-eqb number placed.row.versions).0 b.0); below = grind (arith, b.1); long = (Decides-eqb (length material) (placed.row.bits / 8)).0 a.1 }
 
 pub not_born : (birth : ℕ) (placed : PlacedRow) → is_born birth placed ≡ false → placed.row.birth ≢ birth
@@ -88,5 +89,5 @@ pub fits_applying : (x : Index) (command : KeyCommand) → IsSound x → applies
 fits_applying x (Opened opening) is may = tt
 fits_applying x (Create birth name bits description created material) is may = tt
 fits_applying x (Roll birth number material) is may =
-    fits_rows nothing 0 birth number material x.rows x.greatest (is.births nothing) is.rows (both (nat_lt 0 x.opening) (may_roll_at (find (is_born birth) x.rows) number material) may).1
+    fits_rows nothing 0 birth number material x.rows x.greatest (is.births nothing) is.rows (and_parts (nat_lt 0 x.opening) (may_roll_at (find (is_born birth) x.rows) number material) may).1
 fits_applying x (Delete birth) is may = tt

@@ -5,10 +5,10 @@ use Rattle.std.specs.List.{AllByRecursion}
 use Rattle.std.specs.Option.{option_map_or}
 use Rattle.std.specs.Map.{lookup, lookup_entry, remove_entry}
 use Rattle.std.proofs.lemmas.Bool.Decides.{Decides-eqb}
+use Rattle.std.proofs.lemmas.Bool.{and_parts}
 use Rattle.hk_base.specs.declared.names.Dek.{Dek}
 use Rattle.lru.specs.LruCache.{LruCache, lru_cache, promoted, put_entries}
 use Rattle.lru.proofs.CallerLemmas.{Contains-put_entries}
-use Rattle.key_rows.proofs.Births.{both}
 use Rattle.key_index.specs.declared.cache.MaterialKey.{MaterialKey}
 use Rattle.key_index.specs.Cache.{AreCached, IsOf, IsOlder, is_key}
 use Rattle.key_index.specs.Index.{Index, Materials}
@@ -18,7 +18,7 @@ Entry = MaterialKey × Dek
 
 same_key : (a b : MaterialKey) → is_key a b ≡ true → b ≡ a
 same_key a b test =
-    let t = both (a.birth == b.birth) (a.number == b.number) test in
+    let t = and_parts (a.birth == b.birth) (a.number == b.number) test in
     let births : b.birth ≡ a.birth = sym ((Decides-eqb a.birth b.birth).0 t.0) in
     let numbers : b.number ≡ a.number = sym ((Decides-eqb a.number b.number).0 t.1) in
     λ i. record { birth = births i; number = numbers i }

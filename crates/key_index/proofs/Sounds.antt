@@ -4,12 +4,13 @@ use Rattle.std.specs.Prelude.{filter, bytes_eq}
 use Rattle.std.specs.List.{AllByRecursion}
 use Rattle.std.proofs.lemmas.List.{length-map}
 use Rattle.std.proofs.lemmas.Bool.Decides.{Decides-eqb}
+use Rattle.std.proofs.lemmas.Bool.{and_parts}
 use Rattle.key_rows.specs.declared.rows.KeyRow.{KeyRow}
 use Rattle.key_rows.specs.declared.by_name.NamedBirth.{NamedBirth}
 use Rattle.key_rows.specs.Table.{find_name, is_born as is_born_row, is_length, opening_of, rolled}
 use Rattle.key_rows.specs.Names.{IsIndex, InOrder, birth_in, names_of}
 use Rattle.key_rows.specs.Sound.{IsRow, IsTable, NamesOnce, Rising}
-use Rattle.key_rows.proofs.Births.{both, each_filter, each_more, found_has, length-filter_le, names_filter, names_more, other_names, rising_filter, rising_more}
+use Rattle.key_rows.proofs.Births.{each_filter, each_more, found_has, length-filter_le, names_filter, names_more, other_names, rising_filter, rising_more}
 use Rattle.key_rows.proofs.Orders.{absent_there, index_left, index_more, index_rolled}
 use Rattle.key_rows.proofs.Rolls.{names_rolled, rising_rolled}
 use Rattle.key_index.specs.declared.rows.IndexRow.{IndexRow}
@@ -51,12 +52,12 @@ pub record MayCreate (x : Index) (name : List ℕ) (birth bits : ℕ) (material 
 
 pub create_says : (x : Index) (name : List ℕ) (birth bits : ℕ) (material : List ℕ) → may_create_at x name birth bits material ≡ true → MayCreate x name birth bits material
 create_says x name birth bits material may =
-    let a = both (nat_lt 0 x.opening && is_none (find (is_named name) x.rows) && opening_of birth == x.opening && nat_lt x.greatest birth && nat_lt (length x.rows) 10000 && is_length bits) (length material == bits / 8) may in
-    let b = both (nat_lt 0 x.opening && is_none (find (is_named name) x.rows) && opening_of birth == x.opening && nat_lt x.greatest birth && nat_lt (length x.rows) 10000) (is_length bits) a.0 in
-    let c = both (nat_lt 0 x.opening && is_none (find (is_named name) x.rows) && opening_of birth == x.opening && nat_lt x.greatest birth) (nat_lt (length x.rows) 10000) b.0 in
-    let d = both (nat_lt 0 x.opening && is_none (find (is_named name) x.rows) && opening_of birth == x.opening) (nat_lt x.greatest birth) c.0 in
-    let e = both (nat_lt 0 x.opening && is_none (find (is_named name) x.rows)) (opening_of birth == x.opening) d.0 in
-    let f = both (nat_lt 0 x.opening) (is_none (find (is_named name) x.rows)) e.0 in
+    let a = and_parts (nat_lt 0 x.opening && is_none (find (is_named name) x.rows) && opening_of birth == x.opening && nat_lt x.greatest birth && nat_lt (length x.rows) 10000 && is_length bits) (length material == bits / 8) may in
+    let b = and_parts (nat_lt 0 x.opening && is_none (find (is_named name) x.rows) && opening_of birth == x.opening && nat_lt x.greatest birth && nat_lt (length x.rows) 10000) (is_length bits) a.0 in
+    let c = and_parts (nat_lt 0 x.opening && is_none (find (is_named name) x.rows) && opening_of birth == x.opening && nat_lt x.greatest birth) (nat_lt (length x.rows) 10000) b.0 in
+    let d = and_parts (nat_lt 0 x.opening && is_none (find (is_named name) x.rows) && opening_of birth == x.opening) (nat_lt x.greatest birth) c.0 in
+    let e = and_parts (nat_lt 0 x.opening && is_none (find (is_named name) x.rows)) (opening_of birth == x.opening) d.0 in
+    let f = and_parts (nat_lt 0 x.opening) (is_none (find (is_named name) x.rows)) e.0 in
     record {
       opened = grind (arith, f.0);
       absent = f.1;
@@ -159,7 +160,7 @@ module _ (x : Index) (birth number : ℕ) (material : List ℕ) (place : ℕ) (i
         few = omega (arith, length-map x.rows (rolled_at birth material place), is.few);
         births = λ m. rising_any (later m) m 0 (map (rolled_at birth material place) x.rows) x.greatest (subst (λ (rows : List KeyRow). Rising 0 rows x.greatest) (sym (rolls m)) (rising_rolled 0 birth material (rows_of m x.rows) x.greatest (is.births m)));
         names = λ m. names_any (later m) m (map (rolled_at birth material place) x.rows) (subst NamesOnce (sym (rolls m)) (names_rolled birth material (rows_of m x.rows) (is.names m)));
-        rows = rows_placed nothing 0 x.rows x.greatest (is.births nothing) (both (nat_lt 0 x.opening) (may_roll_at (find (is_born birth) x.rows) number material) may).1 is.rows;
+        rows = rows_placed nothing 0 x.rows x.greatest (is.births nothing) (and_parts (nat_lt 0 x.opening) (may_roll_at (find (is_born birth) x.rows) number material) may).1 is.rows;
       }
 
   pub named_roll : (entries : List NamedBirth) → AreNamed x.rows entries → AreNamed (map (rolled_at birth material place) x.rows) entries
@@ -167,7 +168,7 @@ module _ (x : Index) (birth number : ℕ) (material : List ℕ) (place : ℕ) (i
 
   -- a buffer for all places of the key
   pub roll_room : (capacity : ℕ) → number < capacity → IfSome (find (is_born birth) x.rows) (λ placed. length placed.places < capacity)
-  roll_room capacity room = go (find (is_born birth) x.rows) (both (nat_lt 0 x.opening) (may_roll_at (find (is_born birth) x.rows) number material) may).1 (found_has IsPlacedRow (is_born birth) x.rows is.rows)
+  roll_room capacity room = go (find (is_born birth) x.rows) (and_parts (nat_lt 0 x.opening) (may_roll_at (find (is_born birth) x.rows) number material) may).1 (found_has IsPlacedRow (is_born birth) x.rows is.rows)
     where
       go : (f : Option PlacedRow) → may_roll_at f number material ≡ true → IfSome f IsPlacedRow → IfSome f (λ placed. length placed.places < capacity)
       go None may good = tt

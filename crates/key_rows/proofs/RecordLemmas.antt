@@ -1,9 +1,9 @@
--- Records both ways: what is read has the encoding that was read, and each encoding is read back.
+-- Records and_parts ways: what is read has the encoding that was read, and each encoding is read back.
 use Rattle.std.proofs.Common.{◌≡◌, ℕ, ◌^◌, ◌<◌, ◌≤◌, ◌/◌, Bool, true, false, cond, eqb, ◌&&◌, ◌==◌, List, [], ◌∷◌, ◌++◌, length, Option, Some, None, Result, Ok, Err, refl, sym, ap, subst, ◌∙◌, arith, nat_lt, is_none}
 use Rattle.std.specs.Prelude.{IfOk}
 use Rattle.std.specs.Str.{is_utf8}
 use Rattle.std.specs.Int.{w16, w32, w64, to_be_bytes}
-use Rattle.std.proofs.lemmas.Bool.{eqb-true}
+use Rattle.std.proofs.lemmas.Bool.{eqb-true, and_parts}
 use Rattle.std.proofs.lemmas.List.{append-nil, nil_from_length}
 use Rattle.std.proofs.lemmas.Option.{cond_some, same_Some}
 use Rattle.std.proofs.lemmas.Str.{is_utf8-from_IsUtf8, IsUtf8-from_is_utf8}
@@ -14,7 +14,6 @@ use Rattle.key_rows.specs.declared.rows.KeyCommand.{KeyCommand}
 use Rattle.key_rows.specs.declared.rows.KeyCommand.TheVariants.{Opened, Create, Roll, Delete}
 use Rattle.key_rows.specs.Records.{name_field, text_field, spelling, fits, fits_bits, HasSpelling, CreateHasSpelling}
 use Rattle.key_rows.specs.Table.{Table, applies, find_name, opening_of, is_length}
-use Rattle.key_rows.proofs.Births.{both}
 use Rattle.key_rows.specs.Reading.{◌>>=◌, Gives, number_at, short_at, long_at, name_of, text_of, material_of, material_of_bits, last_number, opened_at, create_at, roll_at, delete_at, command_at}
 use Rattle.key_rows.proofs.FieldLemmas.{IsBytes, IsBytes-rest, bind_some, bind_is, wide16, wide32, wide64, number_takes, number_again, short_takes, short_again, long_takes, long_again}
 use Rattle.std.specs.Int.{Width}
@@ -218,8 +217,8 @@ was_none bytes (Err NoMemory) given e other has same = absurd cc
 pub applying_fits : (t : Table) (command : KeyCommand) → applies t command ≡ true → fits command ≡ true
 applying_fits t (Opened opening) may = refl
 applying_fits t (Create birth name bits description created material) may =
-    let g = both (nat_lt 0 t.opening && is_none (find_name t.rows name) && opening_of birth == t.opening && nat_lt t.greatest birth && nat_lt (length t.rows) 10000 && is_length bits) (length material == bits / 8) may in
-    let f = both (nat_lt 0 t.opening && is_none (find_name t.rows name) && opening_of birth == t.opening && nat_lt t.greatest birth && nat_lt (length t.rows) 10000) (is_length bits) g.0 in
+    let g = and_parts (nat_lt 0 t.opening && is_none (find_name t.rows name) && opening_of birth == t.opening && nat_lt t.greatest birth && nat_lt (length t.rows) 10000 && is_length bits) (length material == bits / 8) may in
+    let f = and_parts (nat_lt 0 t.opening && is_none (find_name t.rows name) && opening_of birth == t.opening && nat_lt t.greatest birth && nat_lt (length t.rows) 10000) (is_length bits) g.0 in
     ap (λ a. a && length material == bits / 8) f.1 ∙ g.1
 applying_fits t (Roll birth number material) may = refl
 applying_fits t (Delete birth) may = refl

@@ -2,10 +2,11 @@
 use Rattle.std.proofs.Common.{◌≡◌, ◌≢◌, ℕ, ◌/◌, ◌<◌, zero, suc, List, [], ◌∷◌, ◌++◌, length, map, get_or, set, Bool, true, false, ◌&&◌, cond, ◌==◌, nat_lt, Some, refl, ap, sym, ◌∙◌, subst, arith, length-append}
 use Rattle.std.specs.List.{AllByRecursion}
 use Rattle.std.proofs.lemmas.Bool.Decides.{Decides-eqb}
+use Rattle.std.proofs.lemmas.Bool.{and_parts}
 use Rattle.key_rows.specs.declared.rows.KeyRow.{KeyRow}
 use Rattle.key_rows.specs.Table.{is_born, with_material, rolled, find_birth, may_roll}
 use Rattle.key_rows.specs.Sound.{Rising, NamesOnce, IsRow}
-use Rattle.key_rows.proofs.Births.{both, each_more, none_born}
+use Rattle.key_rows.proofs.Births.{each_more, none_born}
 
 -- rows of other births are unchanged
 pub rolled_nowhere : (birth : ℕ) (material : List ℕ) (rows : List KeyRow) → AllByRecursion (λ (row : KeyRow). is_born birth row ≡ false) rows → map (rolled birth material) rows ≡ rows
@@ -70,8 +71,8 @@ names_rolled birth material (r ∷ rows) once = (
 -- the key that gains the material is still a key
 row_rolled : (row : KeyRow) (number : ℕ) (material : List ℕ) → may_roll (Some row) number material ≡ true → IsRow row → IsRow (with_material material row)
 row_rolled row number material may is =
-    let first = both (number == length row.materials && nat_lt number 65535) (length material == row.bits / 8) may in
-    let outer = both (number == length row.materials) (nat_lt number 65535) first.0 in
+    let first = and_parts (number == length row.materials && nat_lt number 65535) (length material == row.bits / 8) may in
+    let outer = and_parts (number == length row.materials) (nat_lt number 65535) first.0 in
     let number_is : number ≡ length row.materials = (Decides-eqb number (length row.materials)).0 outer.0 in
     let below : number < 65535 = grind (arith, outer.1) in
     let long : length material ≡ row.bits / 8 = (Decides-eqb (length material) (row.bits / 8)).0 first.1 in

@@ -3,22 +3,23 @@ use Rattle.std.proofs.Common.{◌≡◌, ℕ, ◌/◌, ◌<◌, ◌^◌, List, [
 use Rattle.std.specs.Option.{option_copied}
 use Rattle.std.proofs.Common.{Bor}
 use Rattle.std.proofs.lemmas.Bool.Decides.{Decides-eqb}
+use Rattle.std.proofs.lemmas.Bool.{and_parts}
 use Rattle.key_rows.specs.declared.rows.KeyRow.{KeyRow}
 use Rattle.key_rows.specs.declared.rows.KeyCommand.TheVariants.{Create, Roll, Delete}
 use Rattle.key_rows.specs.Table.{Table, applies, after, is_born, is_named, is_length, opening_of, find_name, find_birth, may_roll}
 use Rattle.key_rows.specs.Sound.{IsRow, IsTable}
-use Rattle.key_rows.proofs.Births.{both, each_more, each_filter, length-filter_le, found_has, rising_more, rising_filter, by_birth, other_names, names_more, names_filter}
+use Rattle.key_rows.proofs.Births.{each_more, each_filter, length-filter_le, found_has, rising_more, rising_filter, by_birth, other_names, names_more, names_filter}
 use Rattle.key_rows.proofs.Rolls.{rising_rolled, names_rolled, rows_rolled, length-rolled}
 
 pub sound_create : (t : Table) (birth : ℕ) (name : List ℕ) (bits : ℕ) (description : List ℕ) (created : ℕ) (material : List ℕ) → IsTable t
     → applies t (Create birth name bits description created material) ≡ true → IsTable (after t (Create birth name bits description created material))
 sound_create t birth name bits description created material is may =
-    let g = both (nat_lt 0 t.opening && is_none (find_name t.rows name) && opening_of birth == t.opening && nat_lt t.greatest birth && nat_lt (length t.rows) 10000 && is_length bits) (length material == bits / 8) may in
-    let f = both (nat_lt 0 t.opening && is_none (find_name t.rows name) && opening_of birth == t.opening && nat_lt t.greatest birth && nat_lt (length t.rows) 10000) (is_length bits) g.0 in
-    let e = both (nat_lt 0 t.opening && is_none (find_name t.rows name) && opening_of birth == t.opening && nat_lt t.greatest birth) (nat_lt (length t.rows) 10000) f.0 in
-    let d = both (nat_lt 0 t.opening && is_none (find_name t.rows name) && opening_of birth == t.opening) (nat_lt t.greatest birth) e.0 in
-    let c = both (nat_lt 0 t.opening && is_none (find_name t.rows name)) (opening_of birth == t.opening) d.0 in
-    let b = both (nat_lt 0 t.opening) (is_none (find_name t.rows name)) c.0 in
+    let g = and_parts (nat_lt 0 t.opening && is_none (find_name t.rows name) && opening_of birth == t.opening && nat_lt t.greatest birth && nat_lt (length t.rows) 10000 && is_length bits) (length material == bits / 8) may in
+    let f = and_parts (nat_lt 0 t.opening && is_none (find_name t.rows name) && opening_of birth == t.opening && nat_lt t.greatest birth && nat_lt (length t.rows) 10000) (is_length bits) g.0 in
+    let e = and_parts (nat_lt 0 t.opening && is_none (find_name t.rows name) && opening_of birth == t.opening && nat_lt t.greatest birth) (nat_lt (length t.rows) 10000) f.0 in
+    let d = and_parts (nat_lt 0 t.opening && is_none (find_name t.rows name) && opening_of birth == t.opening) (nat_lt t.greatest birth) e.0 in
+    let c = and_parts (nat_lt 0 t.opening && is_none (find_name t.rows name)) (opening_of birth == t.opening) d.0 in
+    let b = and_parts (nat_lt 0 t.opening) (is_none (find_name t.rows name)) c.0 in
     let long : length material ≡ bits / 8 = (Decides-eqb (length material) (bits / 8)).0 g.1 in
     let few : length t.rows < 10000 = grind (arith, e.1) in
     let above : t.greatest < birth = grind (arith, d.1) in
@@ -36,16 +37,16 @@ sound_create t birth name bits description created material is may =
 -- no key has the name that is created
 pub is_absent : (t : Table) (birth : ℕ) (name : List ℕ) (bits : ℕ) (description : List ℕ) (created : ℕ) (material : List ℕ) → applies t (Create birth name bits description created material) ≡ true → is_none (find_name t.rows name) ≡ true
 is_absent t birth name bits description created material may =
-    let g = both (nat_lt 0 t.opening && is_none (find_name t.rows name) && opening_of birth == t.opening && nat_lt t.greatest birth && nat_lt (length t.rows) 10000 && is_length bits) (length material == bits / 8) may in
-    let f = both (nat_lt 0 t.opening && is_none (find_name t.rows name) && opening_of birth == t.opening && nat_lt t.greatest birth && nat_lt (length t.rows) 10000) (is_length bits) g.0 in
-    let e = both (nat_lt 0 t.opening && is_none (find_name t.rows name) && opening_of birth == t.opening && nat_lt t.greatest birth) (nat_lt (length t.rows) 10000) f.0 in
-    let d = both (nat_lt 0 t.opening && is_none (find_name t.rows name) && opening_of birth == t.opening) (nat_lt t.greatest birth) e.0 in
-    let c = both (nat_lt 0 t.opening && is_none (find_name t.rows name)) (opening_of birth == t.opening) d.0 in
-    (both (nat_lt 0 t.opening) (is_none (find_name t.rows name)) c.0).1
+    let g = and_parts (nat_lt 0 t.opening && is_none (find_name t.rows name) && opening_of birth == t.opening && nat_lt t.greatest birth && nat_lt (length t.rows) 10000 && is_length bits) (length material == bits / 8) may in
+    let f = and_parts (nat_lt 0 t.opening && is_none (find_name t.rows name) && opening_of birth == t.opening && nat_lt t.greatest birth && nat_lt (length t.rows) 10000) (is_length bits) g.0 in
+    let e = and_parts (nat_lt 0 t.opening && is_none (find_name t.rows name) && opening_of birth == t.opening && nat_lt t.greatest birth) (nat_lt (length t.rows) 10000) f.0 in
+    let d = and_parts (nat_lt 0 t.opening && is_none (find_name t.rows name) && opening_of birth == t.opening) (nat_lt t.greatest birth) e.0 in
+    let c = and_parts (nat_lt 0 t.opening && is_none (find_name t.rows name)) (opening_of birth == t.opening) d.0 in
+    (and_parts (nat_lt 0 t.opening) (is_none (find_name t.rows name)) c.0).1
 
 pub sound_roll : (t : Table) (birth number : ℕ) (material : List ℕ) → IsTable t → applies t (Roll birth number material) ≡ true → IsTable (after t (Roll birth number material))
 sound_roll t birth number material is may =
-    let a = both (nat_lt 0 t.opening) (may_roll (find_birth t.rows birth) number material) may in
+    let a = and_parts (nat_lt 0 t.opening) (may_roll (find_birth t.rows birth) number material) may in
     record {
       opening = is.opening;
       few = omega (arith, length-rolled birth material t.rows, is.few);

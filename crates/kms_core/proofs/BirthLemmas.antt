@@ -2,6 +2,7 @@
 use Rattle.std.specs.Prelude.{⊤, ◌&&◌, length, nat_lt}
 use Rattle.std.proofs.lemmas.Bool.Decides.{nat_tests}
 use Rattle.std.proofs.Common.{◌≡◌, ℕ, ◌+◌, ◌*◌, ◌^◌, ◌/◌, ◌<◌, ◌≤◌, ◌⊎◌, inl, inr, List, [], ◌∷◌, ◌++◌, map, find, filter, Bool, true, false, not, ◌==◌, cond, Option, None, Some, is_none, IfSome, refl, ap, sym, ◌∙◌, subst, arith}
+use Rattle.std.proofs.lemmas.Bool.{and_parts}
 use Rattle.hk_base.specs.Faults.{Rose}
 use Rattle.key_rows.specs.declared.rows.KeyRow.{KeyRow}
 use Rattle.kms_calls.specs.declared.calls.KmsCall.{KmsCall}
@@ -14,7 +15,7 @@ use Rattle.key_rows.specs.declared.rows.KeyCommand.{KeyCommand}
 use Rattle.key_rows.specs.declared.rows.KeyCommand.TheVariants.{Opened, Create, Roll, Delete}
 use Rattle.key_rows.specs.Table.{Table, after, applies, find_birth, find_name, is_born, is_length, is_named, opening_of, rolled, with_material}
 use Rattle.key_rows.specs.Sound.{Rising}
-use Rattle.key_rows.proofs.Births.{both, other_number}
+use Rattle.key_rows.proofs.Births.{other_number}
 use Rattle.key_rows.proofs.TableLemmas.{sound_create, sound_roll, sound_delete}
 use Rattle.kms_store.specs.Store.{settled_commands, settled_table}
 use Rattle.kms_core.specs.State.{IsPending, IsService, KmsState, ServiceState, next_birth, settled, took}
@@ -90,10 +91,10 @@ gone_after t (Delete gone_too) birth new gone = record { used = gone.used; absen
 pub new_birth : (t : Table) (command : KeyCommand) → applies t command ≡ true → IsNew t command
 new_birth t (Opened opening) may = tt
 new_birth t (Create birth name bits description created material) may =
-    let a = both (nat_lt 0 t.opening && is_none (find_name t.rows name) && opening_of birth == t.opening && nat_lt t.greatest birth && nat_lt (length t.rows) 10000 && is_length bits) (length material == bits / 8) may in
-    let b = both (nat_lt 0 t.opening && is_none (find_name t.rows name) && opening_of birth == t.opening && nat_lt t.greatest birth && nat_lt (length t.rows) 10000) (is_length bits) a.0 in
-    let c = both (nat_lt 0 t.opening && is_none (find_name t.rows name) && opening_of birth == t.opening && nat_lt t.greatest birth) (nat_lt (length t.rows) 10000) b.0 in
-    let d = both (nat_lt 0 t.opening && is_none (find_name t.rows name) && opening_of birth == t.opening) (nat_lt t.greatest birth) c.0 in
+    let a = and_parts (nat_lt 0 t.opening && is_none (find_name t.rows name) && opening_of birth == t.opening && nat_lt t.greatest birth && nat_lt (length t.rows) 10000 && is_length bits) (length material == bits / 8) may in
+    let b = and_parts (nat_lt 0 t.opening && is_none (find_name t.rows name) && opening_of birth == t.opening && nat_lt t.greatest birth && nat_lt (length t.rows) 10000) (is_length bits) a.0 in
+    let c = and_parts (nat_lt 0 t.opening && is_none (find_name t.rows name) && opening_of birth == t.opening && nat_lt t.greatest birth) (nat_lt (length t.rows) 10000) b.0 in
+    let d = and_parts (nat_lt 0 t.opening && is_none (find_name t.rows name) && opening_of birth == t.opening) (nat_lt t.greatest birth) c.0 in
     let is = d.1 in grind (arith, nat_tests, is)
 new_birth t (Roll birth number material) may = tt
 new_birth t (Delete birth) may = tt

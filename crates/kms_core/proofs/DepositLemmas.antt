@@ -1,15 +1,16 @@
 -- Tickets, and deposits of ready keys.
 use Rattle.std.proofs.Common.{◌≡◌, ℕ, ◌-◌, List, [], ◌∷◌, ◌++◌, length, Bool, true, false, ◌&&◌, ◌==◌, cond, Option, None, Some, is_none, Result, Ok, Err, refl, ap, sym, ◌∙◌, subst}
 use Rattle.std.specs.Prelude.{IfOk, IfSome, OnErr, option_map, unwrap_or}
+use Rattle.std.proofs.lemmas.Bool.{eqb-true, eq-eqb, and_parts}
 use Rattle.hk_base.specs.declared.names.Edek.{Edek}
 use Rattle.hk_base.specs.declared.texts.NoMemory.{NoMemory}
 use Rattle.eek_seal.specs.Tickets.{SealedKey}
 use Rattle.eek_queues.specs.Queues.{AllQueues, Queue, has_queue, ready_in}
-use Rattle.eek_queues.proofs.Births.{is-same, other-is, same-is}
+use Rattle.eek_queues.proofs.Births.{other-is}
 use Rattle.key_rows.specs.declared.rows.KeyRow.{KeyRow}
 use Rattle.key_rows.specs.Table.{current_of, find_birth, is_named}
 use Rattle.key_rows.specs.Sound.{IsTable, Rising}
-use Rattle.key_rows.proofs.Births.{both, by_birth, each_more}
+use Rattle.key_rows.proofs.Births.{by_birth, each_more}
 use Rattle.kms_core.specs.declared.drawing.CurrentVersion.{CurrentVersion}
 use Rattle.eek_seal.specs.declared.deposit.Deposit.TheVariants.{Full, Kept}
 use Rattle.kms_core.specs.State.{AllReady, Keeps, KmsState, ServiceState, emptied}
@@ -46,7 +47,7 @@ queue_stands rows [] birth all has = absurd cc
 queue_stands rows (q ∷ qs) birth all has =
     let P : Bool → Type 0 = λ b. (q.birth == birth) ≡ b → cond b true (has_queue qs birth) ≡ true → (row : KeyRow) × (find_birth rows birth ≡ Some row) in
     let cases : P (q.birth == birth) = elim (q.birth == birth) as P [
-      | true ↦ λ is h. (all.0.0, ap (find_birth rows) (sym (is-same q.birth birth is)) ∙ all.0.1)
+      | true ↦ λ is h. (all.0.0, ap (find_birth rows) (sym (eqb-true q.birth birth is)) ∙ all.0.1)
       | false ↦ λ is h. queue_stands rows qs birth all.1 h
     ] in
     cases refl has
@@ -63,11 +64,11 @@ ticket_is s birth row current low found is =
 
 pub present_key : (s : KmsState) (x : SealedKey) (row : KeyRow) → row_of s x.version.key ≡ Some row → find_birth s.table.rows row.birth ≡ Some row → is_present s x ≡ true → IsOfNewest s x
 present_key s x row found born present =
-    let of_key : is_of_key (Some row) x ≡ true = ap (λ o. is_of_key o x) (sym found) ∙ (both (is_of_key (row_of s x.version.key) x) (x.opening == s.table.opening) present).0 in
-    let parts = both (x.birth == row.birth) (x.version.number == length row.materials - 1) of_key in
+    let of_key : is_of_key (Some row) x ≡ true = ap (λ o. is_of_key o x) (sym found) ∙ (and_parts (is_of_key (row_of s x.version.key) x) (x.opening == s.table.opening) present).0 in
+    let parts = and_parts (x.birth == row.birth) (x.version.number == length row.materials - 1) of_key in
     let key : x.version.key ≡ row.name = sym (named s.table.rows x.version.key row found) in
-    let number : x.version.number ≡ length row.materials - 1 = is-same x.version.number (length row.materials - 1) parts.1 in
-    record { row = row; found = ap (find_birth s.table.rows) (is-same x.birth row.birth parts.0) ∙ born; version = λ i. record { key = key i; number = number i } }
+    let number : x.version.number ≡ length row.materials - 1 = eqb-true x.version.number (length row.materials - 1) parts.1 in
+    record { row = row; found = ap (find_birth s.table.rows) (eqb-true x.birth row.birth parts.0) ∙ born; version = λ i. record { key = key i; number = number i } }
 
 pub newest_of : (s : KmsState) (x : SealedKey) → Rising 0 s.table.rows s.table.greatest → is_present s x ≡ true → IsOfNewest s x
 newest_of s x rising present = go (row_of s x.version.key) refl (by_birth 0 (is_named x.version.key) s.table.rows s.table.greatest rising)
@@ -100,7 +101,7 @@ filled_in : (all : AllQueues) (birth : ℕ) (b : Bool) → has_queue all.queues 
 filled_in all birth b has = ap (λ c. cond c (length (ready_in all.queues birth) == all.size) true) has
 
 pub answers_full : (s : KmsState) (x : SealedKey) → is_present s x ≡ true → has_queue s.ready.queues x.birth ≡ true → length (ready_in s.ready.queues x.birth) ≡ s.ready.size → Full ≡ deposit_answer s x
-answers_full s x present has full = answers_filled s x true present (filled_in s.ready x.birth true has ∙ same-is (length (ready_in s.ready.queues x.birth)) s.ready.size full)
+answers_full s x present has full = answers_filled s x true present (filled_in s.ready x.birth true has ∙ eq-eqb (length (ready_in s.ready.queues x.birth)) s.ready.size full)
 
 pub answers_kept : (s : KmsState) (x : SealedKey) → is_present s x ≡ true → has_queue s.ready.queues x.birth ≡ true → (length (ready_in s.ready.queues x.birth) ≡ s.ready.size → ⊥) → Kept ≡ deposit_answer s x
 answers_kept s x present has room = answers_filled s x false present (filled_in s.ready x.birth true has ∙ other-is (length (ready_in s.ready.queues x.birth)) s.ready.size room)

@@ -2,9 +2,9 @@
 use Rattle.std.proofs.Common.{◌≡◌, ℕ, zero, suc, ◌+◌, List, [], ◌∷◌, ◌++◌, length, take, drop, map, find, filter, Bool, true, false, not, ◌==◌, cond, Option, None, Some, Result, Ok, Err, refl, ap, sym, ◌∙◌, subst, arith, add-one}
 use Rattle.std.specs.Prelude.{OnErr, nat_lt, slice_get, option_map}
 use Rattle.std.specs.List.{AllByRecursion}
+use Rattle.std.proofs.lemmas.Bool.{eqb-true}
 use Rattle.hk_base.specs.declared.names.Edek.{Edek}
 use Rattle.eek_queues.specs.Queues.{AllQueues, Queue, dropped, has_queue, put_queue, ready_in, set_ready}
-use Rattle.eek_queues.proofs.Births.{is-same}
 use Rattle.eek_queues.proofs.Put.{all-put}
 use Rattle.key_rows.specs.declared.rows.KeyRow.{KeyRow}
 use Rattle.key_rows.specs.declared.rows.KeyCommand.{KeyCommand}
@@ -52,7 +52,7 @@ ready_are rows (q ∷ qs) birth row all found = go (q.birth == birth) refl (read
   where
     go : (b : Bool) → (q.birth == birth) ≡ b → AllOf row (ready_in qs birth) → AllOf row (cond b q.ready (ready_in qs birth))
     go true is rest =
-        let same : Some all.0.0 ≡ Some row = sym all.0.1 ∙ ap (λ n. find_birth rows n) (is-same q.birth birth is) ∙ found in
+        let same : Some all.0.0 ≡ Some row = sym all.0.1 ∙ ap (λ n. find_birth rows n) (eqb-true q.birth birth is) ∙ found in
         let row_is : all.0.0 ≡ row = cc in
         subst (λ (r : KeyRow). AllOf r q.ready) row_is all.0.2
     go false is rest = rest
@@ -63,7 +63,7 @@ all_set rows (q ∷ qs) birth ready all each = (go (q.birth == birth) refl, all_
   where
     go : (b : Bool) → (q.birth == birth) ≡ b → IsReadyFor rows (cond b (record { birth = birth; ready = ready }) q)
     go true is =
-        let found : find_birth rows birth ≡ Some all.0.0 = ap (λ n. find_birth rows n) (sym (is-same q.birth birth is)) ∙ all.0.1 in
+        let found : find_birth rows birth ≡ Some all.0.0 = ap (λ n. find_birth rows n) (sym (eqb-true q.birth birth is)) ∙ all.0.1 in
         (all.0.0, found, each all.0.0 found)
     go false is = all.0
 
@@ -126,7 +126,7 @@ find_rolled birth material (row ∷ rows) b =
 
 -- the birth of a row that is found
 found_born : (rows : List KeyRow) (birth : ℕ) (row : KeyRow) → find_birth rows birth ≡ Some row → row.birth ≡ birth
-found_born rows birth row found = is-same row.birth birth (found_passes (is_born birth) rows row found)
+found_born rows birth row found = eqb-true row.birth birth (found_passes (is_born birth) rows row found)
 
 pub all_rolled : (rows : List KeyRow) (qs : List Queue) (birth : ℕ) (material : List ℕ) → AllReady rows qs → AllReady (map (rolled birth material) rows) (set_ready qs birth [])
 all_rolled rows [] birth material all = tt
@@ -136,7 +136,7 @@ all_rolled rows (q ∷ qs) birth material all = (go (q.birth == birth) refl, all
     found = find_rolled birth material rows q.birth ∙ ap (option_map (rolled birth material)) all.0.1
 
     go : (b : Bool) → (q.birth == birth) ≡ b → IsReadyFor (map (rolled birth material) rows) (cond b (record { birth = birth; ready = [] }) q)
-    go true is = (rolled birth material all.0.0, ap (λ n. find_birth (map (rolled birth material) rows) n) (sym (is-same q.birth birth is)) ∙ found, tt)
+    go true is = (rolled birth material all.0.0, ap (λ n. find_birth (map (rolled birth material) rows) n) (sym (eqb-true q.birth birth is)) ∙ found, tt)
     go false is =
         let other : is_born birth all.0.0 ≡ false = ap (λ n. n == birth) (found_born rows q.birth all.0.0 all.0.1) ∙ is in
         let same : rolled birth material all.0.0 ≡ all.0.0 = ap (λ b. cond b (with_material material all.0.0) all.0.0) other in

@@ -4,16 +4,17 @@ use Rattle.std.specs.Prelude.{IfSome, option_map, unwrap_or}
 use Rattle.std.specs.List.{AllByRecursion}
 use Rattle.std.specs.Str.{bytes_eq}
 use Rattle.std.proofs.lemmas.Slice.Eq.{bytes_eq-Decides}
+use Rattle.std.proofs.lemmas.Bool.{eqb-true, and_parts}
 use Rattle.eek_seal.specs.Seal.{unseal}
 use Rattle.eek_seal.specs.Tickets.{SealedKey}
 use Rattle.eek_seal.specs.declared.tickets.Ticket.{Ticket}
 use Rattle.eek_seal.proofs.SealLemmas.{unseal-seal}
 use Rattle.eek_queues.specs.Queues.{Queue, has_queue, is_lower, limit, lower_of, lowest, ready_in}
-use Rattle.eek_queues.proofs.Births.{is-same, ready-set}
+use Rattle.eek_queues.proofs.Births.{ready-set}
 use Rattle.key_rows.specs.declared.rows.KeyRow.{KeyRow}
 use Rattle.key_rows.specs.Sound.{NamesOnce}
 use Rattle.key_rows.specs.Table.{current_of, find_birth, find_name, is_born, material_of}
-use Rattle.key_rows.proofs.Births.{both, found_has}
+use Rattle.key_rows.proofs.Births.{found_has}
 use Rattle.eek_seal.specs.declared.deposit.Deposit.{Deposit}
 use Rattle.eek_seal.specs.declared.deposit.Deposit.TheVariants.{Full, Kept}
 use Rattle.kms_core.specs.State.{IsReadyFor, KmsState}
@@ -49,10 +50,10 @@ present_stands s x present = go (row_of s x.version.key) present
 
 present_version : (s : KmsState) (x : SealedKey) (row : KeyRow) → row_of s x.version.key ≡ Some row → is_present s x ≡ true → x.version ≡ current_of row
 present_version s x row found present =
-    let of_key : is_of_key (Some row) x ≡ true = ap (λ o. is_of_key o x) (sym found) ∙ (both (is_of_key (row_of s x.version.key) x) (x.opening == s.table.opening) present).0 in
-    let parts = both (x.birth == row.birth) (x.version.number == length row.materials - 1) of_key in
+    let of_key : is_of_key (Some row) x ≡ true = ap (λ o. is_of_key o x) (sym found) ∙ (and_parts (is_of_key (row_of s x.version.key) x) (x.opening == s.table.opening) present).0 in
+    let parts = and_parts (x.birth == row.birth) (x.version.number == length row.materials - 1) of_key in
     let key : x.version.key ≡ row.name = sym (named s.table.rows x.version.key row found) in
-    let number : x.version.number ≡ length row.materials - 1 = is-same x.version.number (length row.materials - 1) parts.1 in
+    let number : x.version.number ≡ length row.materials - 1 = eqb-true x.version.number (length row.materials - 1) parts.1 in
     λ i. record { key = key i; number = number i }
 
 pub deposit_opens : DepositOpens

@@ -1,10 +1,11 @@
 -- Data encryption keys that are re-encrypted.
-use Rattle.std.proofs.Common.{◌≡◌, ℕ, zero, suc, List, [], ◌∷◌, length, map, Bool, true, false, ◌&&◌, ◌==◌, cond, Option, None, Some, refl, ap, sym, ◌∙◌, subst}
+use Rattle.std.proofs.Common.{◌≡◌, ℕ, zero, suc, List, [], ◌∷◌, length, map, Bool, true, false, ◌==◌, cond, Option, None, Some, refl, ap, sym, ◌∙◌, subst}
 use Rattle.std.specs.List.{list_any, slice_get}
 use Rattle.std.specs.Option.{option_map, unwrap_or}
 use Rattle.std.specs.Str.{bytes_eq}
 use Rattle.std.proofs.lemmas.Bool.Decides.{Decides-eqb}
 use Rattle.std.proofs.lemmas.Slice.Eq.{bytes_eq-Decides}
+use Rattle.std.proofs.lemmas.Bool.{and_parts, or_parts}
 use Rattle.hk_base.specs.declared.names.Edek.{Edek}
 use Rattle.hk_base.specs.declared.names.VersionName.{VersionName}
 use Rattle.eek_seal.specs.Seal.{seal, unseal}
@@ -24,7 +25,7 @@ use Rattle.kms_core.specs.Calls.{CallActs, Plain, NoRoom, Ending, outcome, accep
 use Rattle.kms_core.specs.Laws.{BatchOpens, ReencryptedOpens, SameKey}
 use Rattle.kms_core.proofs.KeyLemmas.{sent_allowed}
 use Rattle.kms_core.proofs.LawLemmas.{Standing_key, standing_key, opens_to}
-use Rattle.kms_core.proofs.SentLemmas.{batch_has, neither, sent_has}
+use Rattle.kms_core.proofs.SentLemmas.{batch_has, sent_has}
 
 -- the reply of a call that only answers, if it is not refused
 record Told (s : KmsState) (c : KmsCall) (answer result : KmsReply) (s' : KmsState) : Type 0 where
@@ -46,13 +47,9 @@ has_answered s words now c answer result s' words' deed_is let_go acts = by_end 
     by_end Plain is = by_cause (first_cause (causes s c)) refl is
     by_end (NoRoom some) is = absurd (let_go refusal.NoMemory (ap (λ o. o.reply) is))
 
-both : (a b : Bool) → (a && b) ≡ true → (a ≡ true) × (b ≡ true)
-both true b h = (refl, h)
-both false b h = absurd cc
-
 same_version_is : (version other : VersionName) → same_version version other ≡ true → version ≡ other
 same_version_is version other same =
-    let parts = both (bytes_eq version.key other.key) (version.number == other.number) same in
+    let parts = and_parts (bytes_eq version.key other.key) (version.number == other.number) same in
     let key : version.key ≡ other.key = (bytes_eq-Decides version.key other.key).0 parts.0 in
     let number : version.number ≡ other.number = (Decides-eqb version.number other.number).0 parts.1 in
     λ i. record { key = key i; number = number i }
@@ -104,8 +101,8 @@ reencrypted_opens s words now name sent key s' words' is acts =
 
 neither_at : {X : Type 0} (p : X → Bool) (xs : List X) (i : ℕ) (x : X) → list_any p xs ≡ false → slice_get xs i ≡ Some x → p x ≡ false
 neither_at p [] i x none at = absurd cc
-neither_at p (y ∷ ys) zero x none at = let same : y ≡ x = cc in ap p (sym same) ∙ (neither (p y) (list_any p ys) none).0
-neither_at p (y ∷ ys) (suc i) x none at = neither_at p ys i x (neither (p y) (list_any p ys) none).1 at
+neither_at p (y ∷ ys) zero x none at = let same : y ≡ x = cc in ap p (sym same) ∙ (or_parts (p y) (list_any p ys) none).0
+neither_at p (y ∷ ys) (suc i) x none at = neither_at p ys i x (or_parts (p y) (list_any p ys) none).1 at
 
 one_allowed : (row : Option KeyRow) (name : List ℕ) (sent : List RawEdek) (i : ℕ) (one : RawEdek) → first_cause (batch_causes row name sent) ≡ None → slice_get sent i ≡ Some one
     → first_cause (sent_causes row name one) ≡ None

@@ -1,11 +1,12 @@
 -- Sent keys, at their key and in the service.
-use Rattle.std.proofs.Common.{◌≡◌, ℕ, zero, suc, ◌+◌, ◌-◌, ◌<◌, List, [], ◌∷◌, ◌++◌, length, map, take, Bool, true, false, not, ◌||◌, cond, nat_lt, nat_le, Option, None, Some, is_none, refl, ap, sym, ◌∙◌, subst, arith, get_or}
+use Rattle.std.proofs.Common.{◌≡◌, ℕ, zero, suc, ◌+◌, ◌-◌, ◌<◌, List, [], ◌∷◌, ◌++◌, length, map, take, Bool, true, false, not, cond, nat_lt, nat_le, Option, None, Some, is_none, refl, ap, sym, ◌∙◌, subst, arith, get_or}
 use Rattle.std.specs.List.{list_any, slice_get}
 use Rattle.std.specs.Option.{option_and_then, option_map, unwrap_or}
 use Rattle.std.specs.Str.{bytes_eq}
 use Rattle.std.proofs.lemmas.Bool.Decides.{nat_tests}
 use Rattle.std.proofs.lemmas.List.{take_more}
 use Rattle.std.proofs.lemmas.Option.{slice_get-get_or}
+use Rattle.std.proofs.lemmas.Bool.{not-false, or_parts}
 use Rattle.hk_base.specs.declared.names.Edek.{Edek}
 use Rattle.eek_seal.specs.Seal.{seal, unseal}
 use Rattle.key_rows.specs.declared.rows.KeyRow.{KeyRow}
@@ -40,10 +41,6 @@ sent_has row name sent none =
     let three = none_stands (is_of_other_key name sent) refusal.WrongKey malformed two.1 in
     record { stands = one.0; has = two.0; its = three.0 }
 
-not_false : (b : Bool) → not b ≡ false → b ≡ true
-not_false true e = refl
-not_false false e = absurd cc
-
 -- its version exists
 pub sent_version : (row : KeyRow) (sent : RawEdek) → Allowed row sent
     → (bytes_eq sent.version.key row.name ≡ true) × (slice_get row.materials sent.version.number ≡ Some (unwrap_or (slice_get row.materials sent.version.number) []))
@@ -52,7 +49,7 @@ sent_version row sent allowed =
     let below : nat_le (length row.materials) sent.version.number ≡ false = has.has in
     let within : sent.version.number < length row.materials = grind (arith, nat_tests, below) in
     let got = slice_get-get_or row.materials sent.version.number [] within in
-    (not_false (bytes_eq sent.version.key row.name) has.its, got ∙ ap (λ o. Some (unwrap_or o [])) (sym got))
+    (not-false (bytes_eq sent.version.key row.name) has.its, got ∙ ap (λ o. Some (unwrap_or o [])) (sym got))
 
 -- the causes at the key are those of the call
 pub same_cause : (s : KmsState) (name : List ℕ) (row : KeyRow) (sent : RawEdek) → row_of s name ≡ Some row
@@ -94,10 +91,6 @@ resealed_is s name row sent found allowed =
 
 -- keys sent together
 
-pub neither : (a b : Bool) → (a || b) ≡ false → (a ≡ false) × (b ≡ false)
-neither true b e = absurd cc
-neither false b e = (refl, e)
-
 pub record BatchHas (row : Option KeyRow) (name : List ℕ) (sent : List RawEdek) : Type 0 where
   pub stands : is_none row ≡ false
   pub has : list_any (lacks_version row) sent ≡ false
@@ -118,8 +111,8 @@ batch_has row name sent none =
 
 pub each_none : {X : Type 0} (p : X → Bool) (xs : List X) (i : ℕ) (d : X) → list_any p xs ≡ false → i < length xs → p (get_or xs i d) ≡ false
 each_none p [] i d none within = absurd (omega arith)
-each_none p (x ∷ xs) zero d none within = (neither (p x) (list_any p xs) none).0
-each_none p (x ∷ xs) (suc i) d none within = each_none p xs i d (neither (p x) (list_any p xs) none).1 (omega arith)
+each_none p (x ∷ xs) zero d none within = (or_parts (p x) (list_any p xs) none).0
+each_none p (x ∷ xs) (suc i) d none within = each_none p xs i d (or_parts (p x) (list_any p xs) none).1 (omega arith)
 
 -- none of them is refused
 pub each_allowed : (row : KeyRow) (sent : List RawEdek) (i : ℕ) (d : RawEdek) → first_cause (batch_causes (Some row) row.name sent) ≡ None → i < length sent

@@ -11,6 +11,7 @@ use Rattle.kms_calls.specs.declared.calls.KmsReply.TheVariants.{Done, Refused, R
 use Rattle.eek_queues.specs.Queues.{AllQueues, ready_in}
 use Rattle.hk_base.specs.declared.names.Edek.{Edek}
 use Rattle.std.specs.Option.{unwrap_or}
+use Rattle.std.proofs.lemmas.Bool.{and_from}
 use Rattle.kms_core.specs.declared.drawing.CurrentVersion.{CurrentVersion}
 use Rattle.kms_calls.specs.declared.calls.KmsCall.TheVariants as call
 use Rattle.kms_calls.specs.declared.calls.KmsRefusal.TheVariants.{NoSuchKey, BadMaterial, TooManyVersions, TooManyAsked, NoMemory}
@@ -20,11 +21,8 @@ use Rattle.kms_core.specs.Calls.{CallActs, Plain, NoRoom, takes_memory, causes, 
 use Rattle.kms_core.specs.Draws.{drawn_edeks, place_of_draw}
 use Rattle.kms_core.specs.Steps.{Answers, Drew, DrewSome, Enacts, HandsOut, IsCurrent, StandsSo}
 
-both_hold : (a b : Bool) → a ≡ true → b ≡ true → (a && b) ≡ true
-both_hold a b h g = ap (λ x. x && b) h ∙ g
-
 all_three : (a b c : Bool) → a ≡ true → b ≡ true → c ≡ true → (a && b && c) ≡ true
-all_three a b c f g h = both_hold (a && b) c (both_hold a b f g) h
+all_three a b c f g h = and_from (a && b) c (and_from a b f g) h
 
 -- a call is refused if a cause is true
 pub refuses : (s : KmsState) (words : ℕ → ℕ) (now : ℕ) (c : KmsCall) (why : KmsRefusal) (result : KmsReply) (s' : KmsState) (words' : ℕ → ℕ)
@@ -61,7 +59,7 @@ may_get (Some row) number bits material stands bits_is versions_is room long =
 pub can_roll : (s : KmsState) (name : List ℕ) (key : Standing) (material : List ℕ) → 0 < s.table.opening → StandsSo s name key → key.versions < 65535 → length material ≡ key.bits / 8
     → applies s.table (Roll key.birth key.versions material) ≡ true
 can_roll s name key material opened so room long =
-    both_hold (nat_lt 0 s.table.opening) (may_roll (find_birth s.table.rows key.birth) key.versions material)
+    and_from (nat_lt 0 s.table.opening) (may_roll (find_birth s.table.rows key.birth) key.versions material)
     (grind arith) (ap (λ row. may_roll row key.versions material) so.found ∙ may_get (row_of s name) key.versions key.bits material so.stands so.bits so.versions room long)
 
 allowed : (row : Option KeyRow) (given : Option (List ℕ)) → is_none row ≡ false → is_misfit (bits_of row) given ≡ false → nat_le 65535 (versions_of row) ≡ false → first_cause (roll_causes row given) ≡ None

@@ -3,7 +3,8 @@ use Rattle.std.proofs.Common.{◌≡◌, ℕ, ◌+◌, ◌-◌, ◌/◌, ◌^◌
 use Rattle.std.specs.Prelude.{if◌then◌else◌, is_none, nat_lt, length}
 use Rattle.std.proofs.lemmas.List.{map-append, take_more, drop_more}
 use Rattle.std.proofs.lemmas.Bool.Decides.{Decides-eqb}
-use Rattle.key_rows.proofs.Births.{both, each_more}
+use Rattle.std.proofs.lemmas.Bool.{and_parts}
+use Rattle.key_rows.proofs.Births.{each_more}
 use Rattle.key_rows.specs.Table.{Table, no_keys, applies, after, find_name, is_length, opening_of}
 use Rattle.key_rows.specs.Records.{HasSpelling, spelling}
 use Rattle.key_rows.specs.declared.rows.KeyCommand.{KeyCommand}
@@ -45,11 +46,11 @@ replayed_more frames frame t u r n = record {
 pub births_after : (t : Table) (command : KeyCommand) → applies t command ≡ true → HasRoomForBirths t → HasRoomForBirths (after t command)
 births_after t (Opened opening) may room = let next : opening ≡ t.opening + 1 = (Decides-eqb opening (t.opening + 1)).0 may in omega arith
 births_after t (Create birth name bits description created material) may room =
-    let g = both (nat_lt 0 t.opening && is_none (find_name t.rows name) && opening_of birth == t.opening && nat_lt t.greatest birth && nat_lt (length t.rows) 10000 && is_length bits) (length material == bits / 8) may in
-    let f = both (nat_lt 0 t.opening && is_none (find_name t.rows name) && opening_of birth == t.opening && nat_lt t.greatest birth && nat_lt (length t.rows) 10000) (is_length bits) g.0 in
-    let e = both (nat_lt 0 t.opening && is_none (find_name t.rows name) && opening_of birth == t.opening && nat_lt t.greatest birth) (nat_lt (length t.rows) 10000) f.0 in
-    let d = both (nat_lt 0 t.opening && is_none (find_name t.rows name) && opening_of birth == t.opening) (nat_lt t.greatest birth) e.0 in
-    let c = both (nat_lt 0 t.opening && is_none (find_name t.rows name)) (opening_of birth == t.opening) d.0 in
+    let g = and_parts (nat_lt 0 t.opening && is_none (find_name t.rows name) && opening_of birth == t.opening && nat_lt t.greatest birth && nat_lt (length t.rows) 10000 && is_length bits) (length material == bits / 8) may in
+    let f = and_parts (nat_lt 0 t.opening && is_none (find_name t.rows name) && opening_of birth == t.opening && nat_lt t.greatest birth && nat_lt (length t.rows) 10000) (is_length bits) g.0 in
+    let e = and_parts (nat_lt 0 t.opening && is_none (find_name t.rows name) && opening_of birth == t.opening && nat_lt t.greatest birth) (nat_lt (length t.rows) 10000) f.0 in
+    let d = and_parts (nat_lt 0 t.opening && is_none (find_name t.rows name) && opening_of birth == t.opening) (nat_lt t.greatest birth) e.0 in
+    let c = and_parts (nat_lt 0 t.opening && is_none (find_name t.rows name)) (opening_of birth == t.opening) d.0 in
     let present : birth / 2 ^ 32 ≡ t.opening = (Decides-eqb (opening_of birth) t.opening).0 c.1 in
     omega arith
 births_after t (Roll birth number material) may room = room

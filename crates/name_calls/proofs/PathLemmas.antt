@@ -7,6 +7,7 @@ use Rattle.std.specs.Str.{bytes_eq, is_utf8}
 use Rattle.std.specs.List.{list_all, slice_split, before_first, onto_first, position, position_or_len}
 use Rattle.std.proofs.lemmas.Bool.Decides.{nat_tests}
 use Rattle.std.proofs.lemmas.List.Splits.{length-slice_split}
+use Rattle.std.proofs.lemmas.Bool.{eqb-true, ne_eqb, and_parts, leb-true, le-leb, and_from}
 use Rattle.name_calls.specs.Paths.{is_component, is_prefix, is_short, is_relative, is_absolute, absolute, starts_reserved, names_text, path_text, read_path}
 
 abbrev pub is_slash : ℕ → Bool
@@ -14,9 +15,6 @@ is_slash b = b == 47
 
 abbrev pub parts_of : List ℕ → List (List ℕ)
 parts_of = slice_split is_slash
-
-eq-yes : (a b : ℕ) → (a == b) ≡ true → a ≡ b
-eq-yes a b h = grind (arith, nat_tests)
 
 one-more : (n : ℕ) → 1 + n ≡ suc n
 one-more n = omega arith
@@ -41,7 +39,7 @@ text-parts (b ∷ bs) = go (is_slash b) refl (first-part bs) (text-parts bs)
   where
     go : (t : Bool) → is_slash b ≡ t → (rest : List (List ℕ)) × (parts_of bs ≡ before_first is_slash bs ∷ rest) → names_text (parts_of bs) ≡ 47 ∷ bs
         → names_text (cond t ([] ∷ parts_of bs) (onto_first b (parts_of bs))) ≡ 47 ∷ b ∷ bs
-    go true e w h = ap (λ (xs : List ℕ). 47 ∷ xs) (h ∙ ap (λ (x : ℕ). x ∷ bs) (sym (eq-yes b 47 e)))
+    go true e w h = ap (λ (xs : List ℕ). 47 ∷ xs) (h ∙ ap (λ (x : ℕ). x ∷ bs) (sym (eqb-true b 47 e)))
     go false e w h =
         let f : 47 ∷ (before_first is_slash bs ++ names_text w.0) ≡ 47 ∷ bs = ap names_text (sym w.1) ∙ h in
         let g : before_first is_slash bs ++ names_text w.0 ≡ bs = cc in
@@ -88,13 +86,10 @@ read-one [] h e = absurd (omega arith)
 read-one (b ∷ []) h e = ap (λ (x : ℕ). cond (x == 47) (Some []) None) e
 read-one (b ∷ c ∷ bs) h e = absurd (omega arith)
 
-eq-no : (a b : ℕ) → (a ≡ b → ⊥) → (a == b) ≡ false
-eq-no a b h = grind (arith, nat_tests)
-
 pub read-no-slash : (bs : List ℕ) → (get_or bs 0 0 ≡ 47 → ⊥) → read_path bs ≡ None
 read-no-slash [] h = refl
-read-no-slash (b ∷ []) h = ap (λ (t : Bool). cond t (Some []) None) (eq-no b 47 h)
-read-no-slash (b ∷ c ∷ bs) h = ap (λ (t : Bool). cond t (absolute (parts_of (c ∷ bs))) None) (eq-no b 47 h)
+read-no-slash (b ∷ []) h = ap (λ (t : Bool). cond t (Some []) None) (ne_eqb b 47 h)
+read-no-slash (b ∷ c ∷ bs) h = ap (λ (t : Bool). cond t (absolute (parts_of (c ∷ bs))) None) (ne_eqb b 47 h)
 
 pub read-more-is : (bs : List ℕ) → 2 ≤ length bs → get_or bs 0 0 ≡ 47 → is_absolute (parts_of (drop 1 bs)) ≡ is_some (read_path bs)
 read-more-is bs h e = sym (ap is_some (read-more bs h e) ∙ some-absolute (parts_of (drop 1 bs)))
@@ -109,27 +104,23 @@ was-read [] h = cc
 was-read (b ∷ []) h = record { slash = go (b == 47) refl h; some = omega arith }
   where
     go : (t : Bool) → (b == 47) ≡ t → is_some {T = List (List ℕ)} (cond t (Some []) None) ≡ true → b ≡ 47
-    go true e f = eq-yes b 47 e
+    go true e f = eqb-true b 47 e
     go false e f = cc
 was-read (b ∷ c ∷ bs) h = record { slash = go (b == 47) refl h; some = omega arith }
   where
     go : (t : Bool) → (b == 47) ≡ t → is_some (cond t (absolute (parts_of (c ∷ bs))) None) ≡ true → b ≡ 47
-    go true e f = eq-yes b 47 e
+    go true e f = eqb-true b 47 e
     go false e f = cc
-
-pub and-parts : (a b : Bool) → (a && b) ≡ true → (a ≡ true) × (b ≡ true)
-and-parts true b h = (refl, h)
-and-parts false b h = cc
 
 pub names-read : (bs : List ℕ) → is_some (read_path bs) ≡ true → (length bs ≡ 1 → ⊥) → (is_relative (parts_of (drop 1 bs)) ≡ true) × (read_path bs ≡ Some (parts_of (drop 1 bs)))
 names-read bs h apart =
     let w = was-read bs h in
     let two : 2 ≤ length bs = let some = w.some in omega arith in
     let e : is_absolute (parts_of (drop 1 bs)) ≡ true = read-more-is bs two w.slash ∙ h in
-    ((and-parts _ _ e).0, read-more bs two w.slash ∙ ap (λ (t : Bool). cond t (Some (parts_of (drop 1 bs))) None) e)
+    ((and_parts _ _ e).0, read-more bs two w.slash ∙ ap (λ (t : Bool). cond t (Some (parts_of (drop 1 bs))) None) e)
 
 pub components-read : (bs : List ℕ) → is_some (read_path bs) ≡ true → (length bs ≡ 1 → ⊥) → list_all is_component (parts_of (drop 1 bs)) ≡ true
-components-read bs h apart = let r = (names-read bs h apart).0 in (and-parts _ _ r).0
+components-read bs h apart = let r = (names-read bs h apart).0 in (and_parts _ _ r).0
 
 pub root-read : (bs : List ℕ) → is_some (read_path bs) ≡ true → length bs ≡ 1 → read_path bs ≡ Some []
 root-read bs h e = let w = was-read bs h in read-one bs e w.slash
@@ -144,12 +135,12 @@ not-read bs h = none-from (read_path bs) h
 -- a name is UTF-8
 pub component-utf8 : (c : List ℕ) → is_component c ≡ true → is_utf8 c ≡ true
 component-utf8 c h =
-    let a = (and-parts _ _ h).0 in let b = (and-parts _ _ a).0 in let d = (and-parts _ _ b).0 in let e = (and-parts _ _ d).0 in (and-parts _ _ e).1
+    let a = (and_parts _ _ h).0 in let b = (and_parts _ _ a).0 in let d = (and_parts _ _ b).0 in let e = (and_parts _ _ d).0 in (and_parts _ _ e).1
 
 pub each-at : {X : Type 0} (test : X → Bool) (xs : List X) (k : ℕ) (d : X) → list_all test xs ≡ true → k < length xs → test (get_or xs k d) ≡ true
 each-at test [] k d h b = absurd (omega arith)
-each-at test (x ∷ xs) zero d h b = (and-parts _ _ h).0
-each-at test (x ∷ xs) (suc k) d h b = each-at test xs k d (and-parts _ _ h).1 (omega arith)
+each-at test (x ∷ xs) zero d h b = (and_parts _ _ h).0
+each-at test (x ∷ xs) (suc k) d h b = each-at test xs k d (and_parts _ _ h).1 (omega arith)
 
 -- the text of the names with one more
 pub names-text-snoc : (p : List (List ℕ)) (c : List ℕ) → names_text (p ++ c ∷ []) ≡ names_text p ++ 47 ∷ c
@@ -185,21 +176,12 @@ first-at bs at h = let w = position-some (position_or_len is_slash bs) (length b
 pub first-all : (bs : List ℕ) → None ≡ position is_slash bs → bs ≡ before_first is_slash bs
 first-all bs h = sym (take_all (position_or_len is_slash bs) bs (position-none (position_or_len is_slash bs) (length bs) (nat_lt (position_or_len is_slash bs) (length bs)) refl h))
 
-le-yes : (a b : ℕ) → nat_le a b ≡ true → a ≤ b
-le-yes a b h = grind (arith, nat_tests)
-
-yes-le : (a b : ℕ) → a ≤ b → nat_le a b ≡ true
-yes-le a b h = grind (arith, nat_tests)
-
-both : (a b : Bool) → a ≡ true → b ≡ true → (a && b) ≡ true
-both a b e f = cc
-
 pub relative-short : (p : List (List ℕ)) → is_relative p ≡ true → length p ≤ 100
-relative-short p h = let s = (and-parts _ _ h).1 in le-yes (length p) 100 (and-parts _ _ s).1
+relative-short p h = let s = (and_parts _ _ h).1 in leb-true (length p) 100 (and_parts _ _ s).1
 
 all-front : {X : Type 0} (test : X → Bool) (xs : List X) (y : X) → list_all test (xs ++ y ∷ []) ≡ true → list_all test xs ≡ true
 all-front test [] y h = refl
-all-front test (x ∷ xs) y h = let w = and-parts (test x) (list_all test (xs ++ y ∷ [])) h in both (test x) (list_all test xs) w.0 (all-front test xs y w.1)
+all-front test (x ∷ xs) y h = let w = and_parts (test x) (list_all test (xs ++ y ∷ [])) h in and_from (test x) (list_all test xs) w.0 (all-front test xs y w.1)
 
 text-front : (p : List (List ℕ)) (c : List ℕ) → length (path_text p) ≤ length (path_text (p ++ c ∷ []))
 text-front [] c = omega arith
@@ -208,14 +190,14 @@ text-front (x ∷ p) c = let e = ap length (names-text-snoc (x ∷ p) c) in omeg
 -- the parent of a relative path is a relative path
 pub relative-front : (p : List (List ℕ)) (c : List ℕ) → is_relative (p ++ c ∷ []) ≡ true → is_relative p ≡ true
 relative-front p c h =
-    let w : (list_all is_component (p ++ c ∷ []) ≡ true) × (is_short (p ++ c ∷ []) ≡ true) = and-parts _ _ h in
-    let v : (nat_le (length (path_text (p ++ c ∷ []))) 8000 ≡ true) × (nat_le (length (p ++ c ∷ [])) 100 ≡ true) = and-parts _ _ w.1 in
-    let bytes : length (path_text (p ++ c ∷ [])) ≤ 8000 = le-yes _ _ v.0 in
-    let names : length (p ++ c ∷ []) ≤ 100 = le-yes _ _ v.1 in
+    let w : (list_all is_component (p ++ c ∷ []) ≡ true) × (is_short (p ++ c ∷ []) ≡ true) = and_parts _ _ h in
+    let v : (nat_le (length (path_text (p ++ c ∷ []))) 8000 ≡ true) × (nat_le (length (p ++ c ∷ [])) 100 ≡ true) = and_parts _ _ w.1 in
+    let bytes : length (path_text (p ++ c ∷ [])) ≤ 8000 = leb-true _ _ v.0 in
+    let names : length (p ++ c ∷ []) ≤ 100 = leb-true _ _ v.1 in
     let less : length p ≤ 100 = omega (arith, length-append p (c ∷ [])) in
     let fewer : length (path_text p) ≤ 8000 = omega (arith, text-front p c) in
-    both (list_all is_component p) (is_short p) (all-front is_component p c w.0)
-    (both (nat_le (length (path_text p)) 8000) (nat_le (length p) 100) (yes-le _ _ fewer) (yes-le _ _ less))
+    and_from (list_all is_component p) (is_short p) (all-front is_component p c w.0)
+    (and_from (nat_le (length (path_text p)) 8000) (nat_le (length p) 100) (le-leb _ _ fewer) (le-leb _ _ less))
 
 -- a path that has more names than another is not above it
 pub longer-is-no-prefix : (p q : List (List ℕ)) → length q < length p → is_prefix p q ≡ false

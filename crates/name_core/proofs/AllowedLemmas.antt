@@ -3,6 +3,7 @@ use Rattle.std.proofs.Common.{◌≡◌, ℕ, ◌+◌, ◌*◌, ◌^◌, ◌<◌
 use Rattle.std.specs.Prelude.{◌==◌}
 use Rattle.std.specs.List.{AllByRecursion, list_any}
 use Rattle.std.proofs.lemmas.Bool.Decides.{nat_tests}
+use Rattle.std.proofs.lemmas.Bool.{not-false, le-leb, lt-ltb, and_from}
 use Rattle.hk_base.specs.declared.names.Edek.{Edek}
 use Rattle.hk_base.specs.declared.names.KeyName.{KeyName}
 use Rattle.name_calls.specs.Paths.{is_component, starts_reserved}
@@ -16,7 +17,7 @@ use Rattle.zone_table.specs.declared.statuses.StatusRow.{StatusRow}
 use Rattle.zone_table.specs.Statuses.{zone_goes_on}
 use Rattle.name_store.specs.Causes.{first_cause, going_causes, has_most_rows, id_at, kept_causes, make_causes, removal_causes, row_causes, zone_causes, zone_root_causes}
 use Rattle.name_store.specs.Table.{NameTable, allows, fits_key, fits_noted, fits_zone, is_among, is_fresh, is_of_opening, key_of_zone, may_use, may_use_all, op_causes, uses}
-use Rattle.name_store.proofs.CauseLemmas.{IsZoneRoot, allows-it, clear, join, none-of-both, none-of-join, zone-root}
+use Rattle.name_store.proofs.CauseLemmas.{IsZoneRoot, allows-it, clear, none-of-both, none-of-join, zone-root}
 use Rattle.name_store.proofs.StatusLemmas.{key-at-root}
 use Rattle.name_core.specs.declared.asks.OpenAsk.{OpenAsk}
 use Rattle.name_calls.specs.declared.calls.Ask.{Ask}
@@ -33,16 +34,6 @@ use Rattle.name_core.proofs.AskLemmas.{each-map, each-without, fit-without, open
 use Rattle.name_core.proofs.RowLemmas.{id-free, room-left}
 use Rattle.name_core.proofs.WalkLemmas.{going-session, walk-completes}
 
-yes : (b : Bool) → not b ≡ false → b ≡ true
-yes true h = refl
-yes false h = absurd cc
-
-le-yes : (a b : ℕ) → a ≤ b → nat_le a b ≡ true
-le-yes a b h = grind (arith, nat_tests, h)
-
-lt-yes : (a b : ℕ) → a < b → nat_lt a b ≡ true
-lt-yes a b h = grind (arith, nat_tests, h)
-
 differ : (a b : ℕ) → a < b → (a == b) ≡ false
 differ a b h = grind (arith, nat_tests, h)
 
@@ -51,7 +42,7 @@ unlike a b h = grind (arith, nat_tests, h)
 
 of-opening : (o id n : ℕ) → o * 2 ^ 32 ≤ id → id < o * 2 ^ 32 + n → n ≤ 2 ^ 32 → is_of_opening o id ≡ true
 of-opening o id n low high few =
-    join (nat_le (o * 2 ^ 32) id) (nat_lt id ((o + 1) * 2 ^ 32)) (le-yes (o * 2 ^ 32) id low) (lt-yes id ((o + 1) * 2 ^ 32) (omega (arith, low, high, few)))
+    and_from (nat_le (o * 2 ^ 32) id) (nat_lt id ((o + 1) * 2 ^ 32)) (le-leb (o * 2 ^ 32) id low) (lt-ltb id ((o + 1) * 2 ^ 32) (omega (arith, low, high, few)))
 
 pub not-reserved : (p : List (List ℕ)) → first_cause (path_causes p) ≡ None → starts_reserved p ≡ false
 not-reserved p h = (clear (starts_reserved p) refusal.BadPath None h).0
@@ -63,7 +54,7 @@ not-spent s h = grind (arith, nat_tests, h)
 
 usable : (t : NameTable) (id n : ℕ) → t.opening * 2 ^ 32 ≤ id → id < t.opening * 2 ^ 32 + n → n ≤ 2 ^ 32 → entry_of t.rows id ≡ None → may_use_all t (id ∷ []) ≡ true
 usable t id n low high few free =
-    join (may_use t id) true (join (is_of_opening t.opening id) (is_none (entry_of t.rows id)) (of-opening t.opening id n low high few) (ap is_none free)) refl
+    and_from (may_use t id) true (and_from (is_of_opening t.opening id) (is_none (entry_of t.rows id)) (of-opening t.opening id n low high few) (ap is_none free)) refl
 
 either-not : (a b : Bool) → (a || b) ≡ false → a ≡ false
 either-not true b h = absurd cc
@@ -81,7 +72,7 @@ pub allowed-mkdir : (s : NameState) (p : List (List ℕ)) → 0 < s.table.openin
 allowed-mkdir s p opened ids h =
     let left : s.next < 2 ^ 32 = room-left s p h in
     allows-it s.table (op.Mkdir (next_id s) p) refl (record {
-      opened = lt-yes 0 s.table.opening opened;
+      opened = lt-ltb 0 s.table.opening opened;
       ids = usable s.table (next_id s) (s.next + 1) (omega arith) (omega arith) (omega (arith, left)) (id-free s.table.rows (next_id s) ids.of_rows);
       free = addable s p h;
       fits = refl;
@@ -89,7 +80,7 @@ allowed-mkdir s p opened ids h =
 
 -- an operation that uses no id and keeps no key
 pub plainly-allowed : (t : NameTable) (o : EditOp) → 0 < t.opening → is_opening o ≡ false → may_use_all t (uses o) ≡ true → fits_key t o ≡ true → first_cause (op_causes t o) ≡ None → allows t o ≡ true
-plainly-allowed t o opened safe ids key h = allows-it t o safe (record { opened = lt-yes 0 t.opening opened; ids = ids; free = h; fits = key })
+plainly-allowed t o opened safe ids key h = allows-it t o safe (record { opened = lt-ltb 0 t.opening opened; ids = ids; free = h; fits = key })
 
 remove-free : (t : NameTable) (p : List (List ℕ)) (recursive : Bool) → first_cause (delete_causes t.rows t.snaps p recursive) ≡ None → first_cause (op_causes t (op.Remove p)) ≡ None
 remove-free t p recursive h =
@@ -158,7 +149,7 @@ submitted-key rows statuses a edek p m = (its.0, ap (λ (o : Option KeyName). fi
     key_is = key-at-root rows p root.key root.marked
 
     its : (is_some edek ≡ true) × (fits_noted (Some root.key) (noted_of edek).key ≡ true)
-    its = given-key root.key edek (ap (λ (o : Option KeyName). fits_zone o edek) (sym key_is) ∙ yes _ m.same_key)
+    its = given-key root.key edek (ap (λ (o : Option KeyName). fits_zone o edek) (sym key_is) ∙ not-false _ m.same_key)
 
 -- what a finish that nothing stops was given
 pub has-wanted : (rows : List Entry) (statuses : List StatusRow) (a : OpenAsk) (edek : Option Edek) (k : Ask) → first_cause (finish_causes rows statuses a edek k) ≡ None → HasWanted k edek
@@ -183,18 +174,18 @@ allowed-finish s id a edek opened few ids recent stands free = go a.ask free
     go (ask.Create p) h =
         let m = may-make-file s.table.rows s.table.statuses a edek p h in
         allows-it s.table (op.File a.id p edek) refl (record {
-          opened = lt-yes 0 s.table.opening opened;
+          opened = lt-ltb 0 s.table.opening opened;
           ids = usable s.table a.id s.next low high few unused;
           free = none-of-join (make_causes s.table.rows p) (row_causes s.table.rows) m.made m.room;
-          fits = yes _ m.same_key;
+          fits = not-false _ m.same_key;
         })
     go (ask.Zone p key) h =
-        allows-it s.table (op.Zone p key) refl (record { opened = lt-yes 0 s.table.opening opened; ids = refl; free = may-make-zone s.table.rows s.table.statuses a edek p key h; fits = refl })
+        allows-it s.table (op.Zone p key) refl (record { opened = lt-ltb 0 s.table.opening opened; ids = refl; free = may-make-zone s.table.rows s.table.statuses a edek p key h; fits = refl })
     go (ask.Submit p) h =
         let m = may-submit s.table.rows s.table.statuses a edek p h in
         let rests = zone_goes_on s.table.statuses (id_at s.table.rows p) in
         allows-it s.table (op.Submit a.id p (noted_of edek)) refl (record {
-          opened = lt-yes 0 s.table.opening opened;
+          opened = lt-ltb 0 s.table.opening opened;
           ids = usable s.table a.id s.next low high few unused;
           free = none-of-join (zone_root_causes s.table.rows p) ((rests, refusal.AlreadySubmitted) ∷ []) m.root (ap (λ (b : Bool). cond b (Some refusal.AlreadySubmitted) None) m.rests);
           fits = (submitted-key s.table.rows s.table.statuses a edek p m).1;
@@ -374,12 +365,12 @@ may-plain s o k safe none key spelled free = record {
 named : (p : List (List ℕ)) (name : List ℕ) → first_cause (path_causes p ++ name_causes name) ≡ None → (not (starts_reserved p) && is_component name) ≡ true
 named p name h =
     let path = clear (starts_reserved p) refusal.BadPath _ h in
-    join (not (starts_reserved p)) (is_component name) (ap not path.0) (yes (is_component name) (clear (not (is_component name)) refusal.BadPath _ path.1).0)
+    and_from (not (starts_reserved p)) (is_component name) (ap not path.0) (not-false (is_component name) (clear (not (is_component name)) refusal.BadPath _ path.1).0)
 
 neither : (p q : List (List ℕ)) → first_cause (path_causes p ++ path_causes q) ≡ None → (not (starts_reserved p) && not (starts_reserved q)) ≡ true
 neither p q h =
     let path = clear (starts_reserved p) refusal.BadPath _ h in
-    join (not (starts_reserved p)) (not (starts_reserved q)) (ap not path.0) (ap not (clear (starts_reserved q) refusal.BadPath _ path.1).0)
+    and_from (not (starts_reserved p)) (not (starts_reserved q)) (ap not path.0) (ap not (clear (starts_reserved q) refusal.BadPath _ path.1).0)
 
 -- the operation of a change that is not refused may be written
 pub may-write : (s : NameState) (c : NameCall) (o : EditOp) → 0 < s.table.opening → s.next ≤ 2 ^ 32 → IdsFit s.table.rows s.asks (next_id s) → AreRecent s.table.opening s.asks

@@ -4,6 +4,7 @@ use Rattle.std.specs.Prelude.{◌==◌}
 use Rattle.std.specs.Option.{option_map}
 use Rattle.std.specs.List.{AllByRecursion}
 use Rattle.std.proofs.lemmas.Bool.Decides.{nat_tests}
+use Rattle.std.proofs.lemmas.Bool.{ne_eqb}
 use Rattle.hk_base.specs.declared.names.Edek.{Edek}
 use Rattle.name_calls.specs.Paths.{parent}
 use Rattle.name_calls.specs.ReadPaths.{as_it_is}
@@ -370,12 +371,9 @@ ids_stay_below s s' (GivesUp note result logged serves) k = (update-served s (gi
 
 -- no ask with the id is open
 
-unlike : (a b : ℕ) → (a ≡ b → ⊥) → (a == b) ≡ false
-unlike a b h = grind (arith, nat_tests)
-
 none-open : (asks : List OpenAsk) (id : ℕ) → AllByRecursion (λ (q : OpenAsk). q.id ≡ id → ⊥) asks → open_ask asks id ≡ None
 none-open [] id h = refl
-none-open (a ∷ asks) id h = ap (λ (t : Bool). cond t (Some a) (open_ask asks id)) (unlike a.id id h.0) ∙ none-open asks id h.1
+none-open (a ∷ asks) id h = ap (λ (t : Bool). cond t (Some a) (open_ask asks id)) (ne_eqb a.id id h.0) ∙ none-open asks id h.1
 
 gone-from : (asks : List OpenAsk) (id : ℕ) (a : OpenAsk) → IsRising asks → open_ask asks id ≡ Some a → open_ask (without asks a.id) id ≡ None
 gone-from asks id a rising stands =

@@ -8,6 +8,7 @@ use Rattle.std.specs.Option.{option_map, option_and_then}
 use Rattle.std.specs.Ordering.{is_eq, match_ordering, nat_cmp}
 use Rattle.std.proofs.lemmas.Bool.Decides.{nat_tests}
 use Rattle.std.proofs.lemmas.List.Elements.{All-head, All-tail, All-cons, All-nil}
+use Rattle.std.proofs.lemmas.Bool.{eqb-true, eqb-false}
 use Rattle.inode_tree.specs.declared.rows.Kind.{Kind}
 use Rattle.name_calls.specs.Paths.{is_before, starts_reserved}
 use Rattle.inode_tree.specs.Moves.{moved, renamed}
@@ -128,20 +129,14 @@ pub rising-append : (asks : List OpenAsk) (q : OpenAsk) → IsRising asks → Al
 rising-append [] q r h = (tt, tt)
 rising-append (a ∷ asks) q r h = (each-append (λ (b : OpenAsk). a.id < b.id) asks q r.0 h.0, rising-append asks q r.1 h.1)
 
-equal : (a b : ℕ) → (a == b) ≡ true → a ≡ b
-equal a b h = grind (arith, nat_tests)
-
-other : (a b : ℕ) → (a == b) ≡ false → a ≡ b → ⊥
-other a b h k = absurd (grind (arith, nat_tests, h, k))
-
 -- the asks that remain have another id
 pub without-apart : (asks : List OpenAsk) (id : ℕ) → IsRising asks → AllByRecursion (λ (q : OpenAsk). q.id ≡ id → ⊥) (without asks id)
 without-apart [] id r = tt
 without-apart (a ∷ asks) id r = go (a.id == id) refl (without-apart asks id r.1)
   where
     go : (t : Bool) → (a.id == id) ≡ t → AllByRecursion (λ (q : OpenAsk). q.id ≡ id → ⊥) (without asks id) → AllByRecursion (λ (q : OpenAsk). q.id ≡ id → ⊥) (cond t asks (a ∷ without asks id))
-    go true e rest = each-map (λ (b : OpenAsk). a.id < b.id) (λ (q : OpenAsk). q.id ≡ id → ⊥) (λ q low same. let here : a.id ≡ id = equal a.id id e in absurd (omega (arith, low, same, here))) asks r.0
-    go false e rest = (other a.id id e, rest)
+    go true e rest = each-map (λ (b : OpenAsk). a.id < b.id) (λ (q : OpenAsk). q.id ≡ id → ⊥) (λ q low same. let here : a.id ≡ id = eqb-true a.id id e in absurd (omega (arith, low, same, here))) asks r.0
+    go false e rest = (eqb-false a.id id e, rest)
 
 -- an id that no row has, while rows change
 
@@ -164,7 +159,7 @@ kind-id : (n : ℕ) (kind : Kind) (e : Entry) → (with_kind n kind e).row.id �
 kind-id n kind e = go (e.row.id == n) refl
   where
     go : (t : Bool) → (e.row.id == n) ≡ t → (cond t (record e { row = record { id = n; kind = kind } }) e).row.id ≡ e.row.id
-    go true h = sym (equal e.row.id n h)
+    go true h = sym (eqb-true e.row.id n h)
     go false h = refl
 
 pub kind-free : (n : ℕ) (kind : Kind) (es : List Entry) (id : ℕ) → entry_of es id ≡ None → entry_of (set_kind es n kind) id ≡ None
@@ -236,7 +231,7 @@ open-id [] id q h = absurd cc
 open-id (a ∷ asks) id q h = go (a.id == id) refl (open-id asks id q) h
   where
     go : (t : Bool) → (a.id == id) ≡ t → (open_ask asks id ≡ Some q → q.id ≡ id) → cond t (Some a) (open_ask asks id) ≡ Some q → q.id ≡ id
-    go true e rest h = let same : a ≡ q = cc in ap (λ (x : OpenAsk). x.id) (sym same) ∙ equal a.id id e
+    go true e rest h = let same : a ≡ q = cc in ap (λ (x : OpenAsk). x.id) (sym same) ∙ eqb-true a.id id e
     go false e rest h = rest h
 
 -- there is an id for an ask that is accepted

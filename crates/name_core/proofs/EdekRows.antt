@@ -1,10 +1,10 @@
 -- Rows whose files get other encrypted keys: directories and zones are the same.
-use Rattle.std.proofs.Common.{◌≡◌, ℕ, ◌&&◌, Bool, true, false, cond, List, [], ◌∷◌, Option, Some, None, is_some, refl, sym, ap, ◌∙◌, arith}
+use Rattle.std.proofs.Common.{◌≡◌, ℕ, ◌&&◌, Bool, true, false, cond, List, [], ◌∷◌, Option, Some, None, is_some, refl, sym, ap, ◌∙◌}
 use Rattle.std.specs.Prelude.{◌==◌}
 use Rattle.std.specs.List.{AllByRecursion, list_all}
 use Rattle.std.specs.Option.{option_map_or}
-use Rattle.std.proofs.lemmas.Bool.Decides.{nat_tests}
 use Rattle.std.proofs.lemmas.List.Elements.{recursion_from_All}
+use Rattle.std.proofs.lemmas.Bool.{eqb-true, and_parts}
 use Rattle.hk_base.specs.declared.names.Edek.{Edek}
 use Rattle.edit_ops.specs.declared.files.FileKey.{FileKey}
 use Rattle.name_calls.specs.Paths.{is_prefix, same_path}
@@ -13,11 +13,7 @@ use Rattle.inode_tree.specs.declared.rows.Kind.TheVariants.{Dir, File}
 use Rattle.inode_tree.specs.Rows.{Entry, IsRows, entry_of, is_dir, is_dir_at, is_marked, is_zone_over, longer, row_at, set_kind, with_kind, zone_of}
 use Rattle.inode_tree.specs.ZoneFiles.{edek_of}
 use Rattle.name_store.specs.Table.{NameTable, is_of_key, is_under, may_update, with_edeks}
-use Rattle.name_store.proofs.CauseLemmas.{both}
 use Rattle.name_core.proofs.ZoneLaws.{kind-path}
-
-equal : (a b : ℕ) → (a == b) ≡ true → a ≡ b
-equal a b h = grind (arith, nat_tests, h)
 
 each : {X : Type 0} (P Q : X → Type 0) → ((x : X) → P x → Q x) → (xs : List X) → AllByRecursion P xs → AllByRecursion Q xs
 each P Q f [] h = tt
@@ -103,15 +99,15 @@ updated-file t session f good may = go (entry_of t.rows f.id) refl may
     go : (o : Option Entry) → entry_of t.rows f.id ≡ o → option_map_or (λ e. is_under t session e && is_of_key f e) o false ≡ true → AreFiles f.id t.rows
     go None is may = absurd cc
     go (Some e) is may =
-        let under = (both (is_under t session e) (is_of_key f e) may).0 in
-        let dir : is_dir e.row.kind ≡ false = is-file e.row.kind (both (is_some (edek_of e.row.kind)) _ under).0 in
+        let under = (and_parts (is_under t session e) (is_of_key f e) may).0 in
+        let dir : is_dir e.row.kind ≡ false = is-file e.row.kind (and_parts (is_some (edek_of e.row.kind)) _ under).0 in
         each (λ (x : Entry). entry_of t.rows x.row.id ≡ Some x) (λ (x : Entry). IsFileAt f.id x)
         (λ x once same.
-        let found : Some x ≡ Some e = sym once ∙ ap (entry_of t.rows) (equal x.row.id f.id same) ∙ is in
+        let found : Some x ≡ Some e = sym once ∙ ap (entry_of t.rows) (eqb-true x.row.id f.id same) ∙ is in
         let here : x ≡ e = cc in ap (λ (y : Entry). is_dir y.row.kind) here ∙ dir)
         t.rows (recursion_from_All (λ (x : Entry). entry_of t.rows x.row.id ≡ Some x) t.rows good.once)
 
 pub all-files : (t : NameTable) (session : ℕ) (files : List FileKey) → IsRows t.rows → list_all (may_update t session) files ≡ true → AllFiles files t.rows
 all-files t session [] good may = tt
 all-files t session (f ∷ files) good may =
-    let parts = both (may_update t session f) (list_all (may_update t session) files) may in (updated-file t session f good parts.0, all-files t session files good parts.1)
+    let parts = and_parts (may_update t session f) (list_all (may_update t session) files) may in (updated-file t session f good parts.0, all-files t session files good parts.1)

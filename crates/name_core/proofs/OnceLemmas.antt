@@ -1,10 +1,10 @@
 -- No batch of a walk has a file twice.
-use Rattle.std.proofs.Common.{◌≡◌, ℕ, suc, zero, Bool, true, false, cond, not, ◌&&◌, ◌||◌, List, [], ◌∷◌, ◌++◌, take, Option, Some, None, refl, sym, ap, ◌∙◌, subst, arith}
+use Rattle.std.proofs.Common.{◌≡◌, ℕ, suc, zero, Bool, true, false, cond, not, ◌&&◌, ◌||◌, List, [], ◌∷◌, ◌++◌, take, Option, Some, None, refl, sym, ap, ◌∙◌, subst}
 use Rattle.std.specs.Prelude.{◌==◌}
 use Rattle.std.specs.List.{cons_option, filter, list_any}
 use Rattle.std.specs.Option.{option_map, option_map_or}
-use Rattle.std.proofs.lemmas.Bool.Decides.{nat_tests}
 use Rattle.std.proofs.lemmas.List.Elements.{recursion_from_All}
+use Rattle.std.proofs.lemmas.Bool.{eqb-true, and_parts, and_from}
 use Rattle.hk_base.specs.Names.{Encrypted}
 use Rattle.edit_ops.specs.declared.ops.EditOp.{EditOp}
 use Rattle.edit_ops.specs.declared.ops.EditOp.TheVariants as op
@@ -17,13 +17,9 @@ use Rattle.reenc_walk.specs.Files.{is_after, is_file_of, last_in, path_in, same_
 use Rattle.reenc_walk.specs.Walks.{WalkState, from_outstanding, has_batch, is_of, next_files, retire, retired, walked}
 use Rattle.zone_table.specs.declared.statuses.StatusRow.{StatusRow}
 use Rattle.zone_table.specs.Statuses.{session_goes_on}
-use Rattle.name_store.proofs.CauseLemmas.{both, join}
 use Rattle.name_core.specs.State.{BatchesOnce, WalksOnce, is_walk_of, retired_by, retired_under, sent_once, settled_walks, walk_under, walks_after, with_walk}
 use Rattle.name_core.specs.Steps.{walks_with}
 use Rattle.name_core.specs.Walks.{going_on, or_new_walk, walk_of}
-
-equal : (a b : ℕ) → (a == b) ≡ true → a ≡ b
-equal a b h = grind (arith, nat_tests, h)
 
 -- batches that are retired
 
@@ -150,7 +146,7 @@ sent-ids (x ∷ rows) h = go (edek_of x.row.kind) (sent-ids rows h.1)
   where
     go : (o : Option Encrypted) → sent_once (sent_list rows) ≡ true → sent_once (cons_option (option_map (λ edek. record { id = x.row.id; edek = edek }) o) (sent_list rows)) ≡ true
     go None rest = rest
-    go (Some edek) rest = join (not (list_any (λ (y : Sent). y.id == x.row.id) (sent_list rows))) (sent_once (sent_list rows)) (ap not (sent-free rows x.row.id h.0)) rest
+    go (Some edek) rest = and_from (not (list_any (λ (y : Sent). y.id == x.row.id) (sent_list rows))) (sent_once (sent_list rows)) (ap not (sent-free rows x.row.id h.0)) rest
 
 -- the files that a walk takes come once
 pub taken-once : (rows : List Entry) (zone size : ℕ) (w : WalkState) → IsRows rows → sent_once (sent_list (next_files rows zone size w)) ≡ true
@@ -195,8 +191,8 @@ same-has [] [] id h = refl
 same-has [] (y ∷ ys) id h = absurd cc
 same-has (x ∷ xs) [] id h = absurd cc
 same-has (x ∷ xs) (y ∷ ys) id h =
-    let parts = both (same_file x y) (same_sent xs ys) h in
-    let same : x.id ≡ y.id = equal x.id y.id (both (x.id == y.id) (same_edek x.edek y.edek) parts.0).0 in
+    let parts = and_parts (same_file x y) (same_sent xs ys) h in
+    let same : x.id ≡ y.id = eqb-true x.id y.id (and_parts (x.id == y.id) (same_edek x.edek y.edek) parts.0).0 in
     let rest = same-has xs ys id parts.1 in
     λ i. (same i == id) || rest i
 
@@ -205,8 +201,8 @@ same-once [] [] h = refl
 same-once [] (y ∷ ys) h = absurd cc
 same-once (x ∷ xs) [] h = absurd cc
 same-once (x ∷ xs) (y ∷ ys) h =
-    let parts = both (same_file x y) (same_sent xs ys) h in
-    let same : x.id ≡ y.id = equal x.id y.id (both (x.id == y.id) (same_edek x.edek y.edek) parts.0).0 in
+    let parts = and_parts (same_file x y) (same_sent xs ys) h in
+    let same : x.id ≡ y.id = eqb-true x.id y.id (and_parts (x.id == y.id) (same_edek x.edek y.edek) parts.0).0 in
     let rest = same-once xs ys parts.1 in
     ap (λ (id : ℕ). not (list_any (λ (z : Sent). z.id == id) xs) && sent_once xs) same
     ∙ (λ i. not (same-has xs ys y.id parts.1 i) && rest i)
@@ -216,5 +212,5 @@ batch-once [] sent h has = absurd cc
 batch-once (b ∷ bs) sent h has = go (is_of sent b) refl has (batch-once bs sent h.1)
   where
     go : (t : Bool) → is_of sent b ≡ t → (t || has_batch bs sent) ≡ true → (has_batch bs sent ≡ true → sent_once sent ≡ true) → sent_once sent ≡ true
-    go true is has rest = sym (same-once b.sent sent (both b.outstanding (same_sent b.sent sent) is).1) ∙ h.0
+    go true is has rest = sym (same-once b.sent sent (and_parts b.outstanding (same_sent b.sent sent) is).1) ∙ h.0
     go false is has rest = rest has

@@ -16,6 +16,7 @@ use Rattle.snap_store.proofs.Kept.{others-remove, others-take}
 use Rattle.edit_ops.specs.declared.ops.EditOp.{EditOp}
 use Rattle.edit_ops.specs.declared.ops.EditOp.TheVariants as op
 use Rattle.std.specs.Ordering.{is_lt}
+use Rattle.std.proofs.lemmas.Bool.{eqb-true, and_parts, and_from}
 use Rattle.name_calls.specs.declared.calls.AskNote.{AskNote}
 use Rattle.name_calls.specs.declared.calls.Ask.{Ask}
 use Rattle.name_calls.specs.declared.calls.Ask.TheVariants as ask
@@ -30,7 +31,7 @@ use Rattle.name_calls.specs.declared.calls.NameRefusal.TheVariants as refusal
 use Rattle.name_calls.specs.declared.status.Delivered.{Delivered}
 use Rattle.name_store.specs.Causes.{allowed_causes, directory_causes, first_cause, has_most_snapshots, id_at, snap_causes, unsnap_causes}
 use Rattle.name_store.specs.Table.{NameTable, after_table, allows, settled_ops, settled_table}
-use Rattle.name_store.proofs.CauseLemmas.{allowed, both, join, none-of-both, none-of-join, snappable}
+use Rattle.name_store.proofs.CauseLemmas.{allowed, none-of-both, none-of-join, snappable}
 use Rattle.name_store.proofs.RowLemmas.{directory-entry}
 use Rattle.name_core.specs.declared.asks.OpenAsk.{OpenAsk}
 use Rattle.name_core.specs.State.{IdsFit, IsNames, IsWaiting, NameService, NameState, next_id, settled, took}
@@ -75,9 +76,6 @@ behind-none (c ∷ front) behind h = go c.0 h (behind-none front behind)
     go true h rest = absurd cc
     go false h rest = rest h
 
-equal : (a b : ℕ) → (a == b) ≡ true → a ≡ b
-equal a b h = grind (arith, nat_tests, h)
-
 same-number : (a : ℕ) → (a == a) ≡ true
 same-number a = grind (arith, nat_tests)
 
@@ -90,8 +88,8 @@ not-taken taken d n dir name was free stood = go (is_named d n (key_of dir name)
   where
     go : (b : Bool) → is_named d n (key_of dir name) ≡ b → b ≡ false
     go true is =
-        let parts = both (dir == d) (bytes_eq name n) is in
-        let f : Some was ≡ None = sym stood ∙ (λ i. snapshot_named taken (equal dir d parts.0 i) ((bytes_eq-Decides name n).0 parts.1 i)) ∙ free in absurd cc
+        let parts = and_parts (dir == d) (bytes_eq name n) is in
+        let f : Some was ≡ None = sym stood ∙ (λ i. snapshot_named taken (eqb-true dir d parts.0 i) ((bytes_eq-Decides name n).0 parts.1 i)) ∙ free in absurd cc
     go false is = refl
 
 pub stays : (t : NameTable) (o : EditOp) (dir : ℕ) (name : List ℕ) (was : Snapshot) → allows t o ≡ true → removes_snapshot dir name t.rows o ≡ false → snapshot_named t.snaps.taken dir name ≡ Some was
@@ -325,7 +323,7 @@ module _ (t : NameTable) (p : List (List ℕ)) (name : List ℕ) (good : IsRows 
 
   named-new : snapshot_named after.snaps.taken (id_at t.rows p) name ≡ Some new
   named-new =
-      find-new (is_named (id_at t.rows p) name) new t.snaps.taken (join (id_at t.rows p == id_at t.rows p) (bytes_eq name name) (same-number (id_at t.rows p)) ((bytes_eq-Decides name name).1 refl))
+      find-new (is_named (id_at t.rows p) name) new t.snaps.taken (and_from (id_at t.rows p == id_at t.rows p) (bytes_eq name name) (same-number (id_at t.rows p)) ((bytes_eq-Decides name name).1 refl))
       (snappable t.rows t.snaps p name free).free
 
   -- it has the rows at and below its directory

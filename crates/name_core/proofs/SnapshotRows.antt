@@ -8,6 +8,7 @@ use Rattle.std.specs.Str.{bytes_eq}
 use Rattle.std.proofs.lemmas.Bool.Decides.{nat_tests}
 use Rattle.std.proofs.lemmas.List.{length-append}
 use Rattle.std.proofs.lemmas.Slice.Eq.{bytes_eq-Decides}
+use Rattle.std.proofs.lemmas.Bool.{le-ltb, lt-ltb, and_parts, and_from}
 use Rattle.name_calls.specs.Paths.{is_child, is_prefix, last_name, parent, same_path}
 use Rattle.inode_tree.specs.declared.rows.Row.{Row}
 use Rattle.inode_tree.specs.Below.{rows_below, seen_from}
@@ -16,7 +17,6 @@ use Rattle.inode_tree.specs.Rows.{Entry, is_marked, is_zone_over, longer, row_at
 use Rattle.inode_tree.proofs.Seeks.{same-is}
 use Rattle.inode_tree.proofs.ZoneLemmas.{prefix-itself, prefix-whole}
 use Rattle.snap_store.proofs.Zones.{prefix-length}
-use Rattle.name_store.proofs.CauseLemmas.{both, join}
 use Rattle.name_core.specs.Reads.{path_of_zone, zone_in_or_above, zone_over}
 use Rattle.name_core.proofs.DeleteLaws.{swap-bytes}
 use Rattle.name_core.proofs.LawLemmas.{prefix-parent}
@@ -28,7 +28,7 @@ pub after-prefix : (p x : List (List ℕ)) → is_prefix p x ≡ true → x ≡ 
 after-prefix [] x h = refl
 after-prefix (a ∷ p) [] h = absurd cc
 after-prefix (a ∷ p) (c ∷ x) h =
-    let parts = both (bytes_eq a c) (is_prefix p x) h in
+    let parts = and_parts (bytes_eq a c) (is_prefix p x) h in
     let same : a ≡ c = (bytes_eq-Decides a c).0 parts.0 in
     λ i. sym same i ∷ after-prefix p x parts.1 i
 
@@ -58,7 +58,7 @@ prefix-seen : (p x q : List (List ℕ)) → is_prefix p x ≡ true → is_prefix
 prefix-seen [] x q h = refl
 prefix-seen (a ∷ p) [] q h = absurd cc
 prefix-seen (a ∷ p) (c ∷ x) q h =
-    let parts = both (bytes_eq a c) (is_prefix p x) h in
+    let parts = and_parts (bytes_eq a c) (is_prefix p x) h in
     ap (λ (b : Bool). b && is_prefix x (p ++ q)) (sym (swap-bytes a c) ∙ parts.0) ∙ prefix-seen p x q parts.1
 
 -- another path is a prefix of a path below the directory only if it is one of the directory's
@@ -74,7 +74,7 @@ prefix-beside (a ∷ p) (c ∷ x) q h = go (bytes_eq c a) (ap (λ (b : Bool). b 
 prefix-longer : (x p q : List (List ℕ)) → is_prefix x p ≡ true → is_prefix x (p ++ q) ≡ true
 prefix-longer [] p q h = refl
 prefix-longer (a ∷ x) [] q h = absurd cc
-prefix-longer (a ∷ x) (b ∷ p) q h = let parts = both (bytes_eq a b) (is_prefix x p) h in join (bytes_eq a b) (is_prefix x (p ++ q)) parts.0 (prefix-longer x p q parts.1)
+prefix-longer (a ∷ x) (b ∷ p) q h = let parts = and_parts (bytes_eq a b) (is_prefix x p) h in and_from (bytes_eq a b) (is_prefix x (p ++ q)) parts.0 (prefix-longer x p q parts.1)
 
 -- the row at a path
 
@@ -126,7 +126,7 @@ last-seen : (p q x : List (List ℕ)) → is_prefix p x ≡ true → is_child q 
 last-seen p q x h child = go (under p x) refl child
   where
     go : (u : List (List ℕ)) → under p x ≡ u → is_child q u ≡ true → last_name u ≡ last_name x
-    go [] is child = absurd (never-one (length q) (both (is_prefix q []) (0 == length q + 1) child).1)
+    go [] is child = absurd (never-one (length q) (and_parts (is_prefix q []) (0 == length q + 1) child).1)
     go (y ∷ ys) is child = sym (last-under p y ys) ∙ ap last_name (sym (after-prefix p x h ∙ ap (λ (u : List (List ℕ)). p ++ u) is))
 
 pub children-below : (rows : List Entry) (p q : List (List ℕ)) → children (rows_below rows p) q ≡ children rows (p ++ q)
@@ -163,12 +163,6 @@ IsAbove p (Some e) = length e.path < length p
 abbrev AreZones : List (List ℕ) → Option Entry → Option Entry → Option Entry → Type 0
 AreZones p whole None up = (whole ≡ up) × IsAbove p up
 AreZones p whole (Some e) up = (f : Entry) × (whole ≡ Some f) × (f.path ≡ p ++ e.path)
-
-not-lt : (a b : ℕ) → b ≤ a → nat_lt a b ≡ false
-not-lt a b h = grind (arith, nat_tests, h)
-
-is-lt : (a b : ℕ) → a < b → nat_lt a b ≡ true
-is-lt a b h = grind (arith, nat_tests, h)
 
 more-lt : (n a b : ℕ) → nat_lt (n + a) (n + b) ≡ nat_lt a b
 more-lt n a b = go (nat_lt a b) refl
@@ -211,7 +205,7 @@ module _ (p : List (List ℕ)) (x : Entry) where
       first None above is = (x, ap (λ (o : Option Entry). Some (longer x o)) is, after-prefix p x.path h)
       first (Some u) above is = (
         x,
-        ap (λ (o : Option Entry). Some (longer x o)) is ∙ ap (λ (b : Bool). Some (cond b u x)) (not-lt (length x.path) (length u.path) (omega (arith, above, size))),
+        ap (λ (o : Option Entry). Some (longer x o)) is ∙ ap (λ (b : Bool). Some (cond b u x)) (le-ltb (length x.path) (length u.path) (omega (arith, above, size))),
         after-prefix p x.path h,
       )
   zone-below h whole (Some e) up up' zones = (
@@ -241,7 +235,7 @@ module _ (p : List (List ℕ)) (x : Entry) where
   zone-beside h whole (Some e) up zones =
       let size : length zones.0.path ≡ length p + length e.path = ap length zones.2 ∙ length-append p e.path in (
         zones.0,
-        ap (λ (o : Option Entry). Some (longer x o)) zones.1 ∙ ap (λ (b : Bool). Some (cond b zones.0 x)) (is-lt (length x.path) (length zones.0.path) (omega (arith, h, size))),
+        ap (λ (o : Option Entry). Some (longer x o)) zones.1 ∙ ap (λ (b : Bool). Some (cond b zones.0 x)) (lt-ltb (length x.path) (length zones.0.path) (omega (arith, h, size))),
         zones.2,
       )
 
@@ -261,8 +255,8 @@ zones-below (x ∷ rows) p q = go (is_prefix p x.path) refl (zones-below rows p 
     -- a row at or below the directory is over the directory only if it is over the path as well
     over-too : is_prefix p x.path ≡ true → is_zone_over p x ≡ true → (is_marked x.row && is_prefix (under p x.path) q) ≡ true
     over-too h over =
-        let parts = both (is_marked x.row) (is_prefix x.path p) over in
-        join (is_marked x.row) (is_prefix (under p x.path) q) parts.0 (sym (prefix-seen p x.path q h) ∙ prefix-longer x.path p q parts.1)
+        let parts = and_parts (is_marked x.row) (is_prefix x.path p) over in
+        and_from (is_marked x.row) (is_prefix (under p x.path) q) parts.0 (sym (prefix-seen p x.path q h) ∙ prefix-longer x.path p q parts.1)
 
     outside : (u v : Bool) → (v ≡ true → u ≡ true) → u ≡ false → v ≡ false
     outside u true h g = let f : true ≡ false = sym (h refl) ∙ g in absurd cc
@@ -275,7 +269,7 @@ zones-below (x ∷ rows) p q = go (is_prefix p x.path) refl (zones-below rows p 
         subst (λ (b : Bool). AreZones p whole seen (cond b (Some (longer x up)) up)) (sym (outside false v (λ e. sym over ∙ over-too h (is ∙ e)) refl)) zones
 
     beside : is_prefix p x.path ≡ false → (u : Bool) → is_zone_over p x ≡ u → AreZones p whole seen up → AreZones p (cond u (Some (longer x whole)) whole) seen (cond u (Some (longer x up)) up)
-    beside h true over zones = zone-beside p x (shorter-prefix x.path p (both (is_marked x.row) (is_prefix x.path p) over).1 h) whole seen up zones
+    beside h true over zones = zone-beside p x (shorter-prefix x.path p (and_parts (is_marked x.row) (is_prefix x.path p) over).1 h) whole seen up zones
     beside h false over zones = zones
 
     go : (t : Bool) → is_prefix p x.path ≡ t → AreZones p whole seen up
@@ -317,7 +311,7 @@ over-up p x short = go (same_path x.path p) refl
     never here marked =
         let path : x.path ≡ p = same-is x.path p here in
         let size : length x.path ≡ length p = ap length path in
-        let less = short (join (is_marked x.row) (is_prefix x.path p) marked (ap (λ (q : List (List ℕ)). is_prefix q p) path ∙ prefix-itself p)) in
+        let less = short (and_from (is_marked x.row) (is_prefix x.path p) marked (ap (λ (q : List (List ℕ)). is_prefix q p) path ∙ prefix-itself p)) in
         absurd (omega (arith, less, size))
 
     plain : same_path x.path p ≡ true → (m : Bool) → is_marked x.row ≡ m → (m && is_prefix x.path p) ≡ (m && is_prefix x.path (parent p))

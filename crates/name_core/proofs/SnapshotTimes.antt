@@ -8,6 +8,7 @@ use Rattle.std.specs.Str.{bytes_eq}
 use Rattle.std.proofs.lemmas.Bool.Decides.{nat_tests}
 use Rattle.std.proofs.lemmas.List.Elements.{All-head, All-tail}
 use Rattle.std.proofs.lemmas.Slice.Eq.{bytes_eq-Decides}
+use Rattle.std.proofs.lemmas.Bool.{not-false, and_parts, and_from, eqb-true}
 use Rattle.hk_base.specs.declared.names.KeyName.{KeyName}
 use Rattle.name_calls.specs.Paths.{is_child, is_prefix, parent, same_path}
 use Rattle.name_calls.specs.ReadPaths.{as_it_was}
@@ -32,7 +33,7 @@ use Rattle.name_calls.specs.declared.calls.NameRefusal.TheVariants as refusal
 use Rattle.name_calls.specs.declared.calls.NameReply.TheVariants as reply
 use Rattle.name_store.specs.Causes.{allowed_causes, directory_causes, disallow_causes, first_cause, id_at, id_of, is_root, kept_causes, make_causes, removal_causes, row_causes, unsnap_causes}
 use Rattle.name_store.specs.Table.{IsTable, NameTable, after_table, allows, ids_once, may_update, new_directory, new_file}
-use Rattle.name_store.proofs.CauseLemmas.{IsDisallowable, IsMarkable, allowed, both, clear, directory, disallowable, holds-none, join, makeable, markable, none-of-both, none-of-join, renamable}
+use Rattle.name_store.proofs.CauseLemmas.{IsDisallowable, IsMarkable, allowed, clear, directory, disallowable, holds-none, makeable, markable, none-of-both, none-of-join, renamable}
 use Rattle.name_store.proofs.IdLemmas.{kind-id}
 use Rattle.name_store.proofs.RowLemmas.{directory-entry, entry-at}
 use Rattle.name_core.specs.Reads.{answer_unless, entry_causes, info_answer, info_reply, list_answer, list_reply, shown_at, snapshot_rows, zone_in_or_above, zone_over}
@@ -41,7 +42,6 @@ use Rattle.name_core.proofs.DeleteLaws.{other-row, other-zone}
 use Rattle.name_core.proofs.EdekRows.{all-files, row-edeks, zone-edeks}
 use Rattle.name_core.proofs.LawLemmas.{prefix-parent, row-other, zone-same}
 use Rattle.name_core.proofs.SnapshotLaws.{behind-none, missing, stays}
-use Rattle.name_core.proofs.SnapshotZones.{equal}
 use Rattle.name_core.proofs.ZoneLaws.{kind-path}
 
 -- a snapshot that is read
@@ -51,15 +51,11 @@ record IsRead (t : NameTable) (p : List (List ℕ)) (name : List ℕ) : Type 0 w
   was : Snapshot
   named : snapshot_named t.snaps.taken (id_at t.rows p) name ≡ Some was
 
-yes : (b : Bool) → not b ≡ false → b ≡ true
-yes true h = refl
-yes false h = absurd cc
-
 is-read : (t : NameTable) (p : List (List ℕ)) (name : List ℕ) → first_cause (unsnap_causes t.rows t.snaps p name) ≡ None → IsRead t p name
 is-read t p name free =
     let dir = none-of-both (directory_causes t.rows p) (allowed_causes t.rows t.snaps p ++ missing t p name) free in
     let may = none-of-both (allowed_causes t.rows t.snaps p) (missing t p name) dir.1 in
-    go (directory t.rows p dir.0) (yes _ (clear (not (is_among t.snaps.allowed (id_at t.rows p))) refusal.NotSnapshottable None may.0).0)
+    go (directory t.rows p dir.0) (not-false _ (clear (not (is_among t.snaps.allowed (id_at t.rows p))) refusal.NotSnapshottable None may.0).0)
     (snapshot_named t.snaps.taken (id_at t.rows p) name) refl (clear (is_none (snapshot_named t.snaps.taken (id_at t.rows p) name)) refusal.NoSuchSnapshot None may.1).0
   where
     go : is_dir_at (row_at t.rows p) ≡ true → is_among t.snaps.allowed (id_at t.rows p) ≡ true → (o : Option Snapshot) → snapshot_named t.snaps.taken (id_at t.rows p) name ≡ o → is_none o ≡ false → IsRead t p name
@@ -112,7 +108,7 @@ among-kept keeps (i ∷ ids) id kept h = go (keeps i) refl (i == id) refl h (amo
         → is_among (cond b (i ∷ filter keeps ids) (filter keeps ids)) id ≡ true
     go true k true same h rest = ap (λ (c : Bool). c || is_among (filter keeps ids) id) same
     go true k false other h rest = ap (λ (c : Bool). c || is_among (filter keeps ids) id) other ∙ rest h
-    go false k true same h rest = let f : true ≡ false = sym kept ∙ ap keeps (sym (equal i id same)) ∙ k in absurd cc
+    go false k true same h rest = let f : true ≡ false = sym kept ∙ ap keeps (sym (eqb-true i id same)) ∙ k in absurd cc
     go false k false other h rest = rest h
 
 -- a directory that holds no snapshot is not above that of one
@@ -128,7 +124,7 @@ apart-from t p q name good r none = (below, sym (ap (λ (o : Option Entry). opti
     named (x ∷ taken) s is = go (is_named (id_at t.rows p) name x) refl is (named taken s)
       where
         go : (b : Bool) → is_named (id_at t.rows p) name x ≡ b → cond b (Some x) (find (is_named (id_at t.rows p) name) taken) ≡ Some s → (find (is_named (id_at t.rows p) name) taken ≡ Some s → s.dir ≡ id_at t.rows p) → s.dir ≡ id_at t.rows p
-        go true at is rest = let same : x ≡ s = cc in ap (λ (y : Snapshot). y.dir) (sym same) ∙ equal x.dir (id_at t.rows p) (both (x.dir == id_at t.rows p) (bytes_eq x.name name) at).0
+        go true at is rest = let same : x ≡ s = cc in ap (λ (y : Snapshot). y.dir) (sym same) ∙ eqb-true x.dir (id_at t.rows p) (and_parts (x.dir == id_at t.rows p) (bytes_eq x.name name) at).0
         go false at is rest = rest is
 
     below : at_or_below t.rows (id_at t.rows p) q ≡ false
@@ -210,8 +206,8 @@ zone-beside (x ∷ es) p q id kind only out =
     go : (b : Bool) → (x.row.id == id) ≡ b → zone_of (set_kind es id kind) p ≡ zone_of es p → zone_of ((cond b (record x { row = record { id = id; kind = kind } }) x) ∷ set_kind es id kind) p ≡ zone_of (x ∷ es) p
     go true is rest =
         ap (λ (c : Bool). cond c (Some (longer (record x { row = record { id = id; kind = kind } }) (zone_of (set_kind es id kind) p))) (zone_of (set_kind es id kind) p))
-        (over (record x { row = record { id = id; kind = kind } }) refl (equal x.row.id id is))
-        ∙ rest ∙ ap (λ (c : Bool). cond c (Some (longer x (zone_of es p))) (zone_of es p)) (sym (over x refl (equal x.row.id id is)))
+        (over (record x { row = record { id = id; kind = kind } }) refl (eqb-true x.row.id id is))
+        ∙ rest ∙ ap (λ (c : Bool). cond c (Some (longer x (zone_of es p))) (zone_of es p)) (sym (over x refl (eqb-true x.row.id id is)))
     go false is rest = ap (λ (o : Option Entry). cond (is_zone_over p x) (Some (longer x o)) o) rest
 
 -- the parent of a path
@@ -223,13 +219,13 @@ parent-shorter x (y ∷ p) = ap suc (parent-shorter y p)
 parent-prefix : (p : List (List ℕ)) → is_prefix (parent p) p ≡ true
 parent-prefix [] = refl
 parent-prefix (x ∷ []) = refl
-parent-prefix (x ∷ y ∷ p) = join (bytes_eq x x) (is_prefix (parent (y ∷ p)) (y ∷ p)) ((bytes_eq-Decides x x).1 refl) (parent-prefix (y ∷ p))
+parent-prefix (x ∷ y ∷ p) = and_from (bytes_eq x x) (is_prefix (parent (y ∷ p)) (y ∷ p)) ((bytes_eq-Decides x x).1 refl) (parent-prefix (y ∷ p))
 
 same-length : (a b : ℕ) → a ≡ b → (suc a == b + 1) ≡ true
 same-length a b h = grind (arith, nat_tests, h)
 
 child-of-parent : (x : List ℕ) (p : List (List ℕ)) → is_child (parent (x ∷ p)) (x ∷ p) ≡ true
-child-of-parent x p = join (is_prefix (parent (x ∷ p)) (x ∷ p)) (length (x ∷ p) == length (parent (x ∷ p)) + 1) (parent-prefix (x ∷ p)) (same-length (length p) (length (parent (x ∷ p))) (parent-shorter x p))
+child-of-parent x p = and_from (is_prefix (parent (x ∷ p)) (x ∷ p)) (length (x ∷ p) == length (parent (x ∷ p)) + 1) (parent-prefix (x ∷ p)) (same-length (length p) (length (parent (x ∷ p))) (parent-shorter x p))
 
 any-at : (f : List (List ℕ) → Bool) (es : List Entry) (p : List (List ℕ)) → is_dir_at (row_at es p) ≡ true → f p ≡ true → list_any (λ (e : Entry). f e.path) es ≡ true
 any-at f [] p h at = absurd cc
@@ -337,7 +333,7 @@ among-without t p q name good r free = among-kept (λ (i : ℕ). not (i == id_at
 
     apart : (b : Bool) → (id_at t.rows p == id_at t.rows q) ≡ b → b ≡ false
     apart true is =
-        let f : true ≡ false = sym itself ∙ ap (λ (id : ℕ). at_or_below t.rows id q) (sym (equal (id_at t.rows p) (id_at t.rows q) is)) ∙ (apart-from t p q name good r may.none).0 in absurd cc
+        let f : true ≡ false = sym itself ∙ ap (λ (id : ℕ). at_or_below t.rows id q) (sym (eqb-true (id_at t.rows p) (id_at t.rows q) is)) ∙ (apart-from t p q name good r may.none).0 in absurd cc
     apart false is = refl
 
 -- after each operation
@@ -364,7 +360,7 @@ same-after t (op.Snap q n) p name good may r = same-rows t (after_table t (op.Sn
 same-after t (op.Unsnap q n) p name good may r = same-rows t (after_table t (op.Unsnap q n)) p r.dir refl refl r.allowed
 same-after t (op.Submit session q noted) p name good may r = same-rows t (after_table t (op.Submit session q noted)) p r.dir refl refl r.allowed
 same-after t (op.Update session failed mark files) p name good may r =
-    let files-are = all-files t session files good.rules (both (ids_once files) (list_all (may_update t session) files) (allowed t (op.Update session failed mark files) refl may).fits).1 in
+    let files-are = all-files t session files good.rules (and_parts (ids_once files) (list_all (may_update t session) files) (allowed t (op.Update session failed mark files) refl may).fits).1 in
     same-rows t (after_table t (op.Update session failed mark files)) p r.dir (row-edeks files t.rows p files-are r.dir) (zone-edeks files t.rows (parent p) files-are) r.allowed
 same-after t (op.Cancel session) p name good may r = same-rows t (after_table t (op.Cancel session)) p r.dir refl refl r.allowed
 same-after t (op.Complete session) p name good may r = same-rows t (after_table t (op.Complete session)) p r.dir refl refl r.allowed

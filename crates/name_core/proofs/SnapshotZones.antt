@@ -7,6 +7,7 @@ use Rattle.std.specs.Str.{bytes_eq}
 use Rattle.std.proofs.lemmas.Bool.Decides.{nat_tests}
 use Rattle.std.proofs.lemmas.List.Elements.{All-head, All-nil, All-tail}
 use Rattle.std.proofs.lemmas.Slice.Eq.{bytes_eq-Decides}
+use Rattle.std.proofs.lemmas.Bool.{eqb-true, and_parts}
 use Rattle.name_calls.specs.Paths.{is_prefix, is_relative, parent}
 use Rattle.name_calls.specs.declared.read_paths.SnapPart.{SnapPart}
 use Rattle.inode_tree.specs.declared.rows.Row.{Row}
@@ -15,7 +16,6 @@ use Rattle.snap_store.specs.Snapshots.{Snapshot, is_named, snapshot_named, zone_
 use Rattle.snap_store.proofs.Zones.{prefix-length}
 use Rattle.name_store.specs.Causes.{id_at, id_of}
 use Rattle.name_store.specs.Table.{IsTable, NameTable, path_of}
-use Rattle.name_store.proofs.CauseLemmas.{both}
 use Rattle.name_store.proofs.RowLemmas.{entry-at}
 use Rattle.name_core.specs.Reads.{path_of_zone, snapshot_rows, zone_in_or_above, zone_in_snapshot, zone_over}
 use Rattle.name_core.proofs.RowLemmas.{HoldsOf, zone-holds}
@@ -45,9 +45,6 @@ found P test (x ∷ taken) s all h = go (test x) refl (found P test taken s (All
     go true is rest h = let same : x ≡ s = cc in (subst P same (All-head P x taken all), ap test (sym same) ∙ is)
     go false is rest h = rest h
 
-pub equal : (a b : ℕ) → (a == b) ≡ true → a ≡ b
-equal a b h = grind (arith, nat_tests)
-
 -- the path of each row of a snapshot, seen from the root, keeps the rule
 
 abbrev Keeps : List (List ℕ) → Entry → Type 0
@@ -60,7 +57,7 @@ whole-rows t p name good stands = go (snapshot_named t.snaps.taken (id_at t.rows
     go None is = All-nil (Keeps p)
     go (Some s) is =
         let its = found (λ (x : Snapshot). All (Keeps (path_of t.rows x.dir)) x.rows) (is_named (id_at t.rows p) name) t.snaps.taken s good.fits.whole is in
-        let dir : s.dir ≡ id_at t.rows p = equal s.dir (id_at t.rows p) (both (s.dir == id_at t.rows p) (bytes_eq s.name name) its.1).0 in
+        let dir : s.dir ≡ id_at t.rows p = eqb-true s.dir (id_at t.rows p) (and_parts (s.dir == id_at t.rows p) (bytes_eq s.name name) its.1).0 in
         subst (λ (q : List (List ℕ)). All (Keeps q) s.rows) (ap (path_of t.rows) dir ∙ path-there t.rows p good.rules stands) its.0
 
 -- the zone's path is a prefix of the path
@@ -69,7 +66,7 @@ pub prefix-take : (a p : List (List ℕ)) → is_prefix a p ≡ true → take (l
 prefix-take [] p h = refl
 prefix-take (x ∷ a) [] h = absurd cc
 prefix-take (x ∷ a) (y ∷ p) h =
-    let parts = both (bytes_eq x y) (is_prefix a p) h in
+    let parts = and_parts (bytes_eq x y) (is_prefix a p) h in
     let same : x ≡ y = (bytes_eq-Decides x y).0 parts.0 in
     λ i. sym same i ∷ prefix-take a p parts.1 i
 
@@ -83,8 +80,8 @@ zone-prefix (e ∷ es) p = go (is_zone_over p e) refl (zone_of es p) (zone-prefi
 
     go : (t : Bool) → is_zone_over p e ≡ t → (o : Option Entry) → HoldsOf (λ (e : Entry). is_prefix e.path p ≡ true) o → HoldsOf (λ (e : Entry). is_prefix e.path p ≡ true) (cond t (Some (longer e o)) o)
     go false is o rest = rest
-    go true is None rest = (both (is_marked e.row) (is_prefix e.path p) is).1
-    go true is (Some f) rest = one _ f (both (is_marked e.row) (is_prefix e.path p) is).1 rest
+    go true is None rest = (and_parts (is_marked e.row) (is_prefix e.path p) is).1
+    go true is (Some f) rest = one _ f (and_parts (is_marked e.row) (is_prefix e.path p) is).1 rest
 
 -- the zone in a snapshot, by the number of names of its path
 pub record ZoneThere (t : NameTable) (p : List (List ℕ)) (part : SnapPart) (n : ℕ) : Type 0 where

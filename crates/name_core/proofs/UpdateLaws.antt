@@ -1,9 +1,8 @@
 -- The laws of deliveries, and of batches given up.
 use Rattle.std.proofs.Common.{◌≡◌, ℕ, suc, Bool, true, false, cond, ◌&&◌, ◌||◌, List, [], ◌∷◌, length, Option, Some, None, Ok, Err, is_some, refl, sym, ap, ◌∙◌, arith}
-use Rattle.std.specs.Prelude.{◌==◌}
 use Rattle.std.specs.List.{filter}
 use Rattle.std.specs.Option.{option_and_then, option_map_or}
-use Rattle.std.proofs.lemmas.Bool.Decides.{nat_tests}
+use Rattle.std.proofs.lemmas.Bool.{eq-eqb}
 use Rattle.name_calls.specs.declared.calls.NameRefusal.TheVariants as refusal
 use Rattle.name_calls.specs.declared.status.Delivered.TheVariants.{Applied, Ignored}
 use Rattle.reenc_update.specs.declared.changes.Changes.{Changes}
@@ -23,9 +22,6 @@ use Rattle.name_core.specs.Laws.{Delivery, GivingUp, IsUpdateOf, KeptUpdatesReti
 use Rattle.name_core.proofs.UpdateCalls.{deed-applied, deed-ignored}
 use Rattle.name_core.proofs.UpdateLemmas.{Outstanding, outstanding-at, with_update}
 use Rattle.name_core.proofs.WalkLemmas.{found-session}
-
-itself : (a b : ℕ) → a ≡ b → (a == b) ≡ true
-itself a b h = grind (arith, nat_tests, h)
 
 -- the batches that have sent the files
 
@@ -74,11 +70,11 @@ going-counted walks session changed failed mark (s ∷ ss) zone = go (goes_on_un
     go false rest = later (is_status_of zone s) rest
 
 under-with : (w : WalkState) (ws : List WalkState) → walk_under (with_walk w ws) w.session ≡ Some w
-under-with w [] = ap (λ (b : Bool). cond b (Some w) None) (itself w.session w.session refl)
+under-with w [] = ap (λ (b : Bool). cond b (Some w) None) (eq-eqb w.session w.session refl)
 under-with w (x ∷ ws) = go (is_walk_of w.session x) refl (under-with w ws)
   where
     go : (b : Bool) → is_walk_of w.session x ≡ b → walk_under (with_walk w ws) w.session ≡ Some w → walk_under (cond b (w ∷ ws) (x ∷ with_walk w ws)) w.session ≡ Some w
-    go true is rest = ap (λ (b : Bool). cond b (Some w) (walk_under ws w.session)) (itself w.session w.session refl)
+    go true is rest = ap (λ (b : Bool). cond b (Some w) (walk_under ws w.session)) (eq-eqb w.session w.session refl)
     go false is rest = ap (λ (b : Bool). cond b (Some x) (walk_under (with_walk w ws) w.session)) is ∙ rest
 
 module _ (s : NameState) (note : BatchNote) (changes : Changes) (has : is_outstanding s note ≡ true) where
@@ -98,7 +94,7 @@ module _ (s : NameState) (note : BatchNote) (changes : Changes) (has : is_outsta
       ∙ ap (walk_under walks) o.session_is
 
   count-of : (w : WalkState) → w.session ≡ note.session → batches_of_walk note w ≡ of note.sent w.batches
-  count-of w same = ap (λ (b : Bool). cond b (of note.sent w.batches) 0) (itself w.session note.session same)
+  count-of w same = ap (λ (b : Bool). cond b (of note.sent w.batches) 0) (eq-eqb w.session note.session same)
 
   before : batches_of s note ≡ of note.sent o.walk.batches
   before = ap (λ (w : Option WalkState). option_map_or (batches_of_walk note) w 0) (going s.walks ∙ o.under) ∙ count-of o.walk session_is

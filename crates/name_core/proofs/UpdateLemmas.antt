@@ -4,8 +4,8 @@ use Rattle.std.specs.Prelude.{◌==◌}
 use Rattle.std.specs.List.{list_all, list_any, position}
 use Rattle.std.specs.Option.{option_and_then, option_map_or}
 use Rattle.std.specs.Str.{bytes_eq}
-use Rattle.std.proofs.lemmas.Bool.Decides.{nat_tests}
 use Rattle.std.proofs.lemmas.Slice.Eq.{bytes_eq-Decides}
+use Rattle.std.proofs.lemmas.Bool.{eqb-true, not-true, eq-eqb, and_parts, and_from as join}
 use Rattle.hk_base.specs.Names.{Encrypted}
 use Rattle.edit_ops.specs.declared.files.FileKey.{FileKey}
 use Rattle.inode_tree.specs.Rows.{Entry, entry_of, same_id, zone_id}
@@ -25,16 +25,12 @@ use Rattle.zone_table.specs.Statuses.{goes_on, goes_on_under, session_goes_on, s
 use Rattle.zone_table.proofs.StatusLists.{found-at}
 use Rattle.name_store.specs.Causes.{first_cause}
 use Rattle.name_store.specs.Table.{NameTable, allows, ids_once, is_of_key, is_under, may_update}
-use Rattle.name_store.proofs.CauseLemmas.{both, join}
 use Rattle.name_core.specs.State.{AreRecent, IdsFit, NameState, WalksOnce, is_walk_of, next_id, retired_under, sent_once, walk_under, with_walk}
 use Rattle.name_core.specs.Steps.{IsBehind, MayUpdate, MayWrite}
 use Rattle.name_core.specs.Updates.{UpdateDeed, applied, deliver_deed, give_up_deed, has_note, ignored, is_outstanding, update_deed, update_op, walk_of_status}
 use Rattle.name_core.proofs.AllowedLemmas.{none-taken, plainly-allowed}
 use Rattle.name_core.proofs.OnceLemmas.{batch-once, once-under}
 use Rattle.name_core.proofs.WalkLemmas.{found-goes, found-session, walk-placed}
-
-equal : (a b : ℕ) → (a == b) ≡ true → a ≡ b
-equal a b h = grind (arith, nat_tests, h)
 
 -- a batch that is retired in its place
 
@@ -69,8 +65,8 @@ outstanding-at s note h = by-status (status_of s.table.statuses note.zone) refl 
         → Outstanding s note
     by-walk st found goes None under h = absurd cc
     by-walk st found goes (Some w) under h =
-        let parts = both (w.session == note.session) (has_batch w.batches note.sent) h in
-        let session : st.session ≡ note.session = sym (found-session s.walks st.session w under) ∙ equal w.session note.session parts.0 in
+        let parts = and_parts (w.session == note.session) (has_batch w.batches note.sent) h in
+        let session : st.session ≡ note.session = sym (found-session s.walks st.session w under) ∙ eqb-true w.session note.session parts.0 in
         record { status = st; found = found; goes = goes; session_is = session; walk = w; under = ap (walk_under s.walks) (sym session) ∙ under; has = parts.1 }
 
     by-goes : (st : StatusRow) → status_of s.table.statuses note.zone ≡ Some st → (b : Bool) → goes_on st ≡ b → option_map_or (has_note note) (cond b (walk_under s.walks st.session) None) false ≡ true
@@ -108,30 +104,26 @@ changed-free rows zone (x ∷ xs) (e ∷ es) id h = by (x.id == id) refl h (chan
     by true is h rest = absurd cc
     by false is h rest = go (is_changed rows zone x e) is (rest h)
 
-absent : (b : Bool) → not b ≡ true → b ≡ false
-absent true h = absurd cc
-absent false h = refl
-
 pub changed-once : (rows : List Entry) (zone : ℕ) (xs : List Sent) (edeks : List Encrypted) → sent_once xs ≡ true → ids_once (changed rows zone xs edeks) ≡ true
 changed-once rows zone [] edeks h = refl
 changed-once rows zone (x ∷ xs) [] h = refl
 changed-once rows zone (x ∷ xs) (e ∷ es) h = go (is_changed rows zone x e) (changed-once rows zone xs es)
   where
     parts : (not (list_any (λ (y : Sent). y.id == x.id) xs) ≡ true) × (sent_once xs ≡ true)
-    parts = both (not (list_any (λ (y : Sent). y.id == x.id) xs)) (sent_once xs) h
+    parts = and_parts (not (list_any (λ (y : Sent). y.id == x.id) xs)) (sent_once xs) h
 
     go : (b : Bool) → (sent_once xs ≡ true → ids_once (changed rows zone xs es) ≡ true)
         → ids_once (cond b ((record { id = x.id; edek = e }) ∷ changed rows zone xs es) (changed rows zone xs es)) ≡ true
     go true rest =
         join (not (list_any (λ (g : FileKey). g.id == x.id) (changed rows zone xs es))) (ids_once (changed rows zone xs es))
-        (ap not (changed-free rows zone xs es x.id (absent (list_any (λ (y : Sent). y.id == x.id) xs) parts.0))) (rest parts.1)
+        (ap not (changed-free rows zone xs es x.id (not-true (list_any (λ (y : Sent). y.id == x.id) xs) parts.0))) (rest parts.1)
     go false rest = rest parts.1
 
 -- each of them may get its key
 
 same-zone : (o : Option ℕ) (zone : ℕ) → same_id o (Some zone) ≡ true → o ≡ Some zone
 same-zone None zone h = absurd cc
-same-zone (Some i) zone h = ap Some (equal i zone h)
+same-zone (Some i) zone h = ap Some (eqb-true i zone h)
 
 same-bytes : (a b c : List ℕ) → bytes_eq a b ≡ true → bytes_eq b c ≡ true → bytes_eq a c ≡ true
 same-bytes a b c h k = (bytes_eq-Decides a c).1 ((bytes_eq-Decides a b).0 h ∙ (bytes_eq-Decides b c).0 k)
@@ -141,7 +133,7 @@ same-key a b h =
     let key = bytes_eq a.version.key b.version.key in
     let number = a.version.number == b.version.number in
     let iv = bytes_eq a.iv b.iv in
-    (both key number (both (key && number) iv (both (key && number && iv) (bytes_eq a.sealed b.sealed) h).0).0).0
+    (and_parts key number (and_parts (key && number) iv (and_parts (key && number && iv) (bytes_eq a.sealed b.sealed) h).0).0).0
 
 module _ (t : NameTable) (zone session : ℕ) (going : option_map_or (goes_on_under session) (status_of t.statuses zone) false ≡ true) where
   zone-goes : (e : Entry) → same_id (zone_id t.rows e.path) (Some zone) ≡ true → option_map_or (λ zone. option_map_or (goes_on_under session) (status_of t.statuses zone) false) (zone_id t.rows e.path) false ≡ true
@@ -154,13 +146,13 @@ module _ (t : NameTable) (zone session : ℕ) (going : option_map_or (goes_on_un
   of-key f x (Some k) key h = same-bytes f.edek.version.key x.edek.version.key k.version.key key (same-key x.edek k h)
 
   may-change : (x : Sent) (e : Encrypted) → bytes_eq e.version.key x.edek.version.key ≡ true → is_changed t.rows zone x e ≡ true → may_update t session (record { id = x.id; edek = e }) ≡ true
-  may-change x e key h = go (entry_of t.rows x.id) (both (option_map_or (has_edek t.rows zone x.edek) (entry_of t.rows x.id) false) (not (same_edek x.edek e)) h).0
+  may-change x e key h = go (entry_of t.rows x.id) (and_parts (option_map_or (has_edek t.rows zone x.edek) (entry_of t.rows x.id) false) (not (same_edek x.edek e)) h).0
     where
       go : (o : Option Entry) → option_map_or (has_edek t.rows zone x.edek) o false ≡ true → option_map_or (λ r. is_under t session r && is_of_key (record { id = x.id; edek = e }) r) o false ≡ true
       go None h = absurd cc
       go (Some r) h =
-          let parts = both (is_file_of t.rows zone r) (option_map_or (same_edek x.edek) (edek_of r.row.kind) false) h in
-          let file = both (is_some (edek_of r.row.kind)) (same_id (zone_id t.rows r.path) (Some zone)) parts.0 in
+          let parts = and_parts (is_file_of t.rows zone r) (option_map_or (same_edek x.edek) (edek_of r.row.kind) false) h in
+          let file = and_parts (is_some (edek_of r.row.kind)) (same_id (zone_id t.rows r.path) (Some zone)) parts.0 in
           join (is_under t session r) (is_of_key (record { id = x.id; edek = e }) r) (join (is_some (edek_of r.row.kind)) _ file.0 (zone-goes r file.1))
           (of-key (record { id = x.id; edek = e }) x (edek_of r.row.kind) key parts.1)
 
@@ -170,20 +162,17 @@ module _ (t : NameTable) (zone session : ℕ) (going : option_map_or (goes_on_un
   changed-may (x ∷ xs) (e ∷ es) h = go (is_changed t.rows zone x e) refl (changed-may xs es)
     where
       parts : (bytes_eq e.version.key x.edek.version.key ≡ true) × (are_of_keys xs es ≡ true)
-      parts = both (bytes_eq e.version.key x.edek.version.key) (are_of_keys xs es) h
+      parts = and_parts (bytes_eq e.version.key x.edek.version.key) (are_of_keys xs es) h
 
       go : (b : Bool) → is_changed t.rows zone x e ≡ b → (are_of_keys xs es ≡ true → list_all (may_update t session) (changed t.rows zone xs es) ≡ true)
           → list_all (may_update t session) (cond b ((record { id = x.id; edek = e }) ∷ changed t.rows zone xs es) (changed t.rows zone xs es)) ≡ true
       go true is rest = join (may_update t session (record { id = x.id; edek = e })) (list_all (may_update t session) (changed t.rows zone xs es)) (may-change x e parts.0 is) (rest parts.1)
       go false is rest = rest parts.1
 
-itself : (a b : ℕ) → a ≡ b → (a == b) ≡ true
-itself a b h = grind (arith, nat_tests, h)
-
 going-under : (s : NameState) (note : BatchNote) → Outstanding s note → option_map_or (goes_on_under note.session) (status_of s.table.statuses note.zone) false ≡ true
 going-under s note o =
     ap (λ (x : Option StatusRow). option_map_or (goes_on_under note.session) x false) o.found
-    ∙ join (o.status.session == note.session) (goes_on o.status) (itself o.status.session note.session o.session_is) o.goes
+    ∙ join (o.status.session == note.session) (goes_on o.status) (eq-eqb o.status.session note.session o.session_is) o.goes
 
 pub may-deliver : (s : NameState) (note : BatchNote) (result : BatchResult) → WalksOnce s.walks → Fits note.sent result → is_outstanding s note ≡ true
     → MayUpdate s note (changes_of s.table.rows note.zone note.sent result)

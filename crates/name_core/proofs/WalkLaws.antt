@@ -3,6 +3,7 @@ use Rattle.std.proofs.Common.{◌≡◌, ◌⊎◌, inl, inr, ℕ, Bool, true, f
 use Rattle.std.specs.Prelude.{◌==◌}
 use Rattle.std.specs.Option.{option_map, option_map_or}
 use Rattle.std.proofs.lemmas.Bool.Decides.{nat_tests}
+use Rattle.std.proofs.lemmas.Bool.{eq-eqb, ne_eqb}
 use Rattle.edit_ops.specs.declared.ops.EditOp.TheVariants as op
 use Rattle.inode_tree.specs.Rows.{Entry}
 use Rattle.name_calls.specs.declared.calls.NameCall.TheVariants as call
@@ -49,19 +50,13 @@ status-ended session cancelled (s ∷ ss) zone =
     go true rest = refl
     go false rest = rest
 
-itself : (a b : ℕ) → a ≡ b → (a == b) ≡ true
-itself a b h = grind (arith, nat_tests, h)
-
-unlike : (a b : ℕ) → (a ≡ b → ⊥) → (a == b) ≡ false
-unlike a b h = grind (arith, nat_tests, h)
-
 -- one that goes on under the session
 end-here : (session : ℕ) (cancelled : Bool) (s : StatusRow) → s.session ≡ session → goes_on s ≡ true → with_end session cancelled s ≡ record s { completed = true; cancelled = cancelled }
 end-here session cancelled s is goes =
-    (λ i. cond (itself s.session session is i && goes i) (record s { completed = true; cancelled = cancelled }) s)
+    (λ i. cond (eq-eqb s.session session is i && goes i) (record s { completed = true; cancelled = cancelled }) s)
 
 end-elsewhere : (session : ℕ) (cancelled : Bool) (s : StatusRow) → (s.session ≡ session → ⊥) → with_end session cancelled s ≡ s
-end-elsewhere session cancelled s other = ap (λ (b : Bool). cond (b && goes_on s) (record s { completed = true; cancelled = cancelled }) s) (unlike s.session session other)
+end-elsewhere session cancelled s other = ap (λ (b : Bool). cond (b && goes_on s) (record s { completed = true; cancelled = cancelled }) s) (ne_eqb s.session session other)
 
 -- the status of a zone whose session has ended
 ended-at : (t : NameTable) (p : List (List ℕ)) (cancelled : Bool) (g : GoesOn t p) → status_of (ended (session_at t p) cancelled t.statuses) (id_at t.rows p) ≡ Some (record g.status { completed = true; cancelled = cancelled })

@@ -4,6 +4,7 @@ use Rattle.std.specs.Prelude.{◌==◌}
 use Rattle.std.specs.List.{position, position_or_len}
 use Rattle.std.specs.Option.{option_map_or}
 use Rattle.std.proofs.lemmas.Bool.Decides.{nat_tests}
+use Rattle.std.proofs.lemmas.Bool.{not-false, or_right, and_from}
 use Rattle.edit_ops.specs.declared.ops.EditOp.{EditOp}
 use Rattle.edit_ops.specs.declared.ops.EditOp.TheVariants as op
 use Rattle.inode_tree.specs.Rows.{Entry}
@@ -15,24 +16,16 @@ use Rattle.zone_table.specs.Statuses.{goes_on, goes_on_under, is_of, session_goe
 use Rattle.zone_table.proofs.StatusLists.{placed, unplaced}
 use Rattle.name_store.specs.Causes.{first_cause, going_causes, id_at, zone_root_causes}
 use Rattle.name_store.specs.Table.{NameTable}
-use Rattle.name_store.proofs.CauseLemmas.{clear, join, none-of-both}
+use Rattle.name_store.proofs.CauseLemmas.{clear, none-of-both}
 use Rattle.name_core.specs.declared.walks.Walked.{Walked}
 use Rattle.name_core.specs.declared.walks.Walked.TheVariants as result
 use Rattle.name_core.specs.State.{NameState}
 use Rattle.name_core.specs.Walks.{WalkDeed, deed_by_files, deed_by_status, is_walk_of, new_walk, or_new_walk, session_at, status_at, walk_deed, walk_of, walk_under, with_walk}
 
-yes : (b : Bool) → not b ≡ false → b ≡ true
-yes true h = refl
-yes false h = absurd cc
-
 itself : (n : ℕ) → (n == n) ≡ true
 itself n = grind (arith, nat_tests)
 
 -- the status of a zone that is being re-encrypted
-
-or-yes : (a b : Bool) → b ≡ true → (a || b) ≡ true
-or-yes true b h = refl
-or-yes false b h = h
 
 -- its session goes on
 pub found-goes : (statuses : List StatusRow) (zone : ℕ) (st : StatusRow) → status_of statuses zone ≡ Some st → goes_on st ≡ true → session_goes_on statuses st.session ≡ true
@@ -43,8 +36,8 @@ found-goes (s ∷ ss) zone st is h = go (is_of zone s) is (found-goes ss zone st
         → (goes_on_under st.session s || session_goes_on ss st.session) ≡ true
     go true is rest =
         let same : s ≡ st = cc in
-        ap (λ (b : Bool). b || session_goes_on ss st.session) (ap (goes_on_under st.session) same ∙ join (st.session == st.session) (goes_on st) (itself st.session) h)
-    go false is rest = or-yes (goes_on_under st.session s) (session_goes_on ss st.session) (rest is h)
+        ap (λ (b : Bool). b || session_goes_on ss st.session) (ap (goes_on_under st.session) same ∙ and_from (st.session == st.session) (goes_on st) (itself st.session) h)
+    go false is rest = or_right (goes_on_under st.session s) (session_goes_on ss st.session) (rest is h)
 
 pub record GoesOn (t : NameTable) (p : List (List ℕ)) : Type 0 where
   pub status : StatusRow
@@ -52,7 +45,7 @@ pub record GoesOn (t : NameTable) (p : List (List ℕ)) : Type 0 where
   pub goes : goes_on status ≡ true
 
 pub zone-goes : (t : NameTable) (p : List (List ℕ)) → first_cause (going_causes t.rows t.statuses p) ≡ None → GoesOn t p
-zone-goes t p h = go (status_at t p) refl (yes _ (clear (not (zone_goes_on t.statuses (id_at t.rows p))) refusal.NotSubmitted None its).0)
+zone-goes t p h = go (status_at t p) refl (not-false _ (clear (not (zone_goes_on t.statuses (id_at t.rows p))) refusal.NotSubmitted None its).0)
   where
     its : first_cause ((not (zone_goes_on t.statuses (id_at t.rows p)), refusal.NotSubmitted) ∷ []) ≡ None
     its = (none-of-both (zone_root_causes t.rows p) ((not (zone_goes_on t.statuses (id_at t.rows p)), refusal.NotSubmitted) ∷ []) h).1

@@ -5,9 +5,9 @@ use Rattle.std.specs.Bool.{⊤}
 use Rattle.std.specs.List.{AllByRecursion, filter}
 use Rattle.std.specs.Option.{option_map_or}
 use Rattle.std.proofs.lemmas.Bool.Decides.{nat_tests}
+use Rattle.std.proofs.lemmas.Bool.{false_from_ne_true, and_parts}
 use Rattle.edit_ops.specs.declared.ops.EditOp.TheVariants as op
 use Rattle.name_calls.specs.Paths.{is_before, is_prefix}
-use Rattle.name_calls.proofs.PathLemmas.{and-parts}
 use Rattle.inode_tree.specs.Rows.{AllAfter, Entry, IsRising, IsRows, same_id, zone_id}
 use Rattle.inode_tree.proofs.MovedPaths.{before-append, prefix-split}
 use Rattle.inode_tree.proofs.Puts.{not-both}
@@ -62,10 +62,6 @@ nothing-taken zero xs h = refl
 nothing-taken (suc n) [] h = refl
 nothing-taken (suc n) (x ∷ xs) h = absurd cc
 
-not-yes : (b : Bool) → (b ≡ true → ⊥) → b ≡ false
-not-yes true h = absurd (h refl)
-not-yes false h = refl
-
 -- the files of a zone
 
 module _ (rows : List Entry) (zone : ℕ) where
@@ -85,7 +81,7 @@ module _ (rows : List Entry) (zone : ℕ) where
 
   below : IsRows rows → (e : Entry) → is_file_of rows zone e ≡ true → e.path ≡ zone_path rows zone ++ rel e
   below good e h =
-      let w = in-zone rows zone e.path good (and-parts (is_some (edek_of e.row.kind)) (same_id (zone_id rows e.path) (Some zone)) h).1 in
+      let w = in-zone rows zone e.path good (and_parts (is_some (edek_of e.row.kind)) (same_id (zone_id rows e.path) (Some zone)) h).1 in
       prefix-split (zone_path rows zone) e.path (ap (λ (o : Option Entry). is_prefix (option_map_or (λ (z : Entry). z.path) o []) e.path) w.1 ∙ w.2)
 
   before-in : IsRows rows → (e x : Entry) → is_file_of rows zone e ≡ true → is_file_of rows zone x ≡ true → is_before e.path x.path ≡ true → Before e x
@@ -116,7 +112,7 @@ module _ (rows : List Entry) (zone : ℕ) where
   last-after e p (x ∷ y ∷ es) h some = last-after e x.path (y ∷ es) h.1 (λ none. absurd cc)
 
   passed : (e : Entry) (p : List (List ℕ)) (es : List Entry) → AllByRecursion (Before e) es → es ≢ [] → is_before (path_in rows zone (last_path p es)) (rel e) ≡ false
-  passed e p es h some = not-yes (is_before (path_in rows zone (last_path p es)) (rel e)) (λ yes. not-both (rel e) (path_in rows zone (last_path p es)) (last-after e p es h some) yes)
+  passed e p es h some = false_from_ne_true (is_before (path_in rows zone (last_path p es)) (rel e)) (λ yes. not-both (rel e) (path_in rows zone (last_path p es)) (last-after e p es h some) yes)
 
   later-from : (c : Option (List (List ℕ))) (e : Entry) (es : List Entry) → from c e ≡ true → AllByRecursion (Before e) es → AllByRecursion (λ x. from c x ≡ true) es
   later-from c e [] h b = tt

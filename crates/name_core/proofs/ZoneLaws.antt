@@ -1,8 +1,8 @@
 -- Info of a directory that was made a zone.
-use Rattle.std.proofs.Common.{◌≡◌, ℕ, ◌⊎◌, inl, inr, Bool, true, false, cond, List, [], ◌∷◌, Option, Some, None, refl, ap, ◌∙◌, subst, arith}
+use Rattle.std.proofs.Common.{◌≡◌, ℕ, ◌⊎◌, inl, inr, Bool, true, false, cond, List, [], ◌∷◌, Option, Some, None, refl, ap, ◌∙◌, subst}
 use Rattle.std.specs.Prelude.{◌==◌}
 use Rattle.std.specs.Option.{option_map}
-use Rattle.std.proofs.lemmas.Bool.Decides.{nat_tests}
+use Rattle.std.proofs.lemmas.Bool.{eq-eqb}
 use Rattle.hk_base.specs.declared.names.KeyName.{KeyName}
 use Rattle.inode_tree.specs.declared.rows.Row.{Row}
 use Rattle.inode_tree.specs.declared.rows.Kind.{Kind}
@@ -35,14 +35,11 @@ kind-path id kind e = go (e.row.id == id)
     go true = refl
     go false = refl
 
-itself : (a b : ℕ) → a ≡ b → (a == b) ≡ true
-itself a b h = grind (arith, nat_tests)
-
 abbrev with_mark : ℕ → Kind → Row
 with_mark id kind = record { id = id; kind = kind }
 
 row-here : (x : Entry) (id : ℕ) (kind : Kind) → x.row.id ≡ id → (with_kind id kind x).row ≡ with_mark id kind
-row-here x id kind h = ap (λ (t : Bool). (cond t (record x { row = with_mark id kind }) x).row) (itself x.row.id id h)
+row-here x id kind h = ap (λ (t : Bool). (cond t (record x { row = with_mark id kind }) x).row) (eq-eqb x.row.id id h)
 
 -- the row at the path has the kind
 row-marked : (es : List Entry) (p : List (List ℕ)) (row : Row) (kind : Kind) → row_at es p ≡ Some row → row_at (set_kind es row.id kind) p ≡ Some (with_mark row.id kind)

@@ -1,8 +1,9 @@
 -- The store after a commit and after a settling.
-use Rattle.std.proofs.Common.{◌≡◌, ℕ, Bool, true, false, ◌&&◌, List, [], ◌∷◌, ◌++◌, Option, Some, None, Result, Ok, Err, refl, sym, ap, ◌∙◌, subst}
+use Rattle.std.proofs.Common.{◌≡◌, ℕ, true, false, List, [], ◌∷◌, ◌++◌, Option, Some, None, Result, Ok, Err, refl, sym, ap, ◌∙◌, subst}
 use Rattle.std.specs.Prelude.{IfSome, IsErr, MatchResult}
 use Rattle.std.specs.List.{AllByRecursion}
 use Rattle.std.proofs.lemmas.List.{append-nil}
+use Rattle.std.proofs.lemmas.Bool.{and_from}
 use Rattle.hk_base.specs.Disk.{DiskState, LeavesOnly, RunOn, Tells}
 use Rattle.hk_base.proofs.Runs.{weaker}
 use Rattle.frame_log.specs.declared.fault.StoreRefusal.{StoreRefusal}
@@ -15,9 +16,6 @@ use Rattle.name_store.specs.Table.{NameTable, after_table, allows, applies, is_f
 use Rattle.name_store.specs.Replay.{Applies}
 use Rattle.name_store.specs.Store.{Commits, IsWritten, IsNameStoreOf, StoreState, made_with}
 use Rattle.name_store.proofs.Replays.{replay_more}
-
-pub and_both : (a b : Bool) → a ≡ true → b ≡ true → (a && b) ≡ true
-and_both a b h k = ap (λ (x : Bool). x && b) h ∙ k
 
 pub each_more : {X : Type 0} (P : X → Type 0) (xs : List X) (x : X) → AllByRecursion P xs → P x → AllByRecursion P (xs ++ x ∷ [])
 each_more P [] x each here = (here, tt)
@@ -62,7 +60,7 @@ module _ (old new : DiskState) (store store' : StoreState) (op : EditOp) (run : 
 
   pub commits_done : allows store.table op ≡ true → store'.log.pending ≡ None → store'.table ≡ after_table store.table op → Moments → Added → Commits old new store op true store'
   commits_done may none then_is any added = record {
-    stands = λ tells used ops s fresh. one_more old new store store' used ops op s (and_both (allows store.table op) (is_fresh used op) may fresh) none then_is (added tells ops s.log);
+    stands = λ tells used ops s fresh. one_more old new store store' used ops op s (and_from (allows store.table op) (is_fresh used op) may fresh) none then_is (added tells ops s.log);
     moments = λ tells used ops s. let now = added tells ops s.log in weaker (λ c with. (each_last HasSpelling ops op now.spelled, with)) (any tells ops s.log);
     run = run;
   }
@@ -70,7 +68,7 @@ module _ (old new : DiskState) (store store' : StoreState) (op : EditOp) (run : 
   pub commits_pending : allows store.table op ≡ true → store'.log.pending ≡ Some op → store'.table ≡ store.table → Moments → Kept → Commits old new store op false store'
   commits_pending may waits same any kept = record {
     stands = λ tells used ops s fresh.
-        let now : Applies (made_with store used) store'.log.pending = subst (λ (o : Option EditOp). Applies (made_with store used) o) (sym waits) (and_both (allows store.table op) (is_fresh used op) may fresh) in
+        let now : Applies (made_with store used) store'.log.pending = subst (λ (o : Option EditOp). Applies (made_with store used) o) (sym waits) (and_from (allows store.table op) (is_fresh used op) may fresh) in
         unwritten used ops (as_before old new store store' used ops s same now (kept tells ops s.log));
     moments = λ tells used ops s.
         let now = kept tells ops s.log in

@@ -9,6 +9,7 @@ use Rattle.std.proofs.lemmas.Bool.Decides.{Decides-eqb}
 use Rattle.std.proofs.lemmas.Slice.Eq.{bytes_eq-Decides}
 use Rattle.std.proofs.lemmas.List.Elements.{All-cons, All-filter, All-head, All-map, All-nil, All-tail, All-weaker, filter_passes}
 use Rattle.std.proofs.lemmas.List.Sums.{AllPass-from_list_all}
+use Rattle.std.proofs.lemmas.Bool.{not-true, and_parts}
 use Rattle.hk_base.specs.declared.names.KeyName.{KeyName}
 use Rattle.name_calls.specs.Paths.{is_before, is_prefix, is_relative}
 use Rattle.inode_tree.specs.declared.rows.Kind.TheVariants.{Dir}
@@ -22,7 +23,7 @@ use Rattle.edit_ops.specs.declared.ops.EditOp.{EditOp}
 use Rattle.edit_ops.specs.declared.ops.EditOp.TheVariants as op
 use Rattle.name_store.specs.Causes.{id_at, kept_causes, removal_causes}
 use Rattle.name_store.specs.Table.{FitsRows, IsTable, NameTable, after_table, allows, new_directory, new_file, path_of, row_of, with_edeks}
-use Rattle.name_store.proofs.CauseLemmas.{allowable, allowed, both, holds-none, id-may-be-used, none-of-both, renamable, snappable}
+use Rattle.name_store.proofs.CauseLemmas.{allowable, allowed, holds-none, id-may-be-used, none-of-both, renamable, snappable}
 use Rattle.name_store.proofs.RowLemmas.{directory-entry}
 use Rattle.name_store.proofs.UpdateLemmas.{dirs-kept, entry-kind, updated-files}
 
@@ -128,10 +129,6 @@ not-any q (x ∷ xs) h = let parts = neither (q x) (list_any q xs) h in All-cons
     neither true b k = absurd cc
     neither false b k = (refl, k)
 
-not-true : (b : Bool) → not b ≡ true → b ≡ false
-not-true true h = absurd cc
-not-true false h = refl
-
 fits-removed : (t : NameTable) (p : List (List ℕ)) → IsTable t → holds_snapshot t.rows t.snaps.taken p ≡ false → FitsRows (removed p t.rows) (record t.snaps { allowed = without_below t.rows p t.snaps.allowed })
 fits-removed t p good none =
     let beside = not-any (λ (s : Snapshot). at_or_below t.rows s.dir p) t.snaps.taken none in
@@ -234,7 +231,7 @@ dir-stands rows p good dir =
 prefix-joins : (p q : List (List ℕ)) → is_prefix p q ≡ true → p ++ drop (length p) q ≡ q
 prefix-joins [] q h = refl
 prefix-joins (x ∷ p) [] h = absurd cc
-prefix-joins (x ∷ p) (y ∷ q) h = let parts = both (bytes_eq x y) (is_prefix p q) h in λ i. (bytes_eq-Decides x y).0 parts.0 i ∷ prefix-joins p q parts.1 i
+prefix-joins (x ∷ p) (y ∷ q) h = let parts = and_parts (bytes_eq x y) (is_prefix p q) h in λ i. (bytes_eq-Decides x y).0 parts.0 i ∷ prefix-joins p q parts.1 i
 
 -- the rows below a directory, seen from the root
 whole-below : (p : List (List ℕ)) (rows : List Entry) → All (λ e. is_relative e.path ≡ true) rows → All (λ (e : Entry). is_relative (p ++ e.path) ≡ true) (rows_below rows p)

@@ -4,6 +4,7 @@ use Rattle.std.specs.Prelude.{if◌then◌else◌}
 use Rattle.std.specs.List.{All, AllByRecursion}
 use Rattle.std.proofs.lemmas.Bool.Decides.{Decides-eqb, nat_tests}
 use Rattle.std.proofs.lemmas.List.Elements.{All-cons, All-filter, All-head, All-map, All-nil, All-tail, All-weaker}
+use Rattle.std.proofs.lemmas.Bool.{and_parts}
 use Rattle.inode_tree.specs.declared.rows.Kind.{Kind}
 use Rattle.inode_tree.specs.declared.rows.Kind.TheVariants.{Dir, File}
 use Rattle.name_calls.specs.Paths.{is_before}
@@ -15,7 +16,7 @@ use Rattle.edit_ops.specs.declared.ops.EditOp.TheVariants as op
 use Rattle.name_store.specs.Table.{NameTable, Replayed, after, after_table, allows, applies, is_among, is_fresh, is_of_opening, nothing_logged, uses, with_edeks}
 use Rattle.name_store.specs.Causes.{id_at}
 use Rattle.name_store.specs.Replay.{AllBelow, IdsOfOpening, name_replay}
-use Rattle.name_store.proofs.CauseLemmas.{MayUse, allowed, both, id-may-be-used}
+use Rattle.name_store.proofs.CauseLemmas.{MayUse, allowed, id-may-be-used}
 
 -- the id of the entry has P
 abbrev pub IdHas : (ℕ → Type 0) → Entry → Type 0
@@ -85,7 +86,7 @@ end_of_ids opening = (opening + 1) * 2 ^ 32
 
 below-end : (opening id : ℕ) → is_of_opening opening id ≡ true → id < end_of_ids opening
 below-end opening id h =
-    let parts = both (nat_le (opening * 2 ^ 32) id) (nat_lt id ((opening + 1) * 2 ^ 32)) h in
+    let parts = and_parts (nat_le (opening * 2 ^ 32) id) (nat_lt id ((opening + 1) * 2 ^ 32)) h in
     let last : nat_lt id ((opening + 1) * 2 ^ 32) ≡ true = parts.1 in
     grind (arith, nat_tests, last)
 
@@ -136,7 +137,7 @@ kept I keeps r made (o ∷ ops) h is = go (kept I keeps (after r o) made ops) (a
 -- ids used are of the openings so far
 pub used_earlier : (r : Replayed) (ops : List EditOp) → name_replay nothing_logged ops ≡ Some r → IdsOfOpening r
 used_earlier r ops is =
-    kept IdsOfOpening (λ q o may h. ids-after q o (both (allows q.table o) (is_fresh q.used o) may).0 h) nothing_logged r ops
+    kept IdsOfOpening (λ q o may h. ids-after q o (and_parts (allows q.table o) (is_fresh q.used o) may).0 h) nothing_logged r ops
     (record { rows = All-cons (BelowId (end_of_ids 0)) _ [] (omega arith) (All-nil (BelowId (end_of_ids 0))); used = tt }) is
 
 -- an operation of this opening uses no id of an earlier one
@@ -150,7 +151,7 @@ among-below n (i ∷ used) id h le =
 
 pub from_first : (opening id : ℕ) → is_of_opening opening id ≡ true → opening * 2 ^ 32 ≤ id
 from_first opening id h =
-    let first : nat_le (opening * 2 ^ 32) id ≡ true = (both (nat_le (opening * 2 ^ 32) id) (nat_lt id ((opening + 1) * 2 ^ 32)) h).0 in
+    let first : nat_le (opening * 2 ^ 32) id ≡ true = (and_parts (nat_le (opening * 2 ^ 32) id) (nat_lt id ((opening + 1) * 2 ^ 32)) h).0 in
     grind (arith, nat_tests, first)
 
 of-this : (t : NameTable) (used : List ℕ) (id : ℕ) → MayUse t id → AllBelow (t.opening * 2 ^ 32) used → not (is_among used id || false) ≡ true

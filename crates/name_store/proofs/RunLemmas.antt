@@ -5,6 +5,7 @@ use Rattle.std.specs.List.{AllByRecursion}
 use Rattle.std.specs.List.Sorted.{IsNonDecreasingBy, IsPartitionPoint}
 use Rattle.std.proofs.lemmas.Bool.Decides.{nat_tests}
 use Rattle.std.proofs.lemmas.Option.{get_or_from_slice_get}
+use Rattle.std.proofs.lemmas.Bool.{le-leb, leb-true, leb-false, lt-leb}
 use Rattle.name_store.specs.declared.runs.Run.{Run}
 use Rattle.name_store.specs.Runs.{Rising, is_in, is_in_runs}
 
@@ -32,18 +33,6 @@ firsts_rise (r ∷ rs) h zero (suc j) d l b = omega (arith, h.0, later-at r.last
 firsts_rise (r ∷ rs) h (suc i) zero d l b = absurd (omega arith)
 firsts_rise (r ∷ rs) h (suc i) (suc j) d l b = firsts_rise rs h.2 i j d (omega arith) (omega arith)
 
-as-test : (a b : ℕ) → a ≤ b → nat_le a b ≡ true
-as-test a b h = grind (arith, nat_tests)
-
-as-order : (a b : ℕ) → nat_le a b ≡ true → a ≤ b
-as-order a b h = grind (arith, nat_tests)
-
-as-after : (a b : ℕ) → nat_le a b ≡ false → b < a
-as-after a b h = grind (arith, nat_tests)
-
-no-order : (a b : ℕ) → b < a → nat_le a b ≡ false
-no-order a b h = grind (arith, nat_tests)
-
 -- where the last run begins at the id or before it, all do
 pub parted_past : (runs : List Run) (id : ℕ) (run : Run) → Rising runs → Some run ≡ slice_get runs (length runs - 1) → run.first ≤ id → PartedAt runs id (length runs)
 parted_past runs id run rise last le = (λ k d low high. begun k d high, λ k d low high. absurd (omega arith))
@@ -52,15 +41,15 @@ parted_past runs id run rise last le = (λ k d low high. begun k d high, λ k d 
     begun k d high =
         let least : (get_or runs k d).first ≤ (get_or runs (length runs - 1) d).first = firsts_rise runs rise k (length runs - 1) d (omega arith) (omega arith) in
         let same : (get_or runs (length runs - 1) d).first ≡ run.first = ap (λ (q : Run). q.first) (get_or_from_slice_get runs (length runs - 1) run d (sym last)) in
-        as-test (get_or runs k d).first id (omega (arith, least, same, le))
+        le-leb (get_or runs k d).first id (omega (arith, least, same, le))
 
 -- ---- whether a run has an id
 
 before-run : (run : Run) (id : ℕ) (b : Bool) → id < run.first → (is_in id run || b) ≡ b
-before-run run id b h = ap (λ (t : Bool). (t && nat_le id run.last) || b) (no-order run.first id h)
+before-run run id b h = ap (λ (t : Bool). (t && nat_le id run.last) || b) (lt-leb run.first id h)
 
 past-run : (run : Run) (id : ℕ) (b : Bool) → run.last < id → (is_in id run || b) ≡ b
-past-run run id b h = ap (λ (t : Bool). (nat_le run.first id && t) || b) (no-order id run.last h) ∙ none (nat_le run.first id) b
+past-run run id b h = ap (λ (t : Bool). (nat_le run.first id && t) || b) (lt-leb id run.last h) ∙ none (nat_le run.first id) b
   where
     none : (t b : Bool) → ((t && false) || b) ≡ b
     none true b = refl
@@ -69,7 +58,7 @@ past-run run id b h = ap (λ (t : Bool). (nat_le run.first id && t) || b) (no-or
 -- no run has an id that is before all of them
 pub none_before : (runs : List Run) (id : ℕ) → PartedAt runs id 0 → is_in_runs runs id ≡ false
 none_before [] id h = refl
-none_before (r ∷ rs) id h = before-run r id (is_in_runs rs id) (as-after r.first id (h.1 0 r (omega arith) (omega arith))) ∙ none_before rs id (parted-first r rs id h)
+none_before (r ∷ rs) id h = before-run r id (is_in_runs rs id) (leb-false r.first id (h.1 0 r (omega arith) (omega arith))) ∙ none_before rs id (parted-first r rs id h)
 
 or-false : (t : Bool) → (t || false) ≡ t
 or-false true = refl
@@ -83,7 +72,7 @@ in_last (r ∷ rs) id zero d rise b h =
     ∙ ap (λ (t : Bool). nat_le id r.last || t) (none_before rs id (parted-next r rs id 0 h))
     ∙ or-false (nat_le id r.last)
 in_last (r ∷ rs) id (suc k) d rise b h =
-    let begun : (get_or rs k d).first ≤ id = as-order (get_or rs k d).first id (h.0 (suc k) d (omega arith) (omega arith)) in
+    let begun : (get_or rs k d).first ≤ id = leb-true (get_or rs k d).first id (h.0 (suc k) d (omega arith) (omega arith)) in
     let earlier : r.last < (get_or rs k d).first = later-at r.last rs k d rise.1 (omega arith) in
     past-run r id (is_in_runs rs id) (omega (arith, begun, earlier)) ∙ in_last rs id k d rise.2 (omega arith) (parted-next r rs id (suc k) h)
 
@@ -123,14 +112,14 @@ all-longer a id (r ∷ rs) (suc k) run b here all = (all.0, all-longer a id rs k
 
 all-after : (a : ℕ) (rs : List Run) → PartedAt rs a 0 → AllByRecursion (λ (later : Run). a < later.first) rs
 all-after a [] h = tt
-all-after a (r ∷ rs) h = (as-after r.first a (h.1 0 r (omega arith) (omega arith)), all-after a rs (parted-first r rs a h))
+all-after a (r ∷ rs) h = (leb-false r.first a (h.1 0 r (omega arith) (omega arith)), all-after a rs (parted-first r rs a h))
 
 pub extended_rises : (runs : List Run) (id k : ℕ) (run : Run) → Rising runs → k < length runs → PartedAt runs id (suc k) → run ≡ get_or runs k run → run.last + 1 ≡ id
     → Rising (set runs k (longer run id))
 extended_rises [] id k run rise b h here next = absurd (omega arith)
 extended_rises (r ∷ rs) id zero run rise b h here next =
     subst (λ (q : Run). (q.first ≤ id) × AllByRecursion (λ (later : Run). id < later.first) rs × Rising rs) (sym here)
-    (as-order r.first id (h.0 0 r (omega arith) (omega arith)), all-after id rs (parted-next r rs id 0 h), rise.2)
+    (leb-true r.first id (h.0 0 r (omega arith) (omega arith)), all-after id rs (parted-next r rs id 0 h), rise.2)
 extended_rises (r ∷ rs) id (suc k) run rise b h here next =
     (rise.0, all-longer r.last id rs k run (omega arith) here rise.1, extended_rises rs id k run rise.2 (omega arith) (parted-next r rs id (suc k) h) here next)
 
@@ -155,7 +144,7 @@ ends-before run id b begun free = go (nat_le id run.last) refl (sym (ap (λ (t :
   where
     go : (t : Bool) → nat_le id run.last ≡ t → (t || b) ≡ false → (run.last < id) × (b ≡ false)
     go true e f = absurd cc
-    go false e f = (as-after id run.last e, f)
+    go false e f = (leb-false id run.last e, f)
 
 pub appended_rises : (runs : List Run) (id : ℕ) → Rising runs → PartedAt runs id (length runs) → is_in_runs runs id ≡ false → Rising (runs ++ alone id ∷ [])
 appended_rises [] id rise h free = (omega arith, tt, tt)

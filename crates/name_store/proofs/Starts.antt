@@ -3,6 +3,7 @@ use Rattle.std.proofs.Common.{◌≡◌, ℕ, ◌+◌, ◌*◌, ◌^◌, ◌<◌
 use Rattle.std.specs.Prelude.{IfSome, if◌then◌else◌}
 use Rattle.std.specs.List.{All}
 use Rattle.std.proofs.lemmas.Bool.Decides.{Decides-eqb}
+use Rattle.std.proofs.lemmas.Bool.{and_parts}
 use Rattle.hk_base.specs.Disk.{DiskState, LeavesOnly, Reads, RunOn, Tells}
 use Rattle.hk_base.proofs.Runs.{Going, weaker}
 use Rattle.frame_log.specs.Format.{Found, IsAsFound, Log_as_found, log_of}
@@ -26,12 +27,12 @@ use Rattle.name_store.specs.Store.{IsDamagedAt, IsNameLog, IsWritten, Not_a_log,
 use Rattle.name_store.proofs.Commits.{each_last}
 use Rattle.name_store.proofs.IdLemmas.{used_earlier}
 use Rattle.name_store.proofs.Replays.{replay_more}
-use Rattle.name_store.proofs.CauseLemmas.{allowed, both}
+use Rattle.name_store.proofs.CauseLemmas.{allowed}
 
 -- an operation that is allowed is in turn
 
 first-of : (a b : Bool) → (a && b) ≡ true → a ≡ true
-first-of a b h = (both a b h).0
+first-of a b h = (and_parts a b h).0
 
 turn-of : (t : NameTable) (o : EditOp) → allows t o ≡ true → in_turn t.opening o ≡ true
 turn-of t (op.Opened opening) may = may

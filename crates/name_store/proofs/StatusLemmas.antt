@@ -2,7 +2,7 @@
 use Rattle.std.proofs.Common.{◌≡◌, ℕ, ◌≤◌, Bool, true, false, cond, ◌&&◌, nat_lt, List, [], ◌∷◌, length, Option, Some, None, refl, sym, ap, ◌∙◌, arith}
 use Rattle.std.specs.Prelude.{is_some}
 use Rattle.std.specs.Option.{option_and_then}
-use Rattle.std.proofs.lemmas.Bool.{both_ways}
+use Rattle.std.proofs.lemmas.Bool.{both_ways, and_parts}
 use Rattle.std.proofs.lemmas.Bool.Decides.{nat_tests}
 use Rattle.std.proofs.lemmas.Slice.Eq.{bytes_eq-Decides}
 use Rattle.hk_base.specs.declared.names.KeyName.{KeyName}
@@ -21,7 +21,7 @@ use Rattle.edit_ops.specs.declared.ops.EditOp.{EditOp}
 use Rattle.edit_ops.specs.declared.ops.EditOp.TheVariants as op
 use Rattle.name_store.specs.Causes.{first_cause, id_at, id_of, mark_at, zone_causes}
 use Rattle.name_store.specs.Table.{FitsRows, IsTable, NameTable, after_table, allows, fits_noted, key_of_zone, new_directory, new_file}
-use Rattle.name_store.proofs.CauseLemmas.{allowed, both, id-may-be-used, markable, submittable}
+use Rattle.name_store.proofs.CauseLemmas.{allowed, id-may-be-used, markable, submittable}
 use Rattle.name_store.proofs.FitsLemmas.{fits-after}
 use Rattle.name_store.proofs.RowLemmas.{entry-at, is-unmarked, same-prefix}
 use Rattle.name_store.proofs.UpdateLemmas.{fit-updated, updated-files}
@@ -64,7 +64,7 @@ zone-at (x ∷ es) p row is marked = go (same_path x.path p) refl is (λ rest. z
     later f other false over = f.found
     later f other true over =
         ap (λ (o : Option Entry). Some (longer x o)) f.found
-        ∙ ap (λ (b : Bool). Some (cond b f.zone x)) (shorter x f.zone p (both (is_marked x.row) (is_prefix x.path p) over).1 other f.its_path)
+        ∙ ap (λ (b : Bool). Some (cond b f.zone x)) (shorter x f.zone p (and_parts (is_marked x.row) (is_prefix x.path p) over).1 other f.its_path)
 
     go : (b : Bool) → same_path x.path p ≡ b → cond b (Some x.row) (row_at es p) ≡ Some row → (row_at es p ≡ Some row → IsZoneAt es p row) → IsZoneAt (x ∷ es) p row
     go true same found rest =

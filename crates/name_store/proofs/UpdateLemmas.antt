@@ -7,6 +7,7 @@ use Rattle.std.proofs.lemmas.Bool.Decides.{Decides-eqb}
 use Rattle.std.proofs.lemmas.List.{at_drop_more, drop_more}
 use Rattle.std.proofs.lemmas.List.Elements.{All-head, All-map, All-tail, All-weaker}
 use Rattle.std.specs.Str.{bytes_eq}
+use Rattle.std.proofs.lemmas.Bool.{and_parts}
 use Rattle.hk_base.specs.declared.names.Edek.{Edek}
 use Rattle.hk_base.specs.declared.names.KeyName.{KeyName}
 use Rattle.name_calls.specs.declared.paths.NPath.{NPath}
@@ -24,7 +25,7 @@ use Rattle.edit_ops.specs.declared.ops.EditOp.{EditOp}
 use Rattle.edit_ops.specs.declared.ops.EditOp.TheVariants as op
 use Rattle.name_store.specs.Table.{NameTable, allows, ids_once, is_of_key, is_under, may_update, with_edeks}
 use Rattle.name_store.specs.Updates.{AreFiles, IsFileAt}
-use Rattle.name_store.proofs.CauseLemmas.{allowed, and-yes, both}
+use Rattle.name_store.proofs.CauseLemmas.{allowed, and-yes}
 use Rattle.name_store.proofs.IdLemmas.{kind-id}
 
 -- the files that an update may change
@@ -44,12 +45,12 @@ file-at t session f may = go (entry_of t.rows f.id) may
   where
     go : (o : Option Entry) → option_map_or (λ (e : Entry). is_under t session e && is_of_key f e) o false ≡ true → kind_in o ≡ Some false
     go None h = absurd cc
-    go (Some x) h = with-edek x (both (is_some (edek_of x.row.kind)) _ (both (is_under t session x) (is_of_key f x) h).0).0
+    go (Some x) h = with-edek x (and_parts (is_some (edek_of x.row.kind)) _ (and_parts (is_under t session x) (is_of_key f x) h).0).0
 
 are-files : (t : NameTable) (session : ℕ) (files : List FileKey) → list_all (may_update t session) files ≡ true → AreFiles t.rows files
 are-files t session [] may = tt
 are-files t session (f ∷ fs) may =
-    let parts = both (may_update t session f) (list_all (may_update t session) fs) may in
+    let parts = and_parts (may_update t session f) (list_all (may_update t session) fs) may in
     (file-at t session f parts.0, are-files t session fs parts.1)
 
 -- an update that is allowed, of a table and an operation that are known by other names
@@ -57,7 +58,7 @@ pub updated-files : (t t' : NameTable) (session failed : ℕ) (mark : Option NPa
     → AreFiles t.rows files
 updated-files t t' session failed mark files o same is may =
     let here : allows t (op.Update session failed mark files) ≡ true = ap (λ (u : NameTable). allows u (op.Update session failed mark files)) same ∙ ap (allows t') (sym is) ∙ may in
-    are-files t session files (both (ids_once files) (list_all (may_update t session) files) (allowed t (op.Update session failed mark files) refl here).fits).1
+    are-files t session files (and_parts (ids_once files) (list_all (may_update t session) files) (allowed t (op.Update session failed mark files) refl here).fits).1
 
 -- one row gets another kind
 

@@ -2,7 +2,7 @@
 use Rattle.std.proofs.Common.{◌≡◌, ℕ, ◌*◌, ◌^◌, ◌<◌, ◌≤◌, Bool, true, false, not, ◌&&◌, ◌||◌, ◌==◌, cond, List, [], ◌∷◌, ◌++◌, Option, Some, None, refl, sym, ◌∙◌, ap, subst, arith}
 use Rattle.std.specs.Prelude.{is_none}
 use Rattle.std.specs.List.{All, AllByRecursion, list_any}
-use Rattle.std.proofs.lemmas.Bool.{both_ways}
+use Rattle.std.proofs.lemmas.Bool.{both_ways, or_left, or_right}
 use Rattle.std.proofs.lemmas.Bool.Decides.{Decides-eqb, nat_tests}
 use Rattle.std.proofs.lemmas.List.Elements.{All-cons, All-head, All-nil, All-tail, All-weaker}
 use Rattle.inode_tree.specs.Rows.{Entry, entry_of}
@@ -19,26 +19,18 @@ use Rattle.name_store.proofs.Replays.{ComesTo, among_append}
 abbrev AmongUsed : List ℕ → ℕ → Type 0
 AmongUsed used id = 0 < id → is_among used id ≡ true
 
-either-first : (a b : Bool) → a ≡ true → (a || b) ≡ true
-either-first true b h = refl
-either-first false b h = absurd cc
-
-either-second : (a b : Bool) → b ≡ true → (a || b) ≡ true
-either-second true b h = refl
-either-second false b h = h
-
 own-among : (ids all : List ℕ) → ((id : ℕ) → is_among ids id ≡ true → is_among all id ≡ true) → AllByRecursion (AmongUsed all) ids
 own-among [] all more = tt
 own-among (id ∷ ids) all more =
     let here : (id == id) ≡ true = grind (arith, nat_tests) in
-    (λ some. more id (either-first (id == id) (is_among ids id) here), own-among ids all (λ i h. more i (either-second (id == i) (is_among ids i) h)))
+    (λ some. more id (or_left (id == id) (is_among ids id) here), own-among ids all (λ i h. more i (or_right (id == i) (is_among ids i) h)))
 
 used-after : (r : Replayed) (o : EditOp) → All (IdHas (AmongUsed r.used)) r.table.rows → All (IdHas (AmongUsed (after r o).used)) (after r o).table.rows
 used-after r o h =
     rows_have (AmongUsed (uses o ++ r.used)) r.table o
-    (own-among (uses o) (uses o ++ r.used) (λ id own. among_append (uses o) r.used id ∙ either-first (is_among (uses o) id) (is_among r.used id) own))
+    (own-among (uses o) (uses o ++ r.used) (λ id own. among_append (uses o) r.used id ∙ or_left (is_among (uses o) id) (is_among r.used id) own))
     (All-weaker (IdHas (AmongUsed r.used)) (IdHas (AmongUsed (uses o ++ r.used)))
-    (λ e had some. among_append (uses o) r.used e.row.id ∙ either-second (is_among (uses o) e.row.id) (is_among r.used e.row.id) (had some)) r.table.rows h)
+    (λ e had some. among_append (uses o) r.used e.row.id ∙ or_right (is_among (uses o) e.row.id) (is_among r.used e.row.id) (had some)) r.table.rows h)
 
 all-used : (r : Replayed) (ops : List EditOp) → name_replay nothing_logged ops ≡ Some r → All (IdHas (AmongUsed r.used)) r.table.rows
 all-used r ops is =

@@ -4,6 +4,7 @@ use Rattle.std.proofs.lemmas.Bool.Decides.{nat_tests}
 use Rattle.std.proofs.lemmas.List.{drop_all, length-append}
 use Rattle.std.proofs.Math.Seq.{drop-append_seam}
 use Rattle.std.specs.Cmp.Lexicographic.{pointwise}
+use Rattle.std.proofs.lemmas.Bool.{and_right, and_from}
 use Rattle.matchit.specs.Rows.{RowsOf}
 use Rattle.matchit.specs.Seek.{own, step, or_else, seek, param_step, has_slash, segment, longest_suffix, longest_from, cuts, with_suffix}
 use Rattle.path_routes.specs.Shapes.{HasNoSlash}
@@ -124,14 +125,6 @@ segment-cut (b ∷ k) u h =
     let e : (b == 47) ≡ false = grind (arith, nat_tests) in
     rw e (ap (λ z. b ∷ z) (segment-cut k u h.1))
 
-pub and-false : (a b : Bool) → b ≡ false → (a && b) ≡ false
-and-false true b e = e
-and-false false b e = refl
-
-pub and-true : (a b : Bool) → a ≡ true → b ≡ true → (a && b) ≡ true
-and-true true b d e = e
-and-true false b d e = cc
-
 pub clear-drop : (n : ℕ) (k : List ℕ) → HasNoSlash k → HasNoSlash (drop n k)
 clear-drop zero k h = h
 clear-drop (suc n) [] h = tt
@@ -145,10 +138,10 @@ starts-clear (y ∷ d) h =
     rw e refl
 
 pub cuts-clear : (k : List ℕ) → HasNoSlash k → cuts k (47 ∷ []) ≡ false
-cuts-clear k h = and-false (ltb 1 (length k)) _ (starts-clear (drop (length k - 1) k) (clear-drop (length k - 1) k h))
+cuts-clear k h = and_right (ltb 1 (length k)) _ (starts-clear (drop (length k - 1) k) (clear-drop (length k - 1) k h))
 
 pub cuts-cut : (b : ℕ) (k : List ℕ) → cuts (b ∷ (k ++ (47 ∷ []))) (47 ∷ []) ≡ true
-cuts-cut b k = and-true _ _ l1 l3
+cuts-cut b k = and_from _ _ l1 l3
   where
     len : length (k ++ (47 ∷ [])) ≡ length k + 1
     len = length-append k (47 ∷ [])

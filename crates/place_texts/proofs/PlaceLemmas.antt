@@ -3,16 +3,16 @@ use Rattle.std.proofs.Common.{◌≡◌, ℕ, ◌+◌, ◌<◌, ◌≤◌, zero,
 use Rattle.std.proofs.lemmas.List.{append-nil}
 use Rattle.std.proofs.Math.Seq.{take-append_seam, drop-append_seam}
 use Rattle.std.proofs.lemmas.Slice.Eq.{bytes_eq-Decides}
-use Rattle.std.proofs.lemmas.Bool.Decides.{nat_tests}
 use Rattle.hk_base.specs.declared.texts.NoMemory.{NoMemory}
-use Rattle.std.specs.Prelude.{◌==◌, nat_le, Result, Ok, Err, IfOk}
+use Rattle.std.specs.Prelude.{◌==◌, Result, Ok, Err, IfOk}
 use Rattle.std.specs.Str.{bytes_eq}
 use Rattle.std.specs.List.{list_all, slice_split, before_first, onto_first, position_or_len}
+use Rattle.std.proofs.lemmas.Bool.{leb-true, not-true, and_parts}
 use Rattle.name_calls.specs.declared.read_paths.ReadPath.{ReadPath}
 use Rattle.name_calls.specs.declared.read_paths.SnapPart.{SnapPart}
 use Rattle.name_calls.specs.Paths.{absolute, is_absolute, is_component, is_plain_byte, is_relative, names_text, path_text, read_path, relative}
 use Rattle.name_calls.specs.ReadPaths.{as_it_is, as_it_was, mark, mark_at, read_any_path, read_around, read_below, read_directory, read_in_snapshot, read_parts, snapshot_name, starts_mark}
-use Rattle.name_calls.proofs.PathLemmas.{is_slash, parts_of, and-parts, read-more}
+use Rattle.name_calls.proofs.PathLemmas.{is_slash, parts_of, read-more}
 use Rattle.place_texts.specs.Places.{IsPart, IsRuled, below_part, is_whole_snapshot, part_text, place_below, raw, read_path_text, read_raw_place, whole_directory}
 
 -- ---- a name has no slash, is not empty and is not `.snapshot`
@@ -21,12 +21,12 @@ abbrev slashless : List ℕ → Bool
 slashless = list_all (λ b. not (is_slash b))
 
 plain-slashless : (b : ℕ) → is_plain_byte b ≡ true → not (is_slash b) ≡ true
-plain-slashless b h = let a = (and-parts _ _ h).0 in (and-parts _ _ a).0
+plain-slashless b h = let a = (and_parts _ _ h).0 in (and_parts _ _ a).0
 
 each-slashless : (c : List ℕ) → list_all is_plain_byte c ≡ true → slashless c ≡ true
 each-slashless [] h = refl
 each-slashless (b ∷ c) h =
-    let w = and-parts (is_plain_byte b) (list_all is_plain_byte c) h in
+    let w = and_parts (is_plain_byte b) (list_all is_plain_byte c) h in
     let e : not (is_slash b) ≡ true = plain-slashless b w.0 in
     let f : slashless c ≡ true = each-slashless c w.1 in
     ap (λ (t : Bool). t && slashless c) e ∙ f
@@ -36,25 +36,18 @@ record IsName (c : List ℕ) : Type 0 where
   some : 1 ≤ length c
   apart : bytes_eq c (codes ".snapshot") ≡ false
 
-le-yes : (a b : ℕ) → nat_le a b ≡ true → a ≤ b
-le-yes a b h = grind (arith, nat_tests)
-
-not-no : (t : Bool) → not t ≡ true → t ≡ false
-not-no true h = cc
-not-no false h = refl
-
 is-name : (c : List ℕ) → is_component c ≡ true → IsName c
 is-name c h =
-    let a = and-parts _ _ h in
-    let b = and-parts _ _ a.0 in
-    let d = and-parts _ _ b.0 in
-    let e = and-parts _ _ d.0 in
-    let f = and-parts _ _ e.0 in
-    let g = and-parts _ _ f.0 in
+    let a = and_parts _ _ h in
+    let b = and_parts _ _ a.0 in
+    let d = and_parts _ _ b.0 in
+    let e = and_parts _ _ d.0 in
+    let f = and_parts _ _ e.0 in
+    let g = and_parts _ _ f.0 in
     record {
       slashless = each-slashless c e.1;
-      some = le-yes 1 (length c) g.0;
-      apart = not-no (bytes_eq c (codes ".snapshot")) a.1;
+      some = leb-true 1 (length c) g.0;
+      apart = not-true (bytes_eq c (codes ".snapshot")) a.1;
     }
 
 -- ---- bytes up to a slash
@@ -70,19 +63,19 @@ one-more n = omega arith
 split-end : (c : List ℕ) → slashless c ≡ true → parts_of c ≡ c ∷ []
 split-end [] h = refl
 split-end (b ∷ c) h =
-    let w = and-parts (not (is_slash b)) (slashless c) h in
-    ap (λ (t : Bool). cond t ([] ∷ parts_of c) (onto_first b (parts_of c))) (not-no (is_slash b) w.0) ∙ ap (onto_first b) (split-end c w.1)
+    let w = and_parts (not (is_slash b)) (slashless c) h in
+    ap (λ (t : Bool). cond t ([] ∷ parts_of c) (onto_first b (parts_of c))) (not-true (is_slash b) w.0) ∙ ap (onto_first b) (split-end c w.1)
 
 split-at : (c t : List ℕ) → slashless c ≡ true → parts_of (c ++ 47 ∷ t) ≡ c ∷ parts_of t
 split-at [] t h = refl
 split-at (b ∷ c) t h =
-    let w = and-parts (not (is_slash b)) (slashless c) h in
-    ap (λ (u : Bool). cond u ([] ∷ parts_of (c ++ 47 ∷ t)) (onto_first b (parts_of (c ++ 47 ∷ t)))) (not-no (is_slash b) w.0) ∙ ap (onto_first b) (split-at c t w.1)
+    let w = and_parts (not (is_slash b)) (slashless c) h in
+    ap (λ (u : Bool). cond u ([] ∷ parts_of (c ++ 47 ∷ t)) (onto_first b (parts_of (c ++ 47 ∷ t)))) (not-true (is_slash b) w.0) ∙ ap (onto_first b) (split-at c t w.1)
 
 names-split : (c : List ℕ) (cs : List (List ℕ)) → list_all is_component (c ∷ cs) ≡ true → parts_of (c ++ names_text cs) ≡ c ∷ cs
-names-split c [] h = let w = and-parts (is_component c) (list_all is_component []) h in let n = is-name c w.0 in ap parts_of (append-nil c) ∙ split-end c n.slashless
+names-split c [] h = let w = and_parts (is_component c) (list_all is_component []) h in let n = is-name c w.0 in ap parts_of (append-nil c) ∙ split-end c n.slashless
 names-split c (d ∷ cs) h =
-    let w = and-parts (is_component c) (list_all is_component (d ∷ cs)) h in
+    let w = and_parts (is_component c) (list_all is_component (d ∷ cs)) h in
     let n = is-name c w.0 in
     split-at c (d ++ names_text cs) n.slashless ∙ ap (λ (xs : List (List ℕ)). c ∷ xs) (names-split d cs w.1)
 
@@ -93,9 +86,9 @@ before-end : (c t : List ℕ) → slashless c ≡ true → Ends t → before_fir
 before-end [] [] h e = refl
 before-end [] (b ∷ t) h e = ap (λ (u : Bool). take (cond (not u) (1 + position_or_len is_slash t) 0) (b ∷ t)) (is-slash b e)
 before-end (b ∷ c) t h e =
-    let w = and-parts (not (is_slash b)) (slashless c) h in
+    let w = and_parts (not (is_slash b)) (slashless c) h in
     let at = position_or_len is_slash (c ++ t) in
-    ap (λ (u : Bool). take (cond (not u) (1 + at) 0) (b ∷ c ++ t)) (not-no (is_slash b) w.0) ∙ ap (λ (n : ℕ). take n (b ∷ c ++ t)) (one-more at)
+    ap (λ (u : Bool). take (cond (not u) (1 + at) 0) (b ∷ c ++ t)) (not-true (is_slash b) w.0) ∙ ap (λ (n : ℕ). take n (b ∷ c ++ t)) (one-more at)
     ∙ ap (λ (xs : List ℕ). b ∷ xs) (before-end c t w.1 e)
 
 -- ---- the mark
@@ -139,8 +132,8 @@ nothing (Some n) = ap (λ (m : ℕ). Some m) (omega arith)
 mark-past : (c t : List ℕ) → slashless c ≡ true → mark_at (c ++ t) ≡ option_map (λ n. n + length c) (mark_at t)
 mark-past [] t h = nothing (mark_at t)
 mark-past (b ∷ c) t h =
-    let w = and-parts (not (is_slash b)) (slashless c) h in
-    ap (λ (u : Bool). cond u (Some 0) (option_map (λ n. n + 1) (mark_at (c ++ t)))) (no-start b (c ++ t) (not-no (is_slash b) w.0))
+    let w = and_parts (not (is_slash b)) (slashless c) h in
+    ap (λ (u : Bool). cond u (Some 0) (option_map (λ n. n + 1) (mark_at (c ++ t)))) (no-start b (c ++ t) (not-true (is_slash b) w.0))
     ∙ ap (option_map (λ n. n + 1)) (mark-past c t w.1) ∙ shifted (mark_at t) (length c)
 
 names-end : (p : List (List ℕ)) (t : List ℕ) → Ends t → Ends (names_text p ++ t)
@@ -154,7 +147,7 @@ twice (Some n) k j m e = ap (λ (x : ℕ). Some x) (omega arith)
 names-past : (p : List (List ℕ)) (t : List ℕ) → list_all is_component p ≡ true → Ends t → mark_at (names_text p ++ t) ≡ option_map (λ n. n + length (names_text p)) (mark_at t)
 names-past [] t h e = nothing (mark_at t)
 names-past (c ∷ p) t h e =
-    let w = and-parts (is_component c) (list_all is_component p) h in
+    let w = and_parts (is_component c) (list_all is_component p) h in
     let n = is-name c w.0 in
     let u : List ℕ = names_text p ++ t in
     let apart : (c ++ names_text p) ++ t ≡ c ++ u = append_assoc c (names_text p) t in
@@ -171,15 +164,15 @@ record IsAbsolute (p : List (List ℕ)) : Type 0 where
   names : list_all is_component p ≡ true
 
 absolute-parts : (p : List (List ℕ)) → is_absolute p ≡ true → IsAbsolute p
-absolute-parts p h = let a = and-parts _ _ h in let b = and-parts _ _ a.0 in record { relative = a.0; names = b.0 }
+absolute-parts p h = let a = and_parts _ _ h in let b = and_parts _ _ a.0 in record { relative = a.0; names = b.0 }
 
 relative-names : (p : List (List ℕ)) → is_relative p ≡ true → list_all is_component p ≡ true
-relative-names p h = (and-parts _ _ h).0
+relative-names p h = (and_parts _ _ h).0
 
 read-names : (c : List ℕ) (cs : List (List ℕ)) → is_absolute (c ∷ cs) ≡ true → read_path (names_text (c ∷ cs)) ≡ Some (c ∷ cs)
 read-names c cs h =
     let a = absolute-parts (c ∷ cs) h in
-    let w = and-parts (is_component c) (list_all is_component cs) a.names in
+    let w = and_parts (is_component c) (list_all is_component cs) a.names in
     let n = is-name c w.0 in
     let some = n.some in
     read-more (names_text (c ∷ cs)) (omega (arith, length-append c (names_text cs))) refl ∙ ap absolute (names-split c cs a.names)
@@ -191,7 +184,7 @@ read-directory (c ∷ cs) h = read-names c cs h
 
 read-below : (p : List (List ℕ)) → is_relative p ≡ true → read_below (names_text p) ≡ Some p
 read-below [] h = refl
-read-below ([] ∷ cs) h = let n = is-name [] (and-parts (is_component []) (list_all is_component cs) (relative-names ([] ∷ cs) h)).0 in let some = n.some in absurd (omega arith)
+read-below ([] ∷ cs) h = let n = is-name [] (and_parts (is_component []) (list_all is_component cs) (relative-names ([] ∷ cs) h)).0 in let some = n.some in absurd (omega arith)
 read-below ((b ∷ c) ∷ cs) h = ap relative (names-split (b ∷ c) cs (relative-names ((b ∷ c) ∷ cs) h)) ∙ ap (λ (t : Bool). cond t (Some ((b ∷ c) ∷ cs)) None) h
 
 names-only-end : (p : List (List ℕ)) → Ends (names_text p)
@@ -272,14 +265,14 @@ only-relative p q e = go (is_relative p) e
 
 names-read-as : (c : List ℕ) (cs : List (List ℕ)) → list_all is_component (c ∷ cs) ≡ true → read_path (names_text (c ∷ cs)) ≡ absolute (c ∷ cs)
 names-read-as c cs h =
-    let w = and-parts (is_component c) (list_all is_component cs) h in
+    let w = and_parts (is_component c) (list_all is_component cs) h in
     let n = is-name c w.0 in
     let some = n.some in
     read-more (names_text (c ∷ cs)) (omega (arith, length-append c (names_text cs))) refl ∙ ap absolute (names-split c cs h)
 
 only-below : (p q : List (List ℕ)) → list_all is_component p ≡ true → read_below (names_text p) ≡ Some q → q ≡ p
 only-below [] q h e = sym (some-is [] q e)
-only-below ([] ∷ cs) q h e = let n = is-name [] (and-parts (is_component []) (list_all is_component cs) h).0 in let some = n.some in absurd (omega arith)
+only-below ([] ∷ cs) q h e = let n = is-name [] (and_parts (is_component []) (list_all is_component cs) h).0 in let some = n.some in absurd (omega arith)
 only-below ((b ∷ c) ∷ cs) q h e = only-relative ((b ∷ c) ∷ cs) q (sym (ap relative (names-split (b ∷ c) cs h)) ∙ e)
 
 live-only : (p : List (List ℕ)) (r : ReadPath) → list_all is_component p ≡ true → read_any_path (path_text p) ≡ Some r → r ≡ as_it_is p
@@ -305,7 +298,7 @@ snapshot-only p name b r h e f is = go (read_below (names_text b)) refl (sym (re
 
 all-more : (p q : List (List ℕ)) → list_all is_component p ≡ true → list_all is_component q ≡ true → list_all is_component (p ++ q) ≡ true
 all-more [] q h e = e
-all-more (c ∷ p) q h e = let w = and-parts (is_component c) (list_all is_component p) h in let rest : list_all is_component (p ++ q) ≡ true = all-more p q w.1 e in ap (λ (t : Bool). t && list_all is_component (p ++ q)) w.0 ∙ rest
+all-more (c ∷ p) q h e = let w = and_parts (is_component c) (list_all is_component p) h in let rest : list_all is_component (p ++ q) ≡ true = all-more p q w.1 e in ap (λ (t : Bool). t && list_all is_component (p ++ q)) w.0 ∙ rest
 
 part-only : (p below : List (List ℕ)) (o : Option SnapPart) (r : ReadPath) → is_absolute p ≡ true → IsPart o → is_relative below ≡ true
     → read_any_path (read_path_text (below_part p o below)) ≡ Some r → r ≡ below_part p o below

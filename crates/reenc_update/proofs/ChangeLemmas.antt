@@ -4,7 +4,7 @@ use Rattle.std.specs.Prelude.{is_some}
 use Rattle.std.specs.List.{AllByRecursion, list_any}
 use Rattle.std.specs.Option.{option_map_or}
 use Rattle.std.specs.Str.{bytes_eq}
-use Rattle.std.proofs.lemmas.Bool.{eqb-true}
+use Rattle.std.proofs.lemmas.Bool.{eqb-true, and_from, and_parts}
 use Rattle.std.proofs.lemmas.Bool.Decides.{nat_tests}
 use Rattle.std.proofs.lemmas.List.{length-take-le, take_more}
 use Rattle.std.proofs.lemmas.Option.{same_Some}
@@ -13,7 +13,6 @@ use Rattle.hk_base.specs.Names.{Encrypted}
 use Rattle.edit_ops.specs.declared.files.FileKey.{FileKey}
 use Rattle.inode_tree.specs.Rows.{Entry, entry_of, same_id, zone_id}
 use Rattle.inode_tree.specs.ZoneFiles.{edek_of, is_file_of}
-use Rattle.name_calls.proofs.PathLemmas.{and-parts}
 use Rattle.reenc_walk.specs.declared.sent.Sent.{Sent}
 use Rattle.reenc_walk.specs.Files.{same_edek}
 use Rattle.reenc_update.specs.Changes.{changed, changes_of, has_edek, is_changed}
@@ -31,15 +30,12 @@ bytes-self xs = (bytes_eq-Decides xs xs).1 refl
 number-self : (n : ℕ) → (n == n) ≡ true
 number-self n = grind (arith, nat_tests)
 
-both : (a b : Bool) → a ≡ true → b ≡ true → (a && b) ≡ true
-both a b e f = cc
-
 -- encrypted keys that compare as the same are the same
 pub same-edek : (a b : Encrypted) → same_edek a b ≡ true → a ≡ b
 same-edek a b e =
-    let p = and-parts (bytes_eq a.version.key b.version.key && a.version.number == b.version.number && bytes_eq a.iv b.iv) (bytes_eq a.sealed b.sealed) e in
-    let q = and-parts (bytes_eq a.version.key b.version.key && a.version.number == b.version.number) (bytes_eq a.iv b.iv) p.0 in
-    let r = and-parts (bytes_eq a.version.key b.version.key) (a.version.number == b.version.number) q.0 in
+    let p = and_parts (bytes_eq a.version.key b.version.key && a.version.number == b.version.number && bytes_eq a.iv b.iv) (bytes_eq a.sealed b.sealed) e in
+    let q = and_parts (bytes_eq a.version.key b.version.key && a.version.number == b.version.number) (bytes_eq a.iv b.iv) p.0 in
+    let r = and_parts (bytes_eq a.version.key b.version.key) (a.version.number == b.version.number) q.0 in
     let key = bytes-same a.version.key b.version.key r.0 in
     let number : a.version.number ≡ b.version.number = eqb-true a.version.number b.version.number r.1 in
     let iv = bytes-same a.iv b.iv q.1 in
@@ -48,7 +44,7 @@ same-edek a b e =
 
 pub edek-self : (a : Encrypted) → same_edek a a ≡ true
 edek-self a =
-    both _ _ (both _ _ (both _ _ (bytes-self a.version.key) (number-self a.version.number)) (bytes-self a.iv)) (bytes-self a.sealed)
+    and_from _ _ (and_from _ _ (and_from _ _ (bytes-self a.version.key) (number-self a.version.number)) (bytes-self a.iv)) (bytes-self a.sealed)
 
 same-zone : (o : Option ℕ) (zone : ℕ) → same_id o (Some zone) ≡ true → o ≡ Some zone
 same-zone None zone e = cc
@@ -61,7 +57,7 @@ same-key (Some a) edek e = ap (λ (b : Encrypted). Some b) (sym (same-edek edek 
 -- a file that changes is as it was sent, and another key came back for it
 pub changes-means : (rows : List Entry) (zone : ℕ) (x : Sent) (e : Encrypted) → is_changed rows zone x e ≡ true → HasInZone rows zone x.id x.edek × (e ≢ x.edek)
 changes-means rows zone x e h =
-    let p = and-parts (option_map_or (has_edek rows zone x.edek) (entry_of rows x.id) false) (not (same_edek x.edek e)) h in
+    let p = and_parts (option_map_or (has_edek rows zone x.edek) (entry_of rows x.id) false) (not (same_edek x.edek e)) h in
     (found (entry_of rows x.id) refl p.0, λ same. other (same_edek x.edek e) p.1 (ap (same_edek x.edek) same ∙ edek-self x.edek))
   where
     other : (t : Bool) → not t ≡ true → t ≡ true → ⊥
@@ -71,20 +67,20 @@ changes-means rows zone x e h =
     found : (o : Option Entry) → entry_of rows x.id ≡ o → option_map_or (has_edek rows zone x.edek) o false ≡ true → HasInZone rows zone x.id x.edek
     found None is h = absurd cc
     found (Some entry) is h =
-        let q = and-parts (is_file_of rows zone entry) (option_map_or (same_edek x.edek) (edek_of entry.row.kind) false) h in
-        let r = and-parts (is_some (edek_of entry.row.kind)) (same_id (zone_id rows entry.path) (Some zone)) q.0 in
+        let q = and_parts (is_file_of rows zone entry) (option_map_or (same_edek x.edek) (edek_of entry.row.kind) false) h in
+        let r = and_parts (is_some (edek_of entry.row.kind)) (same_id (zone_id rows entry.path) (Some zone)) q.0 in
         record { entry = entry; stands = is; lies = same-zone (zone_id rows entry.path) zone r.1; has = same-key (edek_of entry.row.kind) x.edek q.1 }
 
 file-of : (rows : List Entry) (zone : ℕ) (entry : Entry) (edek : Encrypted) → zone_id rows entry.path ≡ Some zone → edek_of entry.row.kind ≡ Some edek → is_file_of rows zone entry ≡ true
 file-of rows zone entry edek lies has =
-    both (is_some (edek_of entry.row.kind)) (same_id (zone_id rows entry.path) (Some zone)) (ap is_some has) (ap (λ (o : Option ℕ). same_id o (Some zone)) lies ∙ number-self zone)
+    and_from (is_some (edek_of entry.row.kind)) (same_id (zone_id rows entry.path) (Some zone)) (ap is_some has) (ap (λ (o : Option ℕ). same_id o (Some zone)) lies ∙ number-self zone)
 
 -- and such a file changes
 pub means-changes : (rows : List Entry) (zone : ℕ) (x : Sent) (e : Encrypted) → HasInZone rows zone x.id x.edek → e ≢ x.edek → is_changed rows zone x e ≡ true
 means-changes rows zone x e still another =
-    both (option_map_or (has_edek rows zone x.edek) (entry_of rows x.id) false) (not (same_edek x.edek e))
+    and_from (option_map_or (has_edek rows zone x.edek) (entry_of rows x.id) false) (not (same_edek x.edek e))
     (ap (λ (o : Option Entry). option_map_or (has_edek rows zone x.edek) o false) still.stands
-    ∙ both (is_file_of rows zone still.entry) (option_map_or (same_edek x.edek) (edek_of still.entry.row.kind) false) (file-of rows zone still.entry x.edek still.lies still.has)
+    ∙ and_from (is_file_of rows zone still.entry) (option_map_or (same_edek x.edek) (edek_of still.entry.row.kind) false) (file-of rows zone still.entry x.edek still.lies still.has)
     (ap (λ (o : Option Encrypted). option_map_or (same_edek x.edek) o false) still.has ∙ edek-self x.edek))
     (other (same_edek x.edek e) refl)
   where
@@ -97,7 +93,7 @@ pub fits-length : (sent : List Sent) (edeks : List Encrypted) → are_of_keys se
 fits-length [] [] fits = refl
 fits-length [] (e ∷ es) fits = absurd cc
 fits-length (x ∷ xs) [] fits = absurd cc
-fits-length (x ∷ xs) (e ∷ es) fits = let p = and-parts (bytes_eq e.version.key x.edek.version.key) (are_of_keys xs es) fits in omega (arith, fits-length xs es p.1)
+fits-length (x ∷ xs) (e ∷ es) fits = let p = and_parts (bytes_eq e.version.key x.edek.version.key) (are_of_keys xs es) fits in omega (arith, fits-length xs es p.1)
 
 module _ (rows : List Entry) (zone : ℕ) where
   later : (x : Sent) (xs : List Sent) (e : Encrypted) (es : List Encrypted) (f : FileKey) → IsDelivered rows zone xs es f → IsDelivered rows zone (x ∷ xs) (e ∷ es) f
@@ -201,12 +197,12 @@ module _ (rows : List Entry) (zone : ℕ) where
   changed-once [] edeks h = refl
   changed-once (x ∷ xs) [] h = refl
   changed-once (x ∷ xs) (e ∷ es) h =
-      let p = and-parts (not (list_any (λ y. y.id == x.id) xs)) (once_by (λ y. y.id) xs) h in
+      let p = and_parts (not (list_any (λ y. y.id == x.id) xs)) (once_by (λ y. y.id) xs) h in
       by_test (is_changed rows zone x e) (other-ids x.id xs es (flip (list_any (λ y. y.id == x.id) xs) p.0)) (changed-once xs es p.1)
     where
       by_test : (t : Bool) → list_any (λ g. g.id == x.id) (changed rows zone xs es) ≡ false → once_by (λ f. f.id) (changed rows zone xs es) ≡ true
           → once_by (λ f. f.id) (cond t (record { id = x.id; edek = e } ∷ changed rows zone xs es) (changed rows zone xs es)) ≡ true
-      by_test true a b = both (not (list_any (λ g. g.id == x.id) (changed rows zone xs es))) (once_by (λ f. f.id) (changed rows zone xs es)) (ap not a) b
+      by_test true a b = and_from (not (list_any (λ g. g.id == x.id) (changed rows zone xs es))) (once_by (λ f. f.id) (changed rows zone xs es)) (ap not a) b
       by_test false a b = b
 
   pub ids-stay-once : (sent : List Sent) (r : BatchResult) → once_by (λ x. x.id) sent ≡ true → once_by (λ f. f.id) (changes_of rows zone sent r).files ≡ true
@@ -218,10 +214,10 @@ module _ (rows : List Entry) (zone : ℕ) where
   came-of-key [] edeks file edek fits came = absurd came
   came-of-key (x ∷ xs) [] file edek fits came = absurd came
   came-of-key (x ∷ xs) (e ∷ es) file edek fits (inl same) =
-      let p = and-parts (bytes_eq e.version.key x.edek.version.key) (are_of_keys xs es) fits in
+      let p = and_parts (bytes_eq e.version.key x.edek.version.key) (are_of_keys xs es) fits in
       ap (λ (a : Encrypted). a.version.key) same.1 ∙ bytes-same e.version.key x.edek.version.key p.0 ∙ ap (λ (y : Sent). y.edek.version.key) (sym same.0)
   came-of-key (x ∷ xs) (e ∷ es) file edek fits (inr came) =
-      let p = and-parts (bytes_eq e.version.key x.edek.version.key) (are_of_keys xs es) fits in came-of-key xs es file edek p.1 came
+      let p = and_parts (bytes_eq e.version.key x.edek.version.key) (are_of_keys xs es) fits in came-of-key xs es file edek p.1 came
 
   pub keys-stay : (sent : List Sent) (r : BatchResult) (f : FileKey) (e : Entry) (edek : Encrypted) → Fits sent r → In f (changes_of rows zone sent r).files
       → entry_of rows f.id ≡ Some e → edek_of e.row.kind ≡ Some edek → f.edek.version.key ≡ edek.version.key

@@ -5,9 +5,9 @@ use Rattle.std.specs.List.{cons_option, filter}
 use Rattle.std.specs.Option.{option_map}
 use Rattle.std.proofs.Math.Seq.{take-append_seam}
 use Rattle.std.proofs.lemmas.List.{append-nil}
+use Rattle.std.proofs.lemmas.Bool.{and_parts}
 use Rattle.hk_base.specs.Names.{Encrypted}
 use Rattle.name_calls.specs.Paths.{is_prefix}
-use Rattle.name_calls.proofs.PathLemmas.{and-parts}
 use Rattle.inode_tree.specs.Rows.{Entry, IsRows, entry_of, same_id, zone_id}
 use Rattle.inode_tree.specs.declared.rows.Row.{Row}
 use Rattle.reenc_walk.specs.declared.files.Files.{Files}
@@ -85,7 +85,7 @@ module _ (rows : List Entry) (zone : ℕ) (after : Option (List (List ℕ))) (di
           }
 
       go : (t : Bool) → is_file_of rows zone e ≡ t → IsCollected rows zone after size start (at + 1) (added (cond t (sent_of e) None) sent) (last_after at (cond t (sent_of e) None) last)
-      go true h = one h (sent_of e) refl (some-sent e.row.id (edek_of e.row.kind) ∙ (and-parts (is_some (edek_of e.row.kind)) (same_id (zone_id rows e.path) (Some zone)) h).0)
+      go true h = one h (sent_of e) refl (some-sent e.row.id (edek_of e.row.kind) ∙ (and_parts (is_some (edek_of e.row.kind)) (same_id (zone_id rows e.path) (Some zone)) h).0)
       go false h =
           let from = c.from in
           record {

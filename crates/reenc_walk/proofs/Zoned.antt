@@ -1,12 +1,12 @@
 -- The files of a zone among the rows of a tree, about a place.
 use Rattle.std.proofs.Common.{◌≡◌, ℕ, ◌<◌, ◌≤◌, Bool, true, false, not, cond, ◌&&◌, ◌||◌, List, [], ◌∷◌, length, drop, Option, Some, None, is_some, refl, sym, ap, ◌∙◌, subst, arith}
-use Rattle.std.specs.Prelude.{slice_get, ◌==◌, nat_lt}
+use Rattle.std.specs.Prelude.{slice_get, nat_lt}
 use Rattle.std.specs.List.{All}
 use Rattle.std.specs.Option.{option_map, option_map_or}
 use Rattle.std.proofs.lemmas.List.Elements.{All-head, All-tail}
 use Rattle.std.proofs.lemmas.Bool.Decides.{nat_tests}
+use Rattle.std.proofs.lemmas.Bool.{eqb-true, and_left, and_parts}
 use Rattle.name_calls.specs.Paths.{is_prefix}
-use Rattle.name_calls.proofs.PathLemmas.{and-parts}
 use Rattle.inode_tree.specs.Arena.{rank}
 use Rattle.inode_tree.specs.Rows.{Entry, IsRows, entry_of, is_marked, longer, same_id, zone_id, zone_of}
 use Rattle.inode_tree.proofs.Blocks.{between, prefix-not-before}
@@ -20,7 +20,7 @@ zone-holds P [] p f a h = cc
 zone-holds P (e ∷ es) p f a h = go (is_marked e.row && is_prefix e.path p) refl (zone_of es p) refl (λ i. zone-holds P es p f (All-tail P e es a) i) h
   where
     here : (is_marked e.row && is_prefix e.path p) ≡ true → e ≡ f → P f × (is_prefix f.path p ≡ true)
-    here t i = (subst P i (All-head P e es a), subst (λ (x : Entry). is_prefix x.path p ≡ true) i (and-parts (is_marked e.row) (is_prefix e.path p) t).1)
+    here t i = (subst P i (All-head P e es a), subst (λ (x : Entry). is_prefix x.path p ≡ true) i (and_parts (is_marked e.row) (is_prefix e.path p) t).1)
 
     go : (t : Bool) → (is_marked e.row && is_prefix e.path p) ≡ t → (o : Option Entry) → zone_of es p ≡ o → (zone_of es p ≡ Some f → P f × (is_prefix f.path p ≡ true)) → cond t (Some (longer e o)) o ≡ Some f → P f × (is_prefix f.path p ≡ true)
     go true t None o ih k = here t cc
@@ -31,9 +31,6 @@ zone-holds P (e ∷ es) p f a h = go (is_marked e.row && is_prefix e.path p) ref
         two false k = here t cc
     go false t o i ih k = ih (i ∙ k)
 
-id-yes : (a b : ℕ) → (a == b) ≡ true → a ≡ b
-id-yes a b h = grind (arith, nat_tests)
-
 -- the directory of a zone that a path lies in
 pub in-zone : (rows : List Entry) (zone : ℕ) (p : List (List ℕ)) → IsRows rows → same_id (zone_id rows p) (Some zone) ≡ true → (z : Entry) × (entry_of rows zone ≡ Some z) × (is_prefix z.path p ≡ true)
 in-zone rows zone p r h = go (zone_of rows p) refl h
@@ -42,18 +39,15 @@ in-zone rows zone p r h = go (zone_of rows p) refl h
     go None e k = cc
     go (Some f) e k =
         let w = zone-holds (λ (x : Entry). entry_of rows x.row.id ≡ Some x) rows p f r.once e in
-        (f, subst (λ (id : ℕ). entry_of rows id ≡ Some f) (id-yes f.row.id zone k) w.0, w.1)
+        (f, subst (λ (id : ℕ). entry_of rows id ≡ Some f) (eqb-true f.row.id zone k) w.0, w.1)
 
 -- a file of a zone
 abbrev pub test : List Entry → ℕ → Option (List (List ℕ)) → Entry → Bool
 test rows zone after e = is_file_of rows zone e && is_after after (path_in rows zone e.path)
 
-no-and : (a b : Bool) → a ≡ false → (a && b) ≡ false
-no-and a b h = cc
-
 -- without the directory there are no files of the zone
 pub no-zone : (rows : List Entry) (zone : ℕ) (after : Option (List (List ℕ))) (e : Entry) → IsRows rows → entry_of rows zone ≡ None → test rows zone after e ≡ false
-no-zone rows zone after e r n = no-and (is_file_of rows zone e) _ (two (is_some (edek_of e.row.kind)) (same_id (zone_id rows e.path) (Some zone)) refl)
+no-zone rows zone after e r n = and_left (is_file_of rows zone e) _ (two (is_some (edek_of e.row.kind)) (same_id (zone_id rows e.path) (Some zone)) refl)
   where
     two : (s t : Bool) → same_id (zone_id rows e.path) (Some zone) ≡ t → (s && t) ≡ false
     two true true h = let w = in-zone rows zone e.path r h in let i : Some w.0 ≡ None = sym w.1 ∙ n in cc
@@ -72,7 +66,7 @@ module _ (rows : List Entry) (zone : ℕ) (after : Option (List (List ℕ))) (di
   -- the files of the zone are below its directory
   file-below : (e : Entry) → is_file_of rows zone e ≡ true → is_prefix dir e.path ≡ true
   file-below e h =
-      let w = in-zone rows zone e.path r (and-parts (is_some (edek_of e.row.kind)) (same_id (zone_id rows e.path) (Some zone)) h).1 in
+      let w = in-zone rows zone e.path r (and_parts (is_some (edek_of e.row.kind)) (same_id (zone_id rows e.path) (Some zone)) h).1 in
       let i : Some w.0.path ≡ Some dir = ap (option_map (λ (e : Entry). e.path)) (sym w.1) ∙ is in
       let j : w.0.path ≡ dir = cc in
       subst (λ (p : List (List ℕ)). is_prefix p e.path ≡ true) j w.2
@@ -81,7 +75,7 @@ module _ (rows : List Entry) (zone : ℕ) (after : Option (List (List ℕ))) (di
   path-is = path-from-dir rows zone dir is
 
   not-below : (e : Entry) → is_prefix dir e.path ≡ false → test rows zone after e ≡ false
-  not-below e n = no-and (is_file_of rows zone e) _ (go (is_file_of rows zone e) refl)
+  not-below e n = and_left (is_file_of rows zone e) _ (go (is_file_of rows zone e) refl)
     where
       go : (t : Bool) → is_file_of rows zone e ≡ t → t ≡ false
       go true h = let f = file-below e h in cc

@@ -1,7 +1,8 @@
 -- A line is the text of at most one event.
-use Rattle.std.proofs.Common.{◌≡◌, ℕ, ◌<◌, ◌^◌, List, [], ◌∷◌, ◌++◌, length, drop, bytes_eq, subst, if◌then◌else◌, Bool, true, false, ◌&&◌, nat_lt, nat_le, Option, None, Some, Ok, refl, ap, ap₂, sym, ◌∙◌, arith, append_assoc, codes}
+use Rattle.std.proofs.Common.{◌≡◌, ℕ, ◌<◌, ◌^◌, List, [], ◌∷◌, ◌++◌, length, drop, bytes_eq, subst, if◌then◌else◌, true, false, ◌&&◌, nat_lt, nat_le, Option, None, Some, Ok, refl, ap, ap₂, sym, ◌∙◌, arith, append_assoc, codes}
 use Rattle.std.specs.List.{list_all, onto_first, slice_split}
 use Rattle.std.specs.Fmt.{decimal}
+use Rattle.std.proofs.lemmas.Bool.{and_parts}
 use Rattle.percent_encoding.specs.Percent.{percent_decode}
 use Rattle.hk_base.specs.Names.{IsKeyName, Version, is_name_byte, version_text}
 use Rattle.hk_base.proofs.Versions.{decimal_once}
@@ -13,10 +14,6 @@ use Rattle.hk_events.specs.declared.event.Event.TheVariants as event
 use Rattle.replay_text.specs.Events.{AreTriples, IsEscaped, IsMaterial, IsQuiet, IsTriple, IsUser, Spells, SpellsAskPath, SpellsAskZone, SpellsBatch, SpellsCall, SpellsCreate, SpellsEdek, SpellsEvent, SpellsGenerate, SpellsKept, SpellsKms, SpellsMaterial, SpellsMetadatas, SpellsNamed, SpellsPath, SpellsRoll, SpellsSent, SpellsTwoFields, SpellsVersion, SpellsWalk, SpellsZones, delete_verb, fields_of, is_comma}
 use Rattle.replay_text.proofs.CallLemmas.{apart, two_verbs}
 
-both : (s t : Bool) → (s && t) ≡ true → (s ≡ true) × (t ≡ true)
-both true t h = (refl, h)
-both false t h = (h, absurd cc)
-
 -- versions
 
 not_at_sign : is_name_byte 64 ≡ true → ⊥
@@ -25,22 +22,22 @@ not_at_sign may = cc
 parts_once : (k l r s : List ℕ) → list_all is_name_byte k ≡ true → list_all is_name_byte l ≡ true → k ++ 64 ∷ r ≡ l ++ 64 ∷ s → (k ≡ l) × (r ≡ s)
 parts_once [] [] r s named other same = (refl, cc)
 parts_once [] (b ∷ bs) r s named other same =
-    let here = both (is_name_byte b) (list_all is_name_byte bs) other in
+    let here = and_parts (is_name_byte b) (list_all is_name_byte bs) other in
     let is : 64 ≡ b = cc in
     absurd (not_at_sign (ap is_name_byte is ∙ here.0))
 parts_once (a ∷ more) [] r s named other same =
-    let here = both (is_name_byte a) (list_all is_name_byte more) named in
+    let here = and_parts (is_name_byte a) (list_all is_name_byte more) named in
     let is : 64 ≡ a = cc in
     absurd (not_at_sign (ap is_name_byte is ∙ here.0))
 parts_once (a ∷ more) (b ∷ bs) r s named other same =
-    let first = both (is_name_byte a) (list_all is_name_byte more) named in
-    let second = both (is_name_byte b) (list_all is_name_byte bs) other in
+    let first = and_parts (is_name_byte a) (list_all is_name_byte more) named in
+    let second = and_parts (is_name_byte b) (list_all is_name_byte bs) other in
     let head : a ≡ b = cc in
     let rest = parts_once more bs r s first.1 second.1 cc in
     (ap₂ (λ x xs. x ∷ xs) head rest.0, rest.1)
 
 bytes_of : (key : List ℕ) → IsKeyName key → list_all is_name_byte key ≡ true
-bytes_of key name = (both (nat_lt 0 (length key) && nat_le (length key) 64) (list_all is_name_byte key) name).1
+bytes_of key name = (and_parts (nat_lt 0 (length key) && nat_le (length key) 64) (list_all is_name_byte key) name).1
 
 version_once : (k l : List ℕ) (m n : ℕ) → IsKeyName k → IsKeyName l → m < 2 ^ 16 → n < 2 ^ 16 → version_text k m ≡ version_text l n → (k ≡ l) × (m ≡ n)
 version_once k l m n named other small few same =

@@ -7,7 +7,6 @@ use Rattle.std.proofs.lemmas.Bool.Decides.{nat_tests}
 use Rattle.std.proofs.lemmas.List.{take_all, take-take}
 use Rattle.std.proofs.lemmas.Slice.Eq.{bytes_eq-Decides}
 use Rattle.name_calls.specs.Paths.{is_before, is_child, is_prefix, parent, same_path}
-use Rattle.name_calls.proofs.PathLemmas.{and-parts}
 use Rattle.inode_tree.specs.declared.rows.Row.{Row}
 use Rattle.inode_tree.specs.Rows.{AllAfter, Entry, IsRising, is_dir_at, row_at}
 use Rattle.inode_tree.proofs.Asked.{parent-take}
@@ -15,10 +14,10 @@ use Rattle.inode_tree.proofs.Blocks.{prefix-not-before}
 use Rattle.inode_tree.proofs.Puts.{not-both, same-turned}
 use Rattle.inode_tree.proofs.Seeks.{before-not-same, not-before-itself, other-before, same-is, same-itself}
 use Rattle.inode_tree.proofs.ZoneLemmas.{prefix-itself, prefix-whole}
-use Rattle.std.proofs.lemmas.Bool.{cases_lt}
+use Rattle.std.proofs.lemmas.Bool.{cases_lt, and_parts, false_from_ne_true}
 use Rattle.row_blocks.specs.Below.{In, IsWalkable, below, belows}
 use Rattle.row_blocks.proofs.Groups.{filter-no, filter-yes, groups, leaders}
-use Rattle.row_blocks.proofs.Blocks.{Housed, IsBelow, after-in, blocks, both, child-long, child-take, is-false, itself, join, leads, same, take-prefix}
+use Rattle.row_blocks.proofs.Blocks.{Housed, IsBelow, after-in, blocks, both, child-long, child-take, itself, join, leads, same, take-prefix}
 
 pub bool-ext : (a b : Bool) → (a ≡ true → b ≡ true) → (b ≡ true → a ≡ true) → a ≡ b
 bool-ext true true f g = refl
@@ -30,7 +29,7 @@ pub prefix-take : (a x : List (List ℕ)) → is_prefix a x ≡ true → take (l
 prefix-take [] x h = refl
 prefix-take (b ∷ a) [] h = cc
 prefix-take (b ∷ a) (c ∷ x) h =
-    let parts = and-parts (bytes_eq b c) (is_prefix a x) h in
+    let parts = and_parts (bytes_eq b c) (is_prefix a x) h in
     λ i. sym ((bytes_eq-Decides b c).0 parts.0) i ∷ prefix-take a x parts.1 i
 
 -- a prefix of a path is one of a longer prefix of it
@@ -39,7 +38,7 @@ prefix-front m [] x h le = refl
 prefix-front m (b ∷ a) [] h le = cc
 prefix-front zero (b ∷ a) (c ∷ x) h le = absurd (omega (arith, le))
 prefix-front (suc m) (b ∷ a) (c ∷ x) h le =
-    let parts = and-parts (bytes_eq b c) (is_prefix a x) h in
+    let parts = and_parts (bytes_eq b c) (is_prefix a x) h in
     λ i. parts.0 i && prefix-front m a x parts.1 (omega (arith, le)) i
 
 pub prefix-trans : (a b c : List (List ℕ)) → is_prefix a b ≡ true → is_prefix b c ≡ true → is_prefix a c ≡ true
@@ -47,15 +46,15 @@ prefix-trans [] b c g h = refl
 prefix-trans (x ∷ a) [] c g h = cc
 prefix-trans (x ∷ a) (y ∷ b) [] g h = cc
 prefix-trans (x ∷ a) (y ∷ b) (z ∷ c) g h =
-    let one = and-parts (bytes_eq x y) (is_prefix a b) g in
-    let two = and-parts (bytes_eq y z) (is_prefix b c) h in
+    let one = and_parts (bytes_eq x y) (is_prefix a b) g in
+    let two = and_parts (bytes_eq y z) (is_prefix b c) h in
     let same : bytes_eq x z ≡ true = subst (λ (w : List ℕ). bytes_eq x w ≡ true) ((bytes_eq-Decides y z).0 two.0) one.0 in
     λ i. same i && prefix-trans a b c one.1 two.1 i
 
 prefix-long : (a x : List (List ℕ)) → is_prefix a x ≡ true → length a ≤ length x
 prefix-long [] x h = omega arith
 prefix-long (b ∷ a) [] h = cc
-prefix-long (b ∷ a) (c ∷ x) h = let parts = and-parts (bytes_eq b c) (is_prefix a x) h in omega (arith, prefix-long a x parts.1)
+prefix-long (b ∷ a) (c ∷ x) h = let parts = and_parts (bytes_eq b c) (is_prefix a x) h in omega (arith, prefix-long a x parts.1)
 
 pub filter-alike-in : (f g : Entry → Bool) (es : List Entry) → ((e : Entry) → In e es → f e ≡ g e) → filter f es ≡ filter g es
 filter-alike-in f g [] h = refl
@@ -127,7 +126,7 @@ module _ (p : List (List ℕ)) where
   and-yes a b e f = cc
 
   under-is : (e : Entry) → is_under e ≡ true → IsBelow p e
-  under-is e h = let parts = and-parts (is_prefix p e.path) (nat_lt (length p) (length e.path)) h in (parts.0, lt-is (length p) (length e.path) parts.1)
+  under-is e h = let parts = and_parts (is_prefix p e.path) (nat_lt (length p) (length e.path)) h in (parts.0, lt-is (length p) (length e.path) parts.1)
 
   under-yes : (e : Entry) → IsBelow p e → is_under e ≡ true
   under-yes e h = and-yes (is_prefix p e.path) (nat_lt (length p) (length e.path)) h.0 (lt-yes (length p) (length e.path) h.1)
@@ -177,7 +176,7 @@ module _ (p : List (List ℕ)) where
   after-directory : (es : List Entry) → AllByRecursion (IsBelow p) es → AllAfter p es
   after-directory [] h = tt
   after-directory (e ∷ es) h = (
-    other-before e.path p (is-false (same_path e.path p) (λ t. let l = ap length (same-is e.path p t) in omega (arith, l, h.0.1))) (prefix-not-before p e.path h.0.0),
+    other-before e.path p (false_from_ne_true (same_path e.path p) (λ t. let l = ap length (same-is e.path p t) in omega (arith, l, h.0.1))) (prefix-not-before p e.path h.0.0),
     after-directory es h.1,
   )
 
@@ -203,7 +202,7 @@ module _ (p : List (List ℕ)) where
   directory-first [] d rising is path = absurd is
   directory-first (e ∷ es) d rising (inl is) path =
       let here : e.path ≡ p = ap (λ (y : Entry). y.path) (sym is) ∙ path in
-      let none : is_under e ≡ false = is-false (is_under e) (λ u. let b = under-is e u in omega (arith, ap length here, b.1)) in
+      let none : is_under e ≡ false = false_from_ne_true (is_under e) (λ u. let b = under-is e u in omega (arith, ap length here, b.1)) in
       filter-yes (λ (x : Entry). is_prefix p x.path) e es (subst (λ (q : List (List ℕ)). is_prefix p q ≡ true) (sym here) (prefix-itself p))
       ∙ (λ i. sym is i ∷ filter-alike-in (λ (x : Entry). is_prefix p x.path) is_under es (λ x there.
       bool-ext (is_prefix p x.path) (is_under x)
@@ -216,15 +215,15 @@ module _ (p : List (List ℕ)) where
           (λ (le : length q ≤ length p). absurd (both (is_before q q) (subst (λ (o : List (List ℕ)). is_before o q ≡ true) (prefix-whole p q front le) before) (not-before-itself q))) (cases_lt (length p) (length q))
   directory-first (e ∷ es) d rising (inr is) path =
       let before : is_before e.path p ≡ true = subst (λ (q : List (List ℕ)). is_before e.path q ≡ true) path (after-in e.path es d rising.0 is) in
-      let off : is_prefix p e.path ≡ false = is-false (is_prefix p e.path) (λ t. both (is_before e.path p) before (prefix-not-before p e.path t)) in
-      let none : is_under e ≡ false = is-false (is_under e) (λ u. both (is_prefix p e.path) (under-is e u).0 off) in
+      let off : is_prefix p e.path ≡ false = false_from_ne_true (is_prefix p e.path) (λ t. both (is_before e.path p) before (prefix-not-before p e.path t)) in
+      let none : is_under e ≡ false = false_from_ne_true (is_under e) (λ u. both (is_prefix p e.path) (under-is e u).0 off) in
       filter-no (λ (x : Entry). is_prefix p x.path) e es off ∙ directory-first es d rising.1 is path ∙ ap (λ (l : List Entry). d ∷ l) (sym (filter-no is_under e es none))
 
   child-is : (k : Entry) → leads p k ≡ true → IsBelow p k
   child-is k lk = (take-front, omega (arith, child-long p k lk))
     where
       take-front : is_prefix p k.path ≡ true
-      take-front = (and-parts (is_prefix p k.path) _ lk).0
+      take-front = (and_parts (is_prefix p k.path) _ lk).0
 
   children-under : (es : List Entry) → filter (leads p) (under es) ≡ filter (leads p) es
   children-under [] = refl
@@ -232,7 +231,7 @@ module _ (p : List (List ℕ)) where
     where
       go : (b : Bool) → is_under e ≡ b → filter (leads p) (under es) ≡ filter (leads p) es → filter (leads p) (cond b (e ∷ under es) (under es)) ≡ filter (leads p) (e ∷ es)
       go true u more = ap (λ (l : List Entry). cond (leads p e) (e ∷ l) l) more
-      go false u more = more ∙ sym (filter-no (leads p) e es (is-false (leads p e) (λ t. both (is_under e) (under-yes e (child-is e t)) u)))
+      go false u more = more ∙ sym (filter-no (leads p) e es (false_from_ne_true (leads p e) (λ t. both (is_under e) (under-yes e (child-is e t)) u)))
 
   below-under : (k : Entry) (es : List Entry) → leads p k ≡ true → below (under es) k.path ≡ below es k.path
   below-under k [] lk = refl
@@ -240,7 +239,7 @@ module _ (p : List (List ℕ)) where
     where
       go : (b : Bool) → is_under e ≡ b → below (under es) k.path ≡ below es k.path → below (cond b (e ∷ under es) (under es)) k.path ≡ below (e ∷ es) k.path
       go true u more = ap (λ (l : List Entry). cond (is_prefix k.path e.path) (e ∷ l) l) more
-      go false u more = more ∙ sym (filter-no (λ (x : Entry). is_prefix k.path x.path) e es (is-false (is_prefix k.path e.path) (λ t.
+      go false u more = more ∙ sym (filter-no (λ (x : Entry). is_prefix k.path x.path) e es (false_from_ne_true (is_prefix k.path e.path) (λ t.
           both (is_under e) (under-yes e (prefix-trans p k.path e.path (child-is k lk).0 t, omega (arith, prefix-long k.path e.path t, child-long p k lk))) u)))
 
   belows-under : (ks es : List Entry) → AllByRecursion (λ (k : Entry). leads p k ≡ true) ks → belows ks (under es) ≡ belows ks es

@@ -1,9 +1,9 @@
 -- Copies that come one after another.
-use Rattle.std.proofs.Common.{◌≡◌, ℕ, Bool, true, false, ◌&&◌, ◌||◌, IsTrue, List, [], ◌∷◌, ◌++◌, Option, Some, None, refl, sym, ap, ◌∙◌, subst, arith, append_assoc}
+use Rattle.std.proofs.Common.{◌≡◌, ℕ, Bool, true, false, ◌&&◌, IsTrue, List, [], ◌∷◌, ◌++◌, Option, Some, None, refl, sym, ap, ◌∙◌, subst, append_assoc}
 use Rattle.std.specs.Prelude.{◌==◌}
 use Rattle.std.specs.List.{AllByRecursion}
-use Rattle.std.proofs.lemmas.Bool.Decides.{nat_tests}
 use Rattle.std.proofs.lemmas.List.{append-nil}
+use Rattle.std.proofs.lemmas.Bool.{eq-eqb, eqb-true, or_parts, or_from}
 use Rattle.hk_base.specs.declared.names.Edek.{Edek}
 use Rattle.hk_base.specs.declared.names.KeyName.{KeyName}
 use Rattle.body_stream.specs.Vaults.{TellsBodies, VaultState}
@@ -18,12 +18,6 @@ use Rattle.row_copies.specs.Clusters.{ClusterState, CopiesFile, CopyState, Keeps
 use Rattle.row_copies.specs.Copies.{HasBodyOf, IsCopyOf, IsUnmarked, Pairs, has_file, is_file}
 use Rattle.row_copies.specs.Walks.{Adds, Ends, MakesRow, Stops, entry_at}
 use Rattle.row_copies.proofs.PutLemmas.{AllBefore, below-has, below-put, free-put, removed-put, row-of-put, set-put}
-
-eq-yes : (m n : ℕ) → m ≡ n → (m == n) ≡ true
-eq-yes m n h = grind (arith, nat_tests)
-
-eq-is : (m n : ℕ) → (m == n) ≡ true → m ≡ n
-eq-is m n h = grind (arith, nat_tests)
 
 pub tells-too : (old new : VaultState) → new.tells ≡ old.tells → TellsBodies old → TellsBodies new
 tells-too old new same tells = subst (λ (b : Bool). IsTrue b) (sym same) tells
@@ -63,14 +57,7 @@ all-same f (y ∷ ys) = (refl, all-same f ys)
 
 -- files
 
-or-no : (a b : Bool) → (a || b) ≡ false → (a ≡ false) × (b ≡ false)
-or-no true b h = cc
-or-no false b h = (refl, h)
-
-or-yes : (a b : Bool) → a ≡ false → b ≡ false → (a || b) ≡ false
-or-yes a b e f = cc
-
-and-no : (a b : Bool) → (b ≡ true → ⊥) → (a && b) ≡ false
+pub and-no : (a b : Bool) → (b ≡ true → ⊥) → (a && b) ≡ false
 and-no true true h = absurd (h refl)
 and-no true false h = refl
 and-no false b h = refl
@@ -78,16 +65,16 @@ and-no false b h = refl
 pub files-parts : (xs ys : List Entry) (id : ℕ) → has_file (xs ++ ys) id ≡ false → (has_file xs id ≡ false) × (has_file ys id ≡ false)
 files-parts [] ys id h = (refl, h)
 files-parts (x ∷ xs) ys id h =
-    let parts = or-no (is_file x && x.row.id == id) (has_file (xs ++ ys) id) h in
+    let parts = or_parts (is_file x && x.row.id == id) (has_file (xs ++ ys) id) h in
     let more = files-parts xs ys id parts.1 in
-    (or-yes (is_file x && x.row.id == id) (has_file xs id) parts.0 more.0, more.1)
+    (or_from (is_file x && x.row.id == id) (has_file xs id) parts.0 more.0, more.1)
 
 -- an id that is not free is not that of a new row
 pub not-new : (rows made : List Entry) (id : ℕ) → AllByRecursion (λ (z : Entry). entry_of rows z.row.id ≡ None) made → (entry_of rows id ≡ None → ⊥) → has_file made id ≡ false
 not-new rows [] id fresh has = refl
 not-new rows (z ∷ made) id fresh has =
-    or-yes (is_file z && z.row.id == id) (has_file made id)
-    (and-no (is_file z) (z.row.id == id) (λ same. has (subst (λ (j : ℕ). entry_of rows j ≡ None) (eq-is z.row.id id same) fresh.0)))
+    or_from (is_file z && z.row.id == id) (has_file made id)
+    (and-no (is_file z) (z.row.id == id) (λ same. has (subst (λ (j : ℕ). entry_of rows j ≡ None) (eqb-true z.row.id id same) fresh.0)))
     (not-new rows made id fresh.1 has)
 
 all-old : (rows made ys : List Entry) (f g : ℕ → List ℕ) → AllByRecursion (λ (z : Entry). entry_of rows z.row.id ≡ None) made → ((id : ℕ) → has_file made id ≡ false → g id ≡ f id)
@@ -224,7 +211,7 @@ module _ (to : List (List ℕ)) where
     source = m.source;
     tells = m.tells;
     bodies = λ t u. (λ file. m.body t u, tt);
-    others = λ tells id none. m.others tells id (λ same. both (m.id == id) (eq-yes m.id id (sym same)) (or-no (m.id == id) false none).0);
+    others = λ tells id none. m.others tells id (λ same. both (m.id == id) (eq-eqb m.id id (sym same)) (or_parts (m.id == id) false none).0);
     fresh = (m.free, tt);
     kept = λ id none. (free-put (file_at m.id (to ++ x.path) edek) a.target.rows id (subst (λ (rows : List Entry). entry_of rows id ≡ None) m.rows none)).1;
   }

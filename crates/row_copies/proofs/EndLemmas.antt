@@ -41,7 +41,7 @@ pub record Led (a b : CopyState) : Type 0 where
   pub kept : (id : ℕ) → entry_of b.target.rows id ≡ None → entry_of a.target.rows id ≡ None
   pub absent : (q : List (List ℕ)) → row_at b.target.rows q ≡ None → row_at a.target.rows q ≡ None
 
-led-keeps : (a b : CopyState) → KeepsBoth a b → Led a b
+pub led-keeps : (a b : CopyState) → KeepsBoth a b → Led a b
 led-keeps a b k = record {
   source = k.source;
   bodies = k.target.bodies;
@@ -49,7 +49,7 @@ led-keeps a b k = record {
   absent = λ q none. subst (λ (rows : List Entry). row_at rows q ≡ None) k.target.rows none;
 }
 
-led-makes : (path : List (List ℕ)) (a b : CopyState) → MakesDirectory path a b → Led a b
+pub led-makes : (path : List (List ℕ)) (a b : CopyState) → MakesDirectory path a b → Led a b
 led-makes path a b m = record {
   source = m.source;
   bodies = m.bodies;

@@ -1,4 +1,5 @@
 mod AddLemmas
+pub mod CauseLemmas
 mod EndLemmas
 mod NextLemmas
 mod PathLemmas

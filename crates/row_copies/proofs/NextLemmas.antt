@@ -3,17 +3,16 @@ use Rattle.std.proofs.Common.{◌≡◌, inl, inr, ℕ, zero, suc, ◌+◌, ◌<
 use Rattle.std.specs.Prelude.{◌==◌, ◌-◌, not}
 use Rattle.std.specs.List.{AllByRecursion, filter}
 use Rattle.std.specs.Str.{bytes_eq}
-use Rattle.std.proofs.lemmas.Bool.Decides.{nat_tests}
 use Rattle.std.proofs.lemmas.Slice.Eq.{bytes_eq-Decides}
+use Rattle.std.proofs.lemmas.Bool.{eqb-true, and_parts, false_from_ne_true}
 use Rattle.name_calls.specs.Paths.{is_before, is_child, is_prefix, last_name, parent, same_path}
-use Rattle.name_calls.proofs.PathLemmas.{and-parts}
 use Rattle.inode_tree.specs.declared.rows.Row.{Row}
 use Rattle.inode_tree.specs.Below.{rows_below, seen_from}
 use Rattle.inode_tree.specs.Rows.{Entry, IsRising, IsRows, is_dir, is_dir_at, removed, row_at}
 use Rattle.inode_tree.proofs.ZoneLemmas.{prefix-length}
 use Rattle.inode_tree.proofs.Seeks.{before-not-same, same-is, same-itself}
 use Rattle.row_blocks.specs.Below.{In, IsWalkable, below, belows}
-use Rattle.row_blocks.proofs.Blocks.{after-in, both, is-false}
+use Rattle.row_blocks.proofs.Blocks.{after-in, both}
 use Rattle.row_blocks.proofs.Groups.{filter-none, filter-yes}
 use Rattle.row_blocks.proofs.Rows.{all-in, ancestor, below-blocks, prefix-take}
 use Rattle.row_copies.specs.Clusters.{CopyState, IsTree}
@@ -81,11 +80,8 @@ child-is [] (y ∷ z ∷ q) h long = absurd (omega (arith, long))
 child-is (x ∷ p) [] h long = cc
 child-is (x ∷ p) (y ∷ []) h long = absurd (omega (arith, long))
 child-is (x ∷ p) (y ∷ z ∷ q) h long =
-    let parts = and-parts (bytes_eq x y) (is_prefix p (z ∷ q)) h in
+    let parts = and_parts (bytes_eq x y) (is_prefix p (z ∷ q)) h in
     λ i. sym ((bytes_eq-Decides x y).0 parts.0) i ∷ child-is p (z ∷ q) parts.1 (omega (arith, long)) i
-
-eq-is : (m n : ℕ) → (m == n) ≡ true → m ≡ n
-eq-is m n h = grind (arith, nat_tests)
 
 -- the child at a place of the list
 pub record IsKid (rows : List Entry) (p : List (List ℕ)) (kid : Entry) : Type 0 where
@@ -96,8 +92,8 @@ pub kid-at : (rows : List Entry) (p : List (List ℕ)) (k : ℕ) (d : Entry) →
 kid-at rows p k d h =
     let kid = get_or (kids-of rows p) k d in
     let found = in-filter (λ (e : Entry). is_child p e.path) rows kid (at-in (kids-of rows p) k d h) in
-    let parts = and-parts (is_prefix p kid.path) (length kid.path == length p + 1) found.1 in
-    record { is_in = found.0; path = child-is p kid.path parts.0 (eq-is (length kid.path) (length p + 1) parts.1) }
+    let parts = and_parts (is_prefix p kid.path) (length kid.path == length p + 1) found.1 in
+    record { is_in = found.0; path = child-is p kid.path parts.0 (eqb-true (length kid.path) (length p + 1) parts.1) }
 
 parent-snoc : (p : List (List ℕ)) (x : List ℕ) → parent (p ++ x ∷ []) ≡ p
 parent-snoc [] x = refl
@@ -110,15 +106,15 @@ no-kids rows p row t at file = filter-none (λ (e : Entry). is_child p e.path) r
   where
     lone : (e : Entry) → In e rows → is_child p e.path ≡ true → ⊥
     lone e is child =
-        let parts = and-parts (is_prefix p e.path) (length e.path == length p + 1) child in
-        let path : e.path ≡ p ++ last_name e.path ∷ [] = child-is p e.path parts.0 (eq-is (length e.path) (length p + 1) parts.1) in
+        let parts = and_parts (is_prefix p e.path) (length e.path == length p + 1) child in
+        let path : e.path ≡ p ++ last_name e.path ∷ [] = child-is p e.path parts.0 (eqb-true (length e.path) (length p + 1) parts.1) in
         let up : parent e.path ≡ p = ap parent path ∙ parent-snoc p (last_name e.path) in
         let housed : is_dir_at (row_at rows (parent e.path)) ≡ true = all-in (λ (x : Entry). is_dir_at (row_at rows (parent x.path)) ≡ true) rows e t.housed is in
         both (is_dir row.kind) (sym (ap is_dir_at (ap (row_at rows) up ∙ at)) ∙ housed) file
 
     none : (es : List Entry) → ((e : Entry) → In e es → In e rows) → AllByRecursion (λ (e : Entry). is_child p e.path ≡ false) es
     none [] inside = tt
-    none (e ∷ es) inside = (is-false (is_child p e.path) (λ c. lone e (inside e (inl refl)) c), none es (λ x is. inside x (inr is)))
+    none (e ∷ es) inside = (false_from_ne_true (is_child p e.path) (λ c. lone e (inside e (inl refl)) c), none es (λ x is. inside x (inr is)))
 
 -- the rows at and below a path are its own and those of its children
 pub block-is : (rows : List Entry) (p : List (List ℕ)) (row : Row) → IsTree rows → row_at rows p ≡ Some row → below rows p ≡ entry_at p row ∷ belows (kids-of rows p) rows
@@ -191,7 +187,7 @@ none-below rows to r absent = go rows (λ e is. is)
 
     go : (es : List Entry) → ((e : Entry) → In e es → In e rows) → AllByRecursion (λ (e : Entry). is_prefix to e.path ≡ false) es
     go [] inside = tt
-    go (e ∷ es) inside = (is-false (is_prefix to e.path) (λ h. lone e (inside e (inl refl)) h), go es (λ x is. inside x (inr is)))
+    go (e ∷ es) inside = (false_from_ne_true (is_prefix to e.path) (λ h. lone e (inside e (inl refl)) h), go es (λ x is. inside x (inr is)))
 
 pub none-to-see : (rows : List Entry) (to : List (List ℕ)) → AllByRecursion (λ (e : Entry). is_prefix to e.path ≡ false) rows → rows_below rows to ≡ []
 none-to-see rows to h = ap (map (seen_from (length to))) (filter-none (λ (e : Entry). is_prefix to e.path) rows h)

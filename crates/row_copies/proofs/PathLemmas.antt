@@ -1,22 +1,16 @@
 -- Paths made of two.
-use Rattle.std.proofs.Common.{◌≡◌, ℕ, zero, suc, ◌+◌, ◌<◌, ◌≤◌, Bool, true, ◌&&◌, List, [], ◌∷◌, ◌++◌, length, take, drop, get_or, refl, sym, ap, ◌∙◌, arith, append_assoc, length-append}
+use Rattle.std.proofs.Common.{◌≡◌, ℕ, zero, suc, ◌+◌, ◌<◌, ◌≤◌, true, ◌&&◌, List, [], ◌∷◌, ◌++◌, length, take, drop, get_or, refl, sym, ap, ◌∙◌, arith, append_assoc, length-append}
 use Rattle.std.specs.Prelude.{nat_le}
 use Rattle.std.specs.List.{list_all}
-use Rattle.std.proofs.lemmas.Bool.Decides.{nat_tests}
 use Rattle.std.proofs.lemmas.List.{append-nil, take_more}
 use Rattle.std.proofs.lemmas.List.Folds.{list_all-append}
+use Rattle.std.proofs.lemmas.Bool.{le-leb, and_from, leb-true, and_parts}
 use Rattle.name_calls.specs.Paths.{is_component, is_relative, is_short, names_text, path_text}
-use Rattle.name_calls.proofs.PathLemmas.{and-parts, relative-front}
+use Rattle.name_calls.proofs.PathLemmas.{relative-front}
 
 names-append : (p q : List (List ℕ)) → names_text (p ++ q) ≡ names_text p ++ names_text q
 names-append [] q = refl
 names-append (x ∷ p) q = ap (λ (ys : List ℕ). 47 ∷ (x ++ ys)) (names-append p q) ∙ ap (λ (ys : List ℕ). 47 ∷ ys) (sym (append_assoc x (names_text p) (names_text q)))
-
-le-yes : (a b : ℕ) → a ≤ b → nat_le a b ≡ true
-le-yes a b h = grind (arith, nat_tests)
-
-both : (a b : Bool) → a ≡ true → b ≡ true → (a && b) ≡ true
-both a b e f = cc
 
 text-short : (r : List (List ℕ)) → length (names_text r) ≤ 8000 → length (path_text r) ≤ 8000
 text-short [] h = omega arith
@@ -25,19 +19,16 @@ text-short (c ∷ r) h = h
 pub relative-join : (p q : List (List ℕ)) → is_relative p ≡ true → is_relative q ≡ true → length (names_text p) + length (names_text q) ≤ 8000 → length p + length q ≤ 100 → is_relative (p ++ q) ≡ true
 relative-join p q rp rq bytes names =
     let all : list_all is_component (p ++ q) ≡ true =
-    list_all-append is_component p q ∙ both (list_all is_component p) (list_all is_component q) (and-parts (list_all is_component p) (is_short p) rp).0 (and-parts (list_all is_component q) (is_short q) rq).0 in
+    list_all-append is_component p q ∙ and_from (list_all is_component p) (list_all is_component q) (and_parts (list_all is_component p) (is_short p) rp).0 (and_parts (list_all is_component q) (is_short q) rq).0 in
     let text : length (names_text (p ++ q)) ≤ 8000 = let e = ap length (names-append p q) in omega (arith, e, length-append (names_text p) (names_text q), bytes) in
     let count : length (p ++ q) ≤ 100 = omega (arith, length-append p q, names) in
-    both (list_all is_component (p ++ q)) (is_short (p ++ q)) all
-    (both (nat_le (length (path_text (p ++ q))) 8000) (nat_le (length (p ++ q)) 100) (le-yes _ _ (text-short (p ++ q) text)) (le-yes _ _ count))
-
-le-is : (a b : ℕ) → nat_le a b ≡ true → a ≤ b
-le-is a b h = grind (arith, nat_tests)
+    and_from (list_all is_component (p ++ q)) (is_short (p ++ q)) all
+    (and_from (nat_le (length (path_text (p ++ q))) 8000) (nat_le (length (p ++ q)) 100) (le-leb _ _ (text-short (p ++ q) text)) (le-leb _ _ count))
 
 pub may-join : (p q : List (List ℕ)) → is_relative p ≡ true → is_relative q ≡ true → (nat_le (length (names_text p) + length (names_text q)) 8000 && nat_le (length p + length q) 100) ≡ true → is_relative (p ++ q) ≡ true
 may-join p q rp rq h =
-    let parts = and-parts (nat_le (length (names_text p) + length (names_text q)) 8000) (nat_le (length p + length q) 100) h in
-    relative-join p q rp rq (le-is (length (names_text p) + length (names_text q)) 8000 parts.0) (le-is (length p + length q) 100 parts.1)
+    let parts = and_parts (nat_le (length (names_text p) + length (names_text q)) 8000) (nat_le (length p + length q) 100) h in
+    relative-join p q rp rq (leb-true (length (names_text p) + length (names_text q)) 8000 parts.0) (leb-true (length p + length q) 100 parts.1)
 
 pub relative-left : (p q : List (List ℕ)) → is_relative (p ++ q) ≡ true → is_relative p ≡ true
 relative-left p [] h = ap is_relative (sym (append-nil p)) ∙ h

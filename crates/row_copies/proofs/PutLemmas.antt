@@ -3,6 +3,7 @@ use Rattle.std.proofs.Common.{◌≡◌, ℕ, Bool, true, false, cond, List, [],
 use Rattle.std.specs.Prelude.{◌==◌, not}
 use Rattle.std.specs.List.{AllByRecursion, filter}
 use Rattle.std.proofs.lemmas.Bool.Decides.{nat_tests}
+use Rattle.std.proofs.lemmas.Bool.{not_from_true, false_from_ne_true}
 use Rattle.name_calls.specs.Paths.{is_before, is_prefix, same_path}
 use Rattle.inode_tree.specs.declared.rows.Row.{Row}
 use Rattle.inode_tree.specs.declared.rows.Kind.{Kind}
@@ -12,7 +13,7 @@ use Rattle.inode_tree.proofs.MovedPaths.{before-append, prefix-append, prefix-sp
 use Rattle.inode_tree.proofs.Puts.{absent-parts, not-both}
 use Rattle.inode_tree.proofs.Ranks.{before-trans}
 use Rattle.inode_tree.proofs.Seeks.{same-itself}
-use Rattle.row_blocks.proofs.Blocks.{both, is-false}
+use Rattle.row_blocks.proofs.Blocks.{both}
 use Rattle.row_blocks.proofs.Groups.{filter-no, filter-yes}
 
 pub drop-join : (p q : List (List ℕ)) → drop (length p) (p ++ q) ≡ q
@@ -26,14 +27,6 @@ IsAt to e = is_prefix to e.path
 abbrev pub EndsBefore : List (List ℕ) → List (List ℕ) → List Entry → Type 0
 EndsBefore to p es = AllByRecursion (λ (e : Entry). is_prefix to e.path ≡ true → is_before e.path p ≡ true) es
 
-not-no : (b : Bool) → b ≡ true → not b ≡ false
-not-no true h = refl
-not-no false h = cc
-
-not-yes : (b : Bool) → b ≡ false → not b ≡ true
-not-yes true h = cc
-not-yes false h = refl
-
 module _ (to : List (List ℕ)) where
   abbrev pub in_block : List Entry → List Entry
   in_block es = filter (λ (e : Entry). is_prefix to e.path) es
@@ -42,7 +35,7 @@ module _ (to : List (List ℕ)) where
   none-later : (p : List (List ℕ)) (es : List Entry) → AllAfter p es → EndsBefore to p es → in_block es ≡ []
   none-later p [] after ends = refl
   none-later p (x ∷ es) after ends =
-      filter-no (λ (e : Entry). is_prefix to e.path) x es (is-false (is_prefix to x.path) (λ t. not-both p x.path after.0 (ends.0 t)))
+      filter-no (λ (e : Entry). is_prefix to e.path) x es (false_from_ne_true (is_prefix to x.path) (λ t. not-both p x.path after.0 (ends.0 t)))
       ∙ none-later p es after.1 ends.1
 
   after-all : (p q : List (List ℕ)) (es : List Entry) → is_before p q ≡ true → AllAfter q es → AllAfter p es
@@ -65,7 +58,7 @@ module _ (to : List (List ℕ)) where
       go false b ih = split (is_prefix to x.path) ih
 
   pub removed-put : (e : Entry) (es : List Entry) → is_prefix to e.path ≡ true → removed to (put e es) ≡ removed to es
-  removed-put e [] h = filter-no (λ (x : Entry). not (is_prefix to x.path)) e [] (not-no (is_prefix to e.path) h)
+  removed-put e [] h = filter-no (λ (x : Entry). not (is_prefix to x.path)) e [] (not_from_true (is_prefix to e.path) h)
   removed-put e (x ∷ es) h = go (is_before e.path x.path) (removed-put e es h)
     where
       split : (b : Bool) → removed to (put e es) ≡ removed to es → cond b (x ∷ removed to (put e es)) (removed to (put e es)) ≡ cond b (x ∷ removed to es) (removed to es)
@@ -73,7 +66,7 @@ module _ (to : List (List ℕ)) where
       split false ih = ih
 
       go : (b : Bool) → removed to (put e es) ≡ removed to es → removed to (cond b (e ∷ x ∷ es) (x ∷ put e es)) ≡ removed to (x ∷ es)
-      go true ih = filter-no (λ (y : Entry). not (is_prefix to y.path)) e (x ∷ es) (not-no (is_prefix to e.path) h)
+      go true ih = filter-no (λ (y : Entry). not (is_prefix to y.path)) e (x ∷ es) (not_from_true (is_prefix to e.path) h)
       go false ih = split (not (is_prefix to x.path)) ih
 
   -- seen from `to`
@@ -106,9 +99,6 @@ module _ (to : List (List ℕ)) where
 
 eq-self : (n : ℕ) → (n == n) ≡ true
 eq-self n = grind (arith, nat_tests)
-
-eq-is : (m n : ℕ) → (m == n) ≡ true → m ≡ n
-eq-is m n h = grind (arith, nat_tests)
 
 pub free-parts : (e : Entry) (es : List Entry) (id : ℕ) → entry_of (e ∷ es) id ≡ None → ((e.row.id == id) ≡ false) × (entry_of es id ≡ None)
 free-parts e es id h = go (e.row.id == id) h

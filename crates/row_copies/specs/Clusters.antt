@@ -4,6 +4,9 @@ use Rattle.std.specs.List.{All}
 use Rattle.hk_base.specs.declared.names.Edek.{Edek}
 use Rattle.hk_base.specs.declared.names.KeyName.{KeyName}
 use Rattle.body_stream.specs.Vaults.{KeepsBodies, OthersStay, TellsBodies, VaultState}
+use Rattle.file_orders.specs.Ends.{IsFailure}
+use Rattle.file_orders.specs.declared.ends.FsEnd.{FsEnd}
+use Rattle.file_orders.specs.declared.ends.FsEnd.TheVariants as end
 use Rattle.name_calls.specs.Paths.{is_relative, parent}
 use Rattle.inode_tree.specs.declared.rows.Kind.TheVariants.{Dir, File}
 use Rattle.inode_tree.specs.Rows.{Entry, IsRising, entry_of, is_dir_at, put, row_at, set_kind}
@@ -74,3 +77,9 @@ pub record KeepsRows (old new : CopyState) : Type 0 where
   pub rows : new.target.rows ≡ old.target.rows
   pub tells : new.target.bodies.tells ≡ old.target.bodies.tells
   pub bodies : TellsBodies old.target.bodies → (id : ℕ) → is_some (entry_of old.target.rows id) ≡ true → new.target.bodies.bodies id ≡ old.target.bodies.bodies id
+
+-- Why a call ends so. It was refused, or there was no memory; or a disk or a vault failed, and then there is this cause. No other end comes.
+abbrev pub EndsFor : (store vault : Type 0) → FsEnd → Type 0
+EndsFor store vault end.StoreFault = store
+EndsFor store vault end.VaultFault = vault
+EndsFor store vault why = IsFailure why

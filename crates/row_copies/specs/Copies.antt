@@ -1,11 +1,12 @@
 -- What it means that rows and bodies are copied.
 use Rattle.std.specs.Prelude.{◌≡◌, ◌⊎◌, ◌≤◌, ◌-◌, ℕ, zero, suc, Bool, true, false, not, ◌&&◌, ◌||◌, ◌==◌, List, [], ◌∷◌, ◌++◌, length, take, Option, Some, None, is_some, ⊤}
 use Rattle.body_stream.specs.Vaults.{TellsBodies}
+use Rattle.file_orders.specs.declared.ends.FsEnd.{FsEnd}
 use Rattle.inode_tree.specs.declared.rows.Row.{Row}
 use Rattle.inode_tree.specs.declared.rows.Kind.TheVariants.{Dir}
 use Rattle.inode_tree.specs.Below.{rows_below}
 use Rattle.inode_tree.specs.Rows.{Entry, entry_of, is_dir, is_marked, removed, row_at}
-use Rattle.row_copies.specs.Clusters.{CopyState, KeepsBoth, KeepsCluster, MakesDirectory}
+use Rattle.row_copies.specs.Clusters.{CopyState, EndsFor, KeepsBoth, KeepsCluster, MakesDirectory}
 
 -- two lists are of one length, and the relation holds of the entries at each place
 abbrev pub Pairs : (Entry → Entry → Type 0) → List Entry → List Entry → Type 0
@@ -111,3 +112,21 @@ StopsEarly to old new = MakesParents to old new ⊎ CopiesPart to old new
 pub data Steps {X : Type 0} (follows : X → X → Type 0) (a : X) : X → Type 0 where
   Done : Steps follows a a
   Then : (b c : X) → Steps follows a b → follows b c → Steps follows a c
+
+-- The source is unchanged. Each id that is free in the target was free before, and has the body that it had.
+pub record KeepsFree (old new : CopyState) : Type 0 where
+  pub source : KeepsCluster old.source new.source
+  pub tells : new.target.bodies.tells ≡ old.target.bodies.tells
+  pub free : (id : ℕ) → entry_of new.target.rows id ≡ None → entry_of old.target.rows id ≡ None
+  pub bodies : TellsBodies old.target.bodies → (id : ℕ) → entry_of new.target.rows id ≡ None → new.target.bodies.bodies id ≡ old.target.bodies.bodies id
+
+-- the last step failed; those before it were done
+pub record FailsLast {X : Type 0} (state : X → CopyState) (follows fails : X → X → Type 0) (a b : X) : Type 0 where
+  pub mid : X
+  pub before : Steps follows a mid
+  pub kept : KeepsFree (state a) (state mid)
+  pub last : fails mid b
+
+-- why a copy ends so: if a disk or a vault failed, that was in the last step
+abbrev pub CopyEnds : {X : Type 0} → (X → CopyState) → (follows store vault : X → X → Type 0) → (a b : X) → FsEnd → Type 0
+CopyEnds state follows store vault a b why = EndsFor (FailsLast state follows store a b) (FailsLast state follows vault a b) why

@@ -1,9 +1,10 @@
 //! Two clusters.
-ghost use Rattle.std.specs.Prelude.{◌≡◌, Some, IfOk, OnOk, OnErr, true};
+ghost use Rattle.std.specs.Prelude.{◌≡◌, Some, IfErr, IfOk, OnOk, OnErr, true};
 ghost use Rattle.std.specs.Option.{option_map};
+ghost use Rattle.hk_base.specs.declared.names.KeyName.{KeyName as Key};
 ghost use Rattle.inode_tree.specs.Listing.{children};
 ghost use Rattle.inode_tree.specs.Rows.{IsRows, is_dir, is_dir_at, row_at};
-ghost use Rattle.row_copies.specs.Clusters.{CopiesFile, CopyState, IsTree, KeepsBoth, KeepsRows, MakesDirectory, MarksDirectory};
+ghost use Rattle.row_copies.specs.Clusters.{CopiesFile, CopyState, EndsFor, IsTree, KeepsBoth, KeepsRows, MakesDirectory, MarksDirectory};
 
 use file_orders::FsEnd;
 use hk_base::{Edek, KeyName};
@@ -24,6 +25,15 @@ pub trait Clusters {
     /// What a call may do besides.
     ghost follows: { Self → Self → Type 0 };
 
+    /// Why a call may end by a fault of a disk.
+    ghost store_fails: { Self → Self → Type 0 };
+
+    /// Why a call may end by a fault of a vault.
+    ghost vault_fails: { Self → Self → Type 0 };
+
+    /// That a key of the source is known, by the reply of its key management service.
+    ghost knows: { Self → Key → Self → Type 0 };
+
     /// Does nothing. It says what always holds of the rows.
     fn facts(&self)
         requires ready { ready self.now }
@@ -37,7 +47,9 @@ pub trait Clusters {
             (λ row. row_at (state self.old).source.rows path.now ≡ Some row) }
         ensures keeps { KeepsBoth (state self.old) (state self.new) }
         ensures ready { ready self.new }
-        ensures follows { follows self.old self.new };
+        ensures follows { follows self.old self.new }
+        ensures ends { IfErr result
+            (EndsFor (store_fails self.old self.new) (vault_fails self.old self.new)) };
 
     /// Returns the entries of the directory of the source at a path.
     fn list(&mut self, path: &NPath) -> Result<ChildList, FsEnd>
@@ -48,7 +60,9 @@ pub trait Clusters {
             (is_dir_at (row_at (state self.old).source.rows path.now) ≡ true) }
         ensures keeps { KeepsBoth (state self.old) (state self.new) }
         ensures ready { ready self.new }
-        ensures follows { follows self.old self.new };
+        ensures follows { follows self.old self.new }
+        ensures ends { IfErr result
+            (EndsFor (store_fails self.old self.new) (vault_fails self.old self.new)) };
 
     /// Returns whether the row of the target at a path is a directory, or `None` if there is none.
     fn is_directory(&mut self, path: &NPath) -> Result<Option<bool>, FsEnd>
@@ -58,7 +72,9 @@ pub trait Clusters {
             option_map (λ row. is_dir row.kind) (row_at (state self.old).target.rows path.now)) }
         ensures keeps { KeepsBoth (state self.old) (state self.new) }
         ensures ready { ready self.new }
-        ensures follows { follows self.old self.new };
+        ensures follows { follows self.old self.new }
+        ensures ends { IfErr result
+            (EndsFor (store_fails self.old self.new) (vault_fails self.old self.new)) };
 
     /// Makes a directory in the target.
     fn make_directory(&mut self, path: &NPath) -> Result<(), FsEnd>
@@ -66,15 +82,20 @@ pub trait Clusters {
         ensures ok { OnOk result (MakesDirectory path.now (state self.old) (state self.new)) }
         ensures err { OnErr result (KeepsBoth (state self.old) (state self.new)) }
         ensures ready { OnOk result (ready self.new) }
-        ensures follows { follows self.old self.new };
+        ensures follows { follows self.old self.new }
+        ensures ends { IfErr result
+            (EndsFor (store_fails self.old self.new) (vault_fails self.old self.new)) };
 
-    /// Marks an empty directory of the target with a key.
+    /// Marks an empty directory of the target with a key, which the source must know.
     fn mark(&mut self, path: &NPath, key: KeyName) -> Result<(), FsEnd>
         requires ready { ready self.old }
         ensures ok { OnOk result (MarksDirectory path.now key (state self.old) (state self.new)) }
+        ensures known { OnOk result (knows self.old key self.new) }
         ensures err { OnErr result (KeepsBoth (state self.old) (state self.new)) }
         ensures ready { OnOk result (ready self.new) }
-        ensures follows { follows self.old self.new };
+        ensures follows { follows self.old self.new }
+        ensures ends { IfErr result
+            (EndsFor (store_fails self.old self.new) (vault_fails self.old self.new)) };
 
     /// Makes a file in the target, with this encrypted key and the body of the file of the source that
     /// has the id `from`. A call that fails may have written a body under an id that no row has.
@@ -84,5 +105,7 @@ pub trait Clusters {
             (CopiesFile from path.now edek (state self.old) (state self.new)) }
         ensures err { OnErr result (KeepsRows (state self.old) (state self.new)) }
         ensures ready { OnOk result (ready self.new) }
-        ensures follows { follows self.old self.new };
+        ensures follows { follows self.old self.new }
+        ensures ends { IfErr result
+            (EndsFor (store_fails self.old self.new) (vault_fails self.old self.new)) };
 }

@@ -1,8 +1,8 @@
 //! The directories above a copy.
-ghost use Rattle.std.specs.Prelude.{◌≡◌, ◌++◌, ◌∷◌, [], None, OnOk, OnErr, take};
+ghost use Rattle.std.specs.Prelude.{◌≡◌, ◌++◌, ◌∷◌, [], None, IfErr, OnOk, OnErr, take};
 ghost use Rattle.inode_tree.specs.Rows.{row_at};
-ghost use Rattle.row_copies.specs.Clusters.{KeepsBoth};
-ghost use Rattle.row_copies.specs.Copies.{MakesAbove, MakesMissing, MakesParents, Steps, above};
+ghost use Rattle.row_copies.specs.Clusters.{EndsFor, KeepsBoth};
+ghost use Rattle.row_copies.specs.Copies.{CopyEnds, MakesAbove, MakesMissing, MakesParents, Steps, above};
 
 use crate::clusters::Clusters;
 use crate::paths::add_name;
@@ -19,6 +19,8 @@ fn make_missing<C: Clusters>(clusters: &mut C, path: &NPath) -> Result<(), FsEnd
     ensures err { OnErr result (KeepsBoth (C.state clusters.old) (C.state clusters.new)) }
     ensures ready { OnOk result (C.ready clusters.new) }
     ensures steps { Steps C.follows clusters.old clusters.new }
+    ensures ends { IfErr result (CopyEnds C.state C.follows C.store_fails C.vault_fails
+        clusters.old clusters.new) }
 {
     match clusters.is_directory(path) {
         Ok(Some(_)) => Ok(()),
@@ -39,6 +41,8 @@ pub(crate) fn make_parents<C: Clusters>(
     ensures err { OnErr result (MakesParents to.now (C.state clusters.old) (C.state clusters.new)) }
     ensures ready { OnOk result (C.ready clusters.new) }
     ensures steps { Steps C.follows clusters.old clusters.new }
+    ensures ends { IfErr result (CopyEnds C.state C.follows C.store_fails C.vault_fails
+        clusters.old clusters.new) }
 {
     let mut path = NPath::root(alloc);
     for k in 0..to.len().saturating_sub(1) {
@@ -61,6 +65,8 @@ pub(crate) fn check_absent<C: Clusters>(clusters: &mut C, path: &NPath) -> Resul
     ensures keeps { KeepsBoth (C.state clusters.old) (C.state clusters.new) }
     ensures ready { C.ready clusters.new }
     ensures follows { C.follows clusters.old clusters.new }
+    ensures ends { IfErr result (EndsFor (C.store_fails clusters.old clusters.new)
+        (C.vault_fails clusters.old clusters.new)) }
 {
     match clusters.is_directory(path) {
         Ok(Some(_)) => Err(FsEnd::NameRefused(NameRefusal::Exists)),

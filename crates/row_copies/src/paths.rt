@@ -1,6 +1,7 @@
 //! Paths of the rows that are copied.
-ghost use Rattle.std.specs.Prelude.{◌≡◌, ◌≤◌, ◌+◌, ◌++◌, ◌∷◌, ◌&&◌, [], nat_le, length, true, IfOk, OnOk};
+ghost use Rattle.std.specs.Prelude.{◌≡◌, ◌≤◌, ◌+◌, ◌++◌, ◌∷◌, ◌&&◌, [], nat_le, length, true, IfErr, IfOk, OnOk};
 ghost use Rattle.name_calls.specs.Paths.{is_relative, names_text};
+ghost use Rattle.row_copies.specs.Clusters.{EndsFor};
 
 use file_orders::FsEnd;
 use hk_base::{NoMemory, Text};
@@ -45,7 +46,8 @@ fn can_follow(path: &NPath, names: &NPath) -> bool
 /// Returns the path of the target at which a path of the source lies. Returns `BadPath` if it is too
 /// long.
 pub(crate) fn join(alloc: Global, to: &NPath, from: &NPath) -> Result<NPath, FsEnd>
-    ensures { IfOk result (λ path. path ≡ to.now ++ from.now) }
+    ensures joined { IfOk result (λ path. path ≡ to.now ++ from.now) }
+    ensures ends { IfErr result (EndsFor ⊥ ⊥) }
 {
     if !can_follow(to, from) {
         return Err(FsEnd::NameRefused(NameRefusal::BadPath));
@@ -71,7 +73,8 @@ fn join_short(alloc: Global, to: &NPath, from: &NPath) -> Result<NPath, NoMemory
 /// Returns the path of an entry of a directory.
 pub(crate) fn child_path(alloc: Global, path: &NPath, name: &Text) -> Result<NPath, FsEnd>
     requires { is_relative (path.now ++ name.now ∷ []) ≡ true }
-    ensures { IfOk result (λ child. child ≡ path.now ++ name.now ∷ []) }
+    ensures child { IfOk result (λ child. child ≡ path.now ++ name.now ∷ []) }
+    ensures ends { IfErr result (EndsFor ⊥ ⊥) }
 {
     match extended(alloc, path, name) {
         Ok(child) => Ok(child),

@@ -1,10 +1,10 @@
 //! The walk of a copy.
-ghost use Rattle.std.specs.Prelude.{◌≡◌, ◌⊎◌, ◌+◌, Some, None, is_some, [], true, false, count_by, IfOk, OnOk, OnErr};
+ghost use Rattle.std.specs.Prelude.{◌≡◌, ◌⊎◌, ◌+◌, Some, None, is_some, [], true, false, count_by, IfErr, IfOk, OnOk, OnErr};
 ghost use Rattle.inode_tree.specs.declared.rows.Kind.TheVariants.{Dir};
 ghost use Rattle.inode_tree.specs.Rows.{is_marked, row_at};
 ghost use Rattle.row_blocks.specs.Below.{below};
-ghost use Rattle.row_copies.specs.Clusters.{KeepsBoth, KeepsRows, MakesDirectory};
-ghost use Rattle.row_copies.specs.Copies.{CopiesAll, Steps, StopsEarly, is_file};
+ghost use Rattle.row_copies.specs.Clusters.{EndsFor, KeepsBoth, KeepsRows, MakesDirectory};
+ghost use Rattle.row_copies.specs.Copies.{CopiesAll, CopyEnds, Steps, StopsEarly, is_file};
 ghost use Rattle.row_copies.specs.Walks.{Adds, CopiesRow, Counts, CountsOne, IsNext, MakesCopy, MakesRow, Stops, is_directory};
 
 use crate::clusters::Clusters;
@@ -25,7 +25,8 @@ pub struct Copied {
 
 /// Returns the next number, or `NoMemory` if there is none.
 fn next(count: u64) -> Result<u64, FsEnd>
-    ensures { IfOk result (λ more. more ≡ count + 1) }
+    ensures more { IfOk result (λ more. more ≡ count + 1) }
+    ensures ends { IfErr result (EndsFor ⊥ ⊥) }
 {
     match count.checked_add(1) {
         Some(more) => Ok(more),
@@ -44,6 +45,8 @@ fn make<C: Clusters>(clusters: &mut C, path: &NPath, key: Option<KeyName>) -> Re
         MakesDirectory path.now (C.state clusters.old) (C.state clusters.new))) }
     ensures ready { OnOk result (C.ready clusters.new) }
     ensures steps { Steps C.follows clusters.old clusters.new }
+    ensures ends { IfErr result (CopyEnds C.state C.follows C.store_fails C.vault_fails
+        clusters.old clusters.new) }
 {
     match clusters.make_directory(path) {
         Ok(()) => {}
@@ -68,6 +71,8 @@ fn make_row<C: Clusters>(clusters: &mut C, row: Row, path: &NPath) -> Result<boo
         MakesDirectory path.now (C.state clusters.old) (C.state clusters.new))) }
     ensures ready { OnOk result (C.ready clusters.new) }
     ensures steps { Steps C.follows clusters.old clusters.new }
+    ensures ends { IfErr result (CopyEnds C.state C.follows C.store_fails C.vault_fails
+        clusters.old clusters.new) }
 {
     let Row { id, kind } = row;
     match kind {
@@ -99,6 +104,8 @@ fn copy_row<C: Clusters>(
         (C.state clusters.new)) }
     ensures ready { OnOk result (C.ready clusters.new) }
     ensures steps { Steps C.follows clusters.old clusters.new }
+    ensures ends { IfErr result (CopyEnds C.state C.follows C.store_fails C.vault_fails
+        clusters.old clusters.new) }
 {
     clusters.facts();
     let row = match clusters.look(from) {
@@ -113,7 +120,8 @@ fn copy_row<C: Clusters>(
 
 /// Counts a row that was copied.
 fn count(counts: &mut Copied, directory: bool) -> Result<(), FsEnd>
-    ensures { OnOk result (CountsOne directory counts.old counts.new) }
+    ensures counts { OnOk result (CountsOne directory counts.old counts.new) }
+    ensures ends { IfErr result (EndsFor ⊥ ⊥) }
 {
     let before = *counts;
     if directory {
@@ -152,6 +160,8 @@ fn copy_block<C: Clusters>(
         (C.state clusters.new)) }
     ensures ready { OnOk result (C.ready clusters.new) }
     ensures steps { Steps C.follows clusters.old clusters.new }
+    ensures ends { IfErr result (CopyEnds C.state C.follows C.store_fails C.vault_fails
+        clusters.old clusters.new) }
 {
     clusters.facts();
     let directory = match copy_row(alloc, clusters, from, to) {
@@ -191,6 +201,8 @@ fn check_zone<C: Clusters>(clusters: &mut C, root: &NPath) -> Result<(), FsEnd>
     ensures keeps { KeepsBoth (C.state clusters.old) (C.state clusters.new) }
     ensures ready { C.ready clusters.new }
     ensures follows { C.follows clusters.old clusters.new }
+    ensures ends { IfErr result (EndsFor (C.store_fails clusters.old clusters.new)
+        (C.vault_fails clusters.old clusters.new)) }
 {
     match clusters.look(root) {
         Ok(row) => match row.kind {
@@ -228,6 +240,8 @@ pub fn copy_rows<C: Clusters>(alloc: Global, clusters: &mut C, to: &NPath) -> Re
         (StopsEarly to.now (C.state clusters.old) (C.state clusters.new)) }
     ensures ready { OnOk result (C.ready clusters.new) }
     ensures steps { Steps C.follows clusters.old clusters.new }
+    ensures ends { IfErr result (CopyEnds C.state C.follows C.store_fails C.vault_fails
+        clusters.old clusters.new) }
 {
     let root = NPath::root(alloc);
     match check_zone(clusters, &root) {

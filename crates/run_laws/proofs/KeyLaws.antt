@@ -4,6 +4,7 @@ use Rattle.std.specs.Prelude.{not, ◌||◌, ◌==◌, nat_le}
 use Rattle.std.specs.Option.{option_map}
 use Rattle.std.proofs.lemmas.Bool.Decides.{nat_tests}
 use Rattle.std.proofs.lemmas.Slice.Eq.{bytes_eq-Decides}
+use Rattle.std.proofs.lemmas.Bool.{eq-eqb}
 use Rattle.hk_base.specs.declared.names.Dek.{Dek}
 use Rattle.hk_base.specs.declared.names.Edek.{Edek}
 use Rattle.hk_base.specs.declared.names.Iv.{Iv}
@@ -45,9 +46,6 @@ use Rattle.run_laws.specs.Keys.{OpenedKeysDecrypt, ReadyKeysAreCurrent, ZoneFile
 not-over : (n m : ℕ) → n < m → nat_le m n ≡ false
 not-over n m below = grind (arith, nat_tests, below)
 
-equal : (n m : ℕ) → n ≡ m → (n == m) ≡ true
-equal n m is = grind (arith, nat_tests, is)
-
 none-of-three : (b c d : Bool) (x y z : KmsRefusal) → b ≡ false → c ≡ false → d ≡ false → first_cause ((b, x) ∷ (c, y) ∷ (d, z) ∷ []) ≡ None
 none-of-three false false false x y z f g k = refl
 none-of-three true c d x y z f g k = absurd cc
@@ -83,7 +81,7 @@ sent-free s row e dek table i name opens long vector =
     formed : is_malformed row.bits (sent_of e) ≡ false
     formed =
         neither (length e.sealed == row.bits / 8) (length e.iv == 16)
-        (equal (length e.sealed) (row.bits / 8) (sealed-long (material_of s.table.rows e.version) e.iv e.sealed dek opens ∙ long)) (equal (length e.iv) 16 vector)
+        (eq-eqb (length e.sealed) (row.bits / 8) (sealed-long (material_of s.table.rows e.version) e.iv e.sealed dek opens ∙ long)) (eq-eqb (length e.iv) 16 vector)
 
 module _ (s : ServiceState) (edek : Edek) (row : KeyRow) (lines : List PropLine) (user : Text) (shown : Shown) (words : ℕ → ℕ) (now before later : ℕ) (result : KmsReply) (drawn : ℕ) (logged : List KeyCommand) (s' : ServiceState)
     (fit : IsService s) (j : In row s.keys.table.rows) (permitted : verdict lines user (call.Decrypt edek.version.key (sent_of edek)) ≡ Ok shown)

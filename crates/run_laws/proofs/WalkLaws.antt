@@ -3,7 +3,7 @@ use Rattle.std.proofs.Common.{◌≡◌, inl, inr, ℕ, zero, suc, ◌≤◌, Bo
 use Rattle.std.specs.Prelude.{not, ◌==◌, ◌≢◌}
 use Rattle.std.specs.List.{filter}
 use Rattle.std.specs.Option.{option_and_then, option_map_or}
-use Rattle.name_calls.proofs.PathLemmas.{and-parts}
+use Rattle.std.proofs.lemmas.Bool.{and_parts}
 use Rattle.reenc_walk.specs.declared.batches.WalkedBatch.{WalkedBatch}
 use Rattle.reenc_walk.specs.declared.sent.Sent.{Sent}
 use Rattle.reenc_walk.specs.Files.{same_sent}
@@ -49,7 +49,7 @@ once-of sent [] o some = omega arith
 once-of sent (b ∷ bs) o some = go (is_of sent b) refl (once-of sent bs o.1 (λ c i. some c (inr i)))
   where
     files : (c : WalkedBatch) → is_of sent c ≡ true → c.sent ≡ sent
-    files c of = same-files c.sent sent (and-parts c.outstanding (same_sent c.sent sent) of).1
+    files c of = same-files c.sent sent (and_parts c.outstanding (same_sent c.sent sent) of).1
 
     others : is_of sent b ≡ true → (c : WalkedBatch) → In c bs → is_of sent c ≡ false
     others of c i = by (is_of sent c) refl

@@ -1,11 +1,10 @@
 -- Rows with the id of a zone keep its key while operations take effect.
-use Rattle.std.proofs.Common.{◌≡◌, ℕ, Bool, true, false, cond, is_some, nat_lt, List, [], ◌∷◌, length, get_or, map, Option, Some, None, IfSome, refl, sym, ap, ◌∙◌, arith}
+use Rattle.std.proofs.Common.{◌≡◌, ℕ, Bool, true, false, cond, is_some, nat_lt, List, [], ◌∷◌, length, get_or, map, Option, Some, None, IfSome, refl, sym, ap, ◌∙◌}
 use Rattle.std.specs.Prelude.{◌==◌, not}
 use Rattle.std.specs.Bool.{⊤}
 use Rattle.std.specs.List.{All, AllByRecursion}
 use Rattle.std.specs.Option.{option_and_then}
-use Rattle.std.proofs.lemmas.Bool.{and_parts}
-use Rattle.std.proofs.lemmas.Bool.Decides.{nat_tests}
+use Rattle.std.proofs.lemmas.Bool.{and_parts, eqb-true}
 use Rattle.std.proofs.lemmas.List.Elements.{All-filter, All-head, All-map, All-tail}
 use Rattle.hk_base.specs.declared.names.KeyName.{KeyName}
 use Rattle.inode_tree.specs.declared.rows.Kind.{Kind}
@@ -22,9 +21,6 @@ use Rattle.name_store.specs.Causes.{mark_at}
 use Rattle.name_store.specs.Table.{NameTable, after_table, id_of, new_directory, new_file, with_edeks}
 use Rattle.name_core.proofs.RowLemmas.{all-put}
 use Rattle.name_core.proofs.SentFiles.{AreFiles, has_file}
-
-eq-yes : (a b : ℕ) → (a == b) ≡ true → a ≡ b
-eq-yes a b h = grind (arith, nat_tests)
 
 -- a property of each marked row is true of the row of a zone
 pub zone-holds : (P : Entry → Type 0) (p : List (List ℕ)) (rows : List Entry) → All (λ (e : Entry). is_marked e.row ≡ true → P e) rows → IfSome (zone_of rows p) P
@@ -98,7 +94,7 @@ module _ (under : Option ℕ) (key : Option KeyName) (marked : (i : ℕ) → und
       go : (t : Bool) → (x.row.id == f.id) ≡ t → is_some (option_and_then (λ (e : Entry). edek_of e.row.kind) (cond t (Some x) (entry_of rows f.id))) ≡ true
           → (has_file rows f ≡ true → ⊥) → ⊥
       go true here file rest =
-          let same : x.row.id ≡ f.id = eq-yes x.row.id f.id here in
+          let same : x.row.id ≡ f.id = eqb-true x.row.id f.id here in
           let its : under ≡ Some x.row.id = at ∙ ap (λ (i : ℕ). Some i) (sym same) in
           let none = no-mark x.row.kind file in
           let some : is_some (mark_of x.row.kind) ≡ true = ap is_some (All-head (HasKey under key) x rows h its) ∙ marked x.row.id its in

@@ -1,5 +1,5 @@
 -- The rows at and below a directory are a tree.
-use Rattle.std.proofs.Common.{◌≡◌, ℕ, ◌+◌, ◌≤◌, Bool, true, false, cond, ◌&&◌, List, [], ◌∷◌, ◌++◌, length, drop, map, Option, Some, None, refl, sym, ap, ◌∙◌, subst, arith, append_assoc, length-append}
+use Rattle.std.proofs.Common.{◌≡◌, ℕ, ◌+◌, Bool, true, false, cond, List, [], ◌∷◌, ◌++◌, length, drop, map, Option, Some, None, refl, sym, ap, ◌∙◌, subst, arith, append_assoc, length-append}
 use Rattle.std.specs.Prelude.{◌==◌, IsSome, IsTrue, nat_le}
 use Rattle.std.specs.List.{AllByRecursion, filter, list_all}
 use Rattle.std.specs.Option.{option_map, option_map_or}
@@ -7,8 +7,8 @@ use Rattle.std.proofs.lemmas.Bool.Decides.{nat_tests}
 use Rattle.std.proofs.lemmas.List.{append-nil}
 use Rattle.std.proofs.lemmas.List.Elements.{All-from_recursion, recursion_from_All}
 use Rattle.std.proofs.lemmas.List.Folds.{list_all-append}
+use Rattle.std.proofs.lemmas.Bool.{le-leb, leb-true, eqb-true, and_from, and_parts}
 use Rattle.name_calls.specs.Paths.{is_before, is_component, is_prefix, is_relative, is_short, names_text, parent, path_text, same_path}
-use Rattle.name_calls.proofs.PathLemmas.{and-parts}
 use Rattle.inode_tree.specs.declared.rows.Row.{Row}
 use Rattle.inode_tree.specs.Below.{rows_below, seen_from}
 use Rattle.inode_tree.specs.Rows.{AllAfter, Entry, IsRising, IsRows, entry_of, is_dir_at, row_at}
@@ -17,23 +17,11 @@ use Rattle.inode_tree.proofs.MovedPaths.{before-append, not-below, prefix-split,
 use Rattle.inode_tree.proofs.Seeks.{before-not-same, same-itself}
 use Rattle.snap_store.specs.Snapshots.{IsFrozenTree, frozen, is_directory}
 
-le-yes : (a b : ℕ) → a ≤ b → nat_le a b ≡ true
-le-yes a b h = grind (arith, nat_tests)
-
-le-from : (a b : ℕ) → nat_le a b ≡ true → a ≤ b
-le-from a b h = grind (arith, nat_tests)
-
 eq-self : (a : ℕ) → (a == a) ≡ true
 eq-self a = grind (arith, nat_tests)
 
-eq-yes : (a b : ℕ) → (a == b) ≡ true → a ≡ b
-eq-yes a b h = grind (arith, nat_tests)
-
 eq-flip : (a b : ℕ) → (a == b) ≡ false → (b == a) ≡ false
 eq-flip a b h = grind (arith, nat_tests)
-
-both : (a b : Bool) → a ≡ true → b ≡ true → (a && b) ≡ true
-both a b e f = cc
 
 -- each id of one row, from no id twice
 each-once : (es : List Entry) → HasIds es → AllByRecursion (λ e. entry_of es e.row.id ≡ Some e) es
@@ -45,7 +33,7 @@ each-once (x ∷ es) h = (ap (λ (t : Bool). cond t (Some x) (entry_of es x.row.
     later (f ∷ fs) a = (go (x.row.id == f.row.id) refl, later fs a.1)
       where
         go : (t : Bool) → (x.row.id == f.row.id) ≡ t → cond t (Some x) (entry_of es f.row.id) ≡ Some f
-        go true e = let g : entry_of es f.row.id ≡ None = ap (entry_of es) (sym (eq-yes x.row.id f.row.id e)) ∙ h.0 in let k = a.0 in cc
+        go true e = let g : entry_of es f.row.id ≡ None = ap (entry_of es) (sym (eqb-true x.row.id f.row.id e)) ∙ h.0 in let k = a.0 in cc
         go false e = a.0
 
 -- the row that has an id is at its path
@@ -81,18 +69,18 @@ short-end : (p y : List (List ℕ)) → is_short (p ++ y) ≡ true → is_short 
 short-end [] y h = h
 short-end (x ∷ p) [] h = refl
 short-end (x ∷ p) (b ∷ y) h =
-    let w = and-parts (nat_le (length (path_text ((x ∷ p) ++ (b ∷ y)))) 8000) (nat_le (length ((x ∷ p) ++ (b ∷ y))) 100) h in
-    let text = le-from (length (names_text ((x ∷ p) ++ (b ∷ y)))) 8000 w.0 in
-    let names = le-from (length ((x ∷ p) ++ (b ∷ y))) 100 w.1 in
+    let w = and_parts (nat_le (length (path_text ((x ∷ p) ++ (b ∷ y)))) 8000) (nat_le (length ((x ∷ p) ++ (b ∷ y))) 100) h in
+    let text = leb-true (length (names_text ((x ∷ p) ++ (b ∷ y)))) 8000 w.0 in
+    let names = leb-true (length ((x ∷ p) ++ (b ∷ y))) 100 w.1 in
     let e = ap length (names-append (x ∷ p) (b ∷ y)) in
-    both (nat_le (length (path_text (b ∷ y))) 8000) (nat_le (length (b ∷ y)) 100)
-    (le-yes (length (names_text (b ∷ y))) 8000 (omega (arith, text, e, length-append (names_text (x ∷ p)) (names_text (b ∷ y)))))
-    (le-yes (length (b ∷ y)) 100 (omega (arith, names, length-append (x ∷ p) (b ∷ y))))
+    and_from (nat_le (length (path_text (b ∷ y))) 8000) (nat_le (length (b ∷ y)) 100)
+    (le-leb (length (names_text (b ∷ y))) 8000 (omega (arith, text, e, length-append (names_text (x ∷ p)) (names_text (b ∷ y)))))
+    (le-leb (length (b ∷ y)) 100 (omega (arith, names, length-append (x ∷ p) (b ∷ y))))
 
 relative-end : (p y : List (List ℕ)) → is_relative (p ++ y) ≡ true → is_relative y ≡ true
 relative-end p y h =
-    let w = and-parts (list_all is_component (p ++ y)) (is_short (p ++ y)) h in
-    both (list_all is_component y) (is_short y) (and-parts (list_all is_component p) (list_all is_component y) (sym (list_all-append is_component p y) ∙ w.0)).1 (short-end p y w.1)
+    let w = and_parts (list_all is_component (p ++ y)) (is_short (p ++ y)) h in
+    and_from (list_all is_component y) (is_short y) (and_parts (list_all is_component p) (list_all is_component y) (sym (list_all-append is_component p y) ∙ w.0)).1 (short-end p y w.1)
 
 module _ (p : List (List ℕ)) where
   -- what is true of each row below a path when it is seen from there

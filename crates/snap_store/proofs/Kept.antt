@@ -9,9 +9,9 @@ use Rattle.std.proofs.lemmas.Cmp.{nat_cmp_total}
 use Rattle.std.proofs.lemmas.List.Elements.{All-filter, All-from_recursion, recursion_from_All}
 use Rattle.std.proofs.lemmas.Slice.Eq.{bytes_eq-Decides}
 use Rattle.std.specs.Option.{option_map_or}
+use Rattle.std.proofs.lemmas.Bool.{or_right, and_from, not-true, and_parts}
 use Rattle.inode_tree.specs.declared.rows.Row.{Row}
 use Rattle.inode_tree.specs.Rows.{is_dir_at, row_at}
-use Rattle.name_calls.proofs.PathLemmas.{and-parts}
 use Rattle.snap_store.specs.Ordered.{IsRisingBy, put_by}
 use Rattle.snap_store.specs.Snapshots.{IsFrozenTree, IsSnapshots, Snapshot, count_of, is_among, is_named, is_of, key_of, put_snapshot, rows_in, snapshot_cmp, snapshot_named, with_id, without_id, without_snapshot}
 use Rattle.snap_store.proofs.OrderLemmas.{Parted, put-insert, rising-filter, rising-put, seek}
@@ -35,10 +35,6 @@ id-put ids id i r h b p =
 pub taken-put : (xs : List Snapshot) (s : Snapshot) (i : ℕ) → snapshot_named xs s.dir s.name ≡ None → i ≤ length xs → Parted snapshot_cmp snapshot-total s xs i → insert xs i s ≡ put_snapshot s xs
 taken-put xs s i h b p = sym (put-insert snapshot_cmp snapshot-total s xs i b p (sym (named-sought xs s.dir s.name) ∙ h))
 
-or-right : (a b : Bool) → b ≡ true → (a || b) ≡ true
-or-right true b h = refl
-or-right false b h = h
-
 or-map : (a b c : Bool) → (b ≡ true → c ≡ true) → (a || b) ≡ true → (a || c) ≡ true
 or-map true b c f h = refl
 or-map false b c f h = f h
@@ -48,7 +44,7 @@ any-put p z [] h = cc
 any-put p z (x ∷ xs) h = go (is_lt (nat_cmp z x)) (any-put p z xs)
   where
     go : (t : Bool) → (list_any p xs ≡ true → list_any p (put_by nat_cmp z xs) ≡ true) → list_any p (cond t (z ∷ x ∷ xs) (x ∷ put_by nat_cmp z xs)) ≡ true
-    go true ih = or-right (p z) (p x || list_any p xs) h
+    go true ih = or_right (p z) (p x || list_any p xs) h
     go false ih = or-map (p x) (list_any p xs) (list_any p (put_by nat_cmp z xs)) ih h
 
 among-with : (x id : ℕ) (ids : List ℕ) → is_among ids x ≡ true → is_among (with_id id ids) x ≡ true
@@ -70,22 +66,19 @@ among-kept p x (y ∷ ys) e h = go (p y) refl (y == x) refl (among-kept p x ys e
     go true f true g ih k = let m : p x ≡ true = subst (λ (i : ℕ). p i ≡ true) (same y x g) f in cc
     go true f false g ih k = ih k
     go false f true g ih k = ap (λ (b : Bool). b || is_among (filter (λ i. not (p i)) ys) x) g
-    go false f false g ih k = or-right (y == x) (is_among (filter (λ i. not (p i)) ys) x) (ih k)
-
-both : (a b : Bool) → a ≡ true → b ≡ true → (a && b) ≡ true
-both a b e f = cc
+    go false f false g ih k = or_right (y == x) (is_among (filter (λ i. not (p i)) ys) x) (ih k)
 
 all-from : (p q : Snapshot → Bool) (xs : List Snapshot) → ((x : Snapshot) → p x ≡ true → q x ≡ true) → list_all p xs ≡ true → list_all q xs ≡ true
 all-from p q [] f h = refl
-all-from p q (x ∷ xs) f h = let w = and-parts (p x) (list_all p xs) h in both (q x) (list_all q xs) (f x w.0) (all-from p q xs f w.1)
+all-from p q (x ∷ xs) f h = let w = and_parts (p x) (list_all p xs) h in and_from (q x) (list_all q xs) (f x w.0) (all-from p q xs f w.1)
 
 all-put : (p : Snapshot → Bool) (z : Snapshot) (xs : List Snapshot) → p z ≡ true → list_all p xs ≡ true → list_all p (put_snapshot z xs) ≡ true
-all-put p z [] e h = both (p z) true e refl
-all-put p z (x ∷ xs) e h = go (is_lt (snapshot_cmp z x)) (and-parts (p x) (list_all p xs) h) (all-put p z xs e)
+all-put p z [] e h = and_from (p z) true e refl
+all-put p z (x ∷ xs) e h = go (is_lt (snapshot_cmp z x)) (and_parts (p x) (list_all p xs) h) (all-put p z xs e)
   where
     go : (t : Bool) → (p x ≡ true) × (list_all p xs ≡ true) → (list_all p xs ≡ true → list_all p (put_snapshot z xs) ≡ true) → list_all p (cond t (z ∷ x ∷ xs) (x ∷ put_snapshot z xs)) ≡ true
-    go true w ih = both (p z) (p x && list_all p xs) e h
-    go false w ih = both (p x) (list_all p (put_snapshot z xs)) w.0 (ih w.1)
+    go true w ih = and_from (p z) (p x && list_all p xs) e h
+    go false w ih = and_from (p x) (list_all p (put_snapshot z xs)) w.0 (ih w.1)
 
 each-put : (P : Snapshot → Type 0) (z : Snapshot) (xs : List Snapshot) → P z → AllByRecursion P xs → AllByRecursion P (put_snapshot z xs)
 each-put P z [] e h = (e, tt)
@@ -105,10 +98,10 @@ own-row t tree = go (row_at t.rows []) tree.rooted
 
 all-filter : (p q : Snapshot → Bool) (xs : List Snapshot) → list_all p xs ≡ true → list_all p (filter q xs) ≡ true
 all-filter p q [] h = refl
-all-filter p q (x ∷ xs) h = go (q x) (and-parts (p x) (list_all p xs) h) (all-filter p q xs)
+all-filter p q (x ∷ xs) h = go (q x) (and_parts (p x) (list_all p xs) h) (all-filter p q xs)
   where
     go : (t : Bool) → (p x ≡ true) × (list_all p xs ≡ true) → (list_all p xs ≡ true → list_all p (filter q xs) ≡ true) → list_all p (cond t (x ∷ filter q xs) (filter q xs)) ≡ true
-    go true w ih = both (p x) (list_all p (filter q xs)) w.0 (ih w.1)
+    go true w ih = and_from (p x) (list_all p (filter q xs)) w.0 (ih w.1)
     go false w ih = ih w.1
 
 count-head : (x : Snapshot) (xs : List Snapshot) (dir : ℕ) → count_of (x ∷ xs) dir ≡ cond (x.dir == dir) (suc (count_of xs dir)) (count_of xs dir)
@@ -171,13 +164,9 @@ none-any p (x ∷ xs) h = go (p x) h (none-any p xs)
 all-both : (p q : Snapshot → Bool) (xs : List Snapshot) → list_all p xs ≡ true → list_all q xs ≡ true → list_all (λ s. p s && q s) xs ≡ true
 all-both p q [] h k = refl
 all-both p q (x ∷ xs) h k =
-    let v = and-parts (p x) (list_all p xs) h in
-    let w = and-parts (q x) (list_all q xs) k in
-    both (p x && q x) (list_all (λ s. p s && q s) xs) (both (p x) (q x) v.0 w.0) (all-both p q xs v.1 w.1)
-
-not-true : (b : Bool) → not b ≡ true → b ≡ false
-not-true true h = cc
-not-true false h = refl
+    let v = and_parts (p x) (list_all p xs) h in
+    let w = and_parts (q x) (list_all q xs) k in
+    and_from (p x && q x) (list_all (λ s. p s && q s) xs) (and_from (p x) (q x) v.0 w.0) (all-both p q xs v.1 w.1)
 
 -- a change that a result speaks of, or none
 either : {A E X : Type 0} (P : X → Type 0) (r : Result A E) (new changed old : X) → OnOk r (new ≡ changed) → OnErr r (new ≡ old) → P changed → P old → P new
@@ -186,7 +175,7 @@ either P (Err e) new changed old h k p q = subst P (sym k) q
 
 find-all : (p q : Snapshot → Bool) (xs : List Snapshot) (x : Snapshot) → list_all p xs ≡ true → find q xs ≡ Some x → p x ≡ true
 find-all p q [] x h e = cc
-find-all p q (y ∷ ys) x h e = go (q y) (and-parts (p y) (list_all p ys) h) e (find-all p q ys x)
+find-all p q (y ∷ ys) x h e = go (q y) (and_parts (p y) (list_all p ys) h) e (find-all p q ys x)
   where
     go : (t : Bool) → (p y ≡ true) × (list_all p ys ≡ true) → cond t (Some y) (find q ys) ≡ Some x → (list_all p ys ≡ true → find q ys ≡ Some x → p x ≡ true) → p x ≡ true
     go true w f ih = let g : y ≡ x = cc in subst (λ (z : Snapshot). p z ≡ true) g w.0
@@ -219,7 +208,7 @@ module _ (ids : List ℕ) (xs : List Snapshot) (s : IsSnapshots ids xs) where
     rooted = s.rooted;
     trees = s.trees;
     housed = all-from (λ t. not (p t.dir) && is_among ids t.dir) (λ t. is_among (filter (λ i. not (p i)) ids) t.dir) xs
-        (λ x b. let w = and-parts (not (p x.dir)) (is_among ids x.dir) b in among-kept p x.dir ids (not-true (p x.dir) w.0) w.1)
+        (λ x b. let w = and_parts (not (p x.dir)) (is_among ids x.dir) b in among-kept p x.dir ids (not-true (p x.dir) w.0) w.1)
         (all-both (λ t. not (p t.dir)) (λ t. is_among ids t.dir) xs (none-any (λ t. p t.dir) xs h) s.housed);
     few = s.few;
   }
@@ -274,7 +263,7 @@ find-filter p q (x ∷ xs) f = go (p x) refl (q x) refl (find-filter p q xs f)
 -- a snapshot with another name, or of another directory
 other : (dir : ℕ) (name : List ℕ) (d : ℕ) (n : List ℕ) (x : Snapshot) → is_named dir name (key_of d n) ≡ false → is_named d n x ≡ true → is_named dir name x ≡ false
 other dir name d n x h e =
-    let w = and-parts (x.dir == d) (bytes_eq x.name n) e in
+    let w = and_parts (x.dir == d) (bytes_eq x.name n) e in
     let i : d ≡ x.dir = same x.dir d w.0 in
     let j : n ≡ x.name = sym ((bytes_eq-Decides x.name n).0 w.1) in
     subst (λ (m : List ℕ). is_named dir name (key_of x.dir m) ≡ false) j (subst (λ (k : ℕ). is_named dir name (key_of k n) ≡ false) i h)
@@ -283,7 +272,7 @@ other dir name d n x h e =
     same a b h = grind (arith, nat_tests)
 
 own-name : (t : Snapshot) → is_named t.dir t.name t ≡ true
-own-name t = both (t.dir == t.dir) (bytes_eq t.name t.name) (yes t.dir) ((bytes_eq-Decides t.name t.name).1 refl)
+own-name t = and_from (t.dir == t.dir) (bytes_eq t.name t.name) (yes t.dir) ((bytes_eq-Decides t.name t.name).1 refl)
   where
     yes : (a : ℕ) → (a == a) ≡ true
     yes a = grind (arith, nat_tests)

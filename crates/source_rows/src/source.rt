@@ -1,8 +1,12 @@
 //! A cluster that is only read.
-ghost use Rattle.std.specs.Prelude.{◌≡◌, List, Some, true, IfOk, OnOk};
+ghost use Rattle.std.specs.Prelude.{◌≡◌, List, Ok, Some, true, IfErr, IfOk, OnOk};
+ghost use Rattle.hk_base.specs.declared.names.KeyName.{KeyName as Key};
 ghost use Rattle.inode_tree.specs.Listing.{children};
 ghost use Rattle.inode_tree.specs.Rows.{Entry, is_dir_at, row_at};
-ghost use Rattle.row_copies.specs.Clusters.{IsTree};
+ghost use Rattle.kms_calls.specs.declared.calls.KmsRefusal.TheVariants as key_refusal;
+ghost use Rattle.kms_calls.specs.declared.calls.KmsReply.{KmsReply as Reply};
+ghost use Rattle.kms_calls.specs.declared.calls.KmsReply.TheVariants as key_reply;
+ghost use Rattle.row_copies.specs.Clusters.{EndsFor, IsTree};
 
 use file_orders::FsEnd;
 use hk_base::KeyName;
@@ -22,6 +26,9 @@ pub trait SourceRows {
     /// What a call may do.
     ghost follows: { Self → Self → Type 0 };
 
+    /// The reply of the key management service to the superuser's call for the metadata of a key.
+    ghost replies: { Self → Key → Reply → Self → Type 0 };
+
     /// Does nothing. It says what always holds of the rows.
     fn facts(&self)
         requires ready { ready self.now }
@@ -33,7 +40,8 @@ pub trait SourceRows {
         ensures row { IfOk result (λ row. row_at (rows self.old) path.now ≡ Some row) }
         ensures same { rows self.new ≡ rows self.old }
         ensures ready { ready self.new }
-        ensures follows { follows self.old self.new };
+        ensures follows { follows self.old self.new }
+        ensures ends { IfErr result (EndsFor ⊥ ⊥) };
 
     /// Returns the entries of the directory at a path.
     fn list(&mut self, path: &NPath) -> Result<ChildList, FsEnd>
@@ -42,12 +50,17 @@ pub trait SourceRows {
         ensures directory { OnOk result (is_dir_at (row_at (rows self.old) path.now) ≡ true) }
         ensures same { rows self.new ≡ rows self.old }
         ensures ready { ready self.new }
-        ensures follows { follows self.old self.new };
+        ensures follows { follows self.old self.new }
+        ensures ends { IfErr result (EndsFor ⊥ ⊥) };
 
-    /// Returns the reply to a call for the metadata of a key.
+    /// Returns the reply of the key management service to a call for the metadata of a key. The call
+    /// doesn't use the disk.
     fn metadata(&mut self, key: KeyName) -> Result<KmsReply, FsEnd>
         requires ready { ready self.old }
+        ensures reply { IfOk result (λ reply. replies self.old key reply self.new) }
+        ensures fault { result ≡ Ok (key_reply.Refused key_refusal.StoreFault) → ⊥ }
         ensures same { rows self.new ≡ rows self.old }
         ensures ready { ready self.new }
-        ensures follows { follows self.old self.new };
+        ensures follows { follows self.old self.new }
+        ensures ends { IfErr result (EndsFor ⊥ ⊥) };
 }

@@ -1,9 +1,10 @@
 -- The first line with a fault.
-use Rattle.std.proofs.Common.{◌≡◌, ◌⊎◌, inl, inr, ℕ, ◌+◌, ◌<◌, List, [], ◌∷◌, ◌++◌, length, refl, ap, ap₂, sym, ◌∙◌, subst, Bool, true, false, ◌||◌, cond, arith}
+use Rattle.std.proofs.Common.{◌≡◌, ◌⊎◌, inl, inr, ℕ, ◌+◌, ◌<◌, List, [], ◌∷◌, ◌++◌, length, refl, ap, ap₂, sym, ◌∙◌, subst, true, false, cond, arith}
 use Rattle.std.specs.List.{AllByRecursion, IsDistinct}
 use Rattle.std.specs.Str.{bytes_eq}
 use Rattle.std.proofs.lemmas.Grind.{flat_map-append}
 use Rattle.std.specs.Cmp.Lexicographic.{nat_list_eq_equiv}
+use Rattle.std.proofs.lemmas.Bool.{or_from}
 use Rattle.prop_text.specs.Names.{setting_of}
 use Rattle.prop_text.specs.Sizes.{sizes_of}
 use Rattle.prop_text.specs.Properties.{HasFault, IsBadLine, IsFirst, IsProps, IsRepeated, IsUnknown, ReadsAs, SayAll, Says, cut_at_equals, is_among, is_quiet, lines_of, longest_text, name_part, name_set, names_set}
@@ -34,10 +35,6 @@ apart_here : (x y : List ℕ) (names more : Lines) → AllByRecursion (λ z. byt
 apart_here x y [] more all = all.0
 apart_here x y (n ∷ ns) more all = apart_here x y ns more all.1
 
-neither : (a b : Bool) → a ≡ false → b ≡ false → (a || b) ≡ false
-neither true b d e = cc
-neither false b d e = e
-
 flipped : (x y : List ℕ) → bytes_eq x y ≡ bytes_eq y x
 flipped x y = nat_list_eq_equiv.symm x y
 
@@ -45,7 +42,7 @@ distinct_before : (names more : Lines) (name : List ℕ) → IsDistinct bytes_eq
 unfolding IsDistinct
 distinct_before [] more name h = refl
 distinct_before (n ∷ ns) more name h =
-    neither (bytes_eq name n) (is_among name ns) (flipped name n ∙ apart_here n name ns more h.0) (distinct_before ns more name h.1)
+    or_from (bytes_eq name n) (is_among name ns) (flipped name n ∙ apart_here n name ns more h.0) (distinct_before ns more name h.1)
 
 names_at : (earlier later : Lines) (bad name : List ℕ) → name_set bad ≡ name ∷ [] → names_set (earlier ++ bad ∷ later) ≡ names_set earlier ++ name ∷ names_set later
 names_at earlier later bad name is = flat_map-append name_set earlier (bad ∷ later) ∙ ap (λ (l : Lines). names_set earlier ++ (l ++ names_set later)) is

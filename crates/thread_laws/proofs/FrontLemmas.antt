@@ -1,15 +1,14 @@
 -- Each front is that of a walk, and an applied delivery has a front.
 use Rattle.std.proofs.Common.{◌≡◌, ◌⊎◌, inl, inr, ℕ, ◌≤◌, ◌==◌, ◌&&◌, ◌||◌, Bool, true, false, List, [], ◌∷◌, ◌++◌, length, Ok, Err, refl, sym, ap, subst, ◌∙◌, append_assoc, append-nil, arith}
 use Rattle.std.specs.declared.result.Result.{Result}
+use Rattle.std.proofs.lemmas.Bool.{and_parts, eqb-true}
 use mathlib.Core.List.{IsPrefix}
 use Rattle.hk_base.specs.Disk.{DiskState}
 use Rattle.edit_ops.specs.declared.ops.EditOp.{EditOp}
-use Rattle.name_calls.proofs.PathLemmas.{and-parts}
 use Rattle.name_calls.specs.declared.calls.NameRefusal.{NameRefusal}
 use Rattle.name_calls.specs.declared.paths.NPath.{NPath}
 use Rattle.name_calls.specs.declared.status.Delivered.{Delivered}
 use Rattle.name_calls.specs.declared.status.Delivered.TheVariants.{Applied}
-use Rattle.zone_table.proofs.Marks.{eq-yes}
 use Rattle.reenc_walk.specs.declared.sent.BatchNote.{BatchNote}
 use Rattle.reenc_walk.specs.Files.{same_sent}
 use Rattle.reenc_update.specs.Replies.{ReplyState}
@@ -44,10 +43,10 @@ use Rattle.thread_laws.proofs.ServedLemmas.{uses-served}
 
 pub note-is : (a b : BatchNote) → same_note a b ≡ true → a ≡ b
 note-is a b h =
-    let parts = and-parts (a.zone == b.zone) (a.session == b.session && same_sent a.sent b.sent) h in
-    let more = and-parts (a.session == b.session) (same_sent a.sent b.sent) parts.1 in
-    let zone = eq-yes a.zone b.zone parts.0 in
-    let session = eq-yes a.session b.session more.0 in
+    let parts = and_parts (a.zone == b.zone) (a.session == b.session && same_sent a.sent b.sent) h in
+    let more = and_parts (a.session == b.session) (same_sent a.sent b.sent) parts.1 in
+    let zone = eqb-true a.zone b.zone parts.0 in
+    let session = eqb-true a.session b.session more.0 in
     let sent = same-files a.sent b.sent more.1 in λ i. record { zone = zone i; session = session i; sent = sent i }
 
 -- a batch that has a front
@@ -63,8 +62,8 @@ front-of (f ∷ fs) note count h = go (is_front note count f) refl h (front-of f
   where
     go : (b : Bool) → is_front note count f ≡ b → (b || has_front fs note count) ≡ true → (has_front fs note count ≡ true → HasFront fs note count) → HasFront (f ∷ fs) note count
     go true is h ih =
-        let parts = and-parts (f.count == count) (same_note f.note note) is in
-        record { front = f; member = inl refl; note_is = note-is f.note note parts.1; count_is = eq-yes f.count count parts.0 }
+        let parts = and_parts (f.count == count) (same_note f.note note) is in
+        record { front = f; member = inl refl; note_is = note-is f.note note parts.1; count_is = eqb-true f.count count parts.0 }
     go false is h ih = let rest = ih h in record { front = rest.front; member = inr rest.member; note_is = rest.note_is; count_is = rest.count_is }
 
 -- a delivery with a wrong front is not applied

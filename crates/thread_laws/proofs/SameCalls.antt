@@ -2,10 +2,10 @@
 use Rattle.std.proofs.Common.{◌≡◌, ◌⊎◌, inl, inr, ℕ, ◌==◌, Bool, true, false, List, [], ◌∷◌, refl, sym, ap, ◌∙◌}
 use Rattle.std.specs.Str.{bytes_eq}
 use Rattle.std.proofs.lemmas.Slice.Eq.{bytes_eq-Decides}
+use Rattle.std.proofs.lemmas.Bool.{eqb-true, eq-eqb}
 use Rattle.hk_base.specs.declared.names.KeyName.{KeyName}
 use Rattle.hk_base.specs.declared.names.VersionName.{VersionName}
 use Rattle.hk_base.specs.declared.texts.Text.{Text}
-use Rattle.eek_queues.proofs.Births.{is-same, same-is}
 use Rattle.kms_calls.specs.declared.calls.KmsCall.{KmsCall}
 use Rattle.kms_calls.specs.declared.calls.KmsCall.TheVariants as call
 use Rattle.kms_calls.specs.declared.calls.RawEdek.{RawEdek}
@@ -26,8 +26,8 @@ pub decide-number : (m n : ℕ) → Decided m n
 decide-number m n = go (m == n) refl
   where
     go : (b : Bool) → (m == n) ≡ b → Decided m n
-    go true is = inl (is-same m n is)
-    go false is = inr (λ same. let no : true ≡ false = sym (same-is m n same) ∙ is in absurd cc)
+    go true is = inl (eqb-true m n is)
+    go false is = inr (λ same. let no : true ≡ false = sym (eq-eqb m n same) ∙ is in absurd cc)
 
 decide-version : (v w : VersionName) → Decided v w
 decide-version v w = elim (decide-bytes v.key w.key) [

@@ -2,13 +2,13 @@
 use Rattle.std.proofs.Common.{◌≡◌, ◌⊎◌, inl, inr, ℕ, zero, suc, ◌+◌, ◌*◌, ◌^◌, ◌≤◌, ◌==◌, Bool, true, false, List, [], ◌++◌, Option, Some, None, refl, sym, ap, subst, ◌∙◌, arith}
 use Rattle.std.specs.Prelude.{◌&&◌, IfSome}
 use Rattle.std.proofs.lemmas.Bool.Decides.{nat_tests}
+use Rattle.std.proofs.lemmas.Bool.{and_parts}
 use Rattle.hk_base.specs.Disk.{Image}
 use Rattle.edit_ops.specs.declared.ops.EditOp.{EditOp}
 use Rattle.edit_ops.specs.declared.ops.EditOp.TheVariants as op
 use Rattle.key_rows.specs.declared.rows.KeyCommand.{KeyCommand}
 use Rattle.key_rows.specs.declared.rows.KeyCommand.TheVariants.{Opened, Create, Roll, Delete}
 use Rattle.key_rows.specs.Table.{Table, after, applies}
-use Rattle.key_rows.proofs.Births.{both}
 use Rattle.kms_store.specs.Store.{AKeyOpening, Applies, IsLeftByStart, is_key_opening, settled_commands, settled_table}
 use Rattle.kms_store.proofs.Layers.{left_by_start, sound_left}
 use Rattle.name_store.specs.Store.{AnOpening, IsLeftByStart as IsLeftByNameStart, is_opening}
@@ -98,9 +98,9 @@ names-linked past keys more made linked kept found None is may = linked kept
 names-linked past keys more made linked kept false (Some o) is may = linked kept
 names-linked past keys more made linked kept true (Some o) (inl is) may = subst (λ (t : NameTable). LinkedTables past keys t) (sym (kept-after-all made kept more o is.0 is.1)) (linked true)
 names-linked past keys more made linked kept true (Some o) (inr is) may =
-    next-linked past keys (settled_log kept more made).table o is (both (allows (settled_log kept more made).table o) (is_fresh (settled_log kept more made).used o) may).0 (linked kept)
+    next-linked past keys (settled_log kept more made).table o is (and_parts (allows (settled_log kept more made).table o) (is_fresh (settled_log kept more made).used o) may).0 (linked kept)
 
--- both files
+-- and_parts files
 
 keys-started : (past : Past) (c left : Image) → SoundFiles past c → IsLeftByStart (c 0) (left 0) → left 1 ≡ c 1 → SoundFiles past left
 keys-started past c left s l same =

@@ -1,18 +1,16 @@
 -- What the events that only read tell, and that they leave the world as it was.
-use Rattle.std.proofs.Common.{◌≡◌, ◌≤◌, inl, inr, ℕ, Bool, true, false, cond, not, List, [], ◌∷◌, ◌++◌, refl, sym, ap, ◌∙◌, subst, arith}
-use Rattle.std.specs.Prelude.{◌⊎◌, Option, Some, None, Result, Ok, Err, IfOk, OnOk, is_none}
+use Rattle.std.proofs.Common.{◌≡◌, ◌≤◌, inl, inr, ℕ, Bool, true, false, not, List, [], ◌∷◌, ◌++◌, refl, sym, ap, ◌∙◌, subst, arith}
+use Rattle.std.specs.Prelude.{Option, Some, None, Result, Ok, Err, IfOk, OnOk, is_none}
 use Rattle.edit_ops.specs.declared.ops.EditOp.{EditOp}
 use Rattle.hk_base.specs.Disk.{DiskState, Tells}
 use Rattle.hk_base.specs.Faults.{Rose}
-use Rattle.hk_base.specs.declared.names.Edek.{Edek}
 use Rattle.hk_base.specs.declared.names.KeyName.{KeyName}
 use Rattle.hk_base.specs.declared.texts.Text.{Text}
 use Rattle.hk_events.specs.declared.event.Event.{Event}
 use Rattle.hk_events.specs.declared.event.Event.TheVariants as event
 use Rattle.hk_events.specs.declared.event.Line.{Line}
-use Rattle.hk_events.specs.declared.event.Line.TheVariants as line
 use Rattle.inode_tree.specs.Listing.{children}
-use Rattle.inode_tree.specs.Rows.{Entry, is_dir_at, row_at}
+use Rattle.inode_tree.specs.Rows.{is_dir_at, row_at}
 use Rattle.inode_tree.specs.declared.rows.Kind.{Kind}
 use Rattle.inode_tree.specs.declared.rows.Kind.TheVariants.{Dir, File}
 use Rattle.inode_tree.specs.declared.rows.Row.{Row}
@@ -20,14 +18,12 @@ use Rattle.key_rows.specs.declared.rows.KeyCommand.{KeyCommand}
 use Rattle.kms_acls.specs.Verdict.{verdict}
 use Rattle.kms_acls.specs.declared.answers.Denied.{Denied}
 use Rattle.kms_acls.specs.declared.answers.Shown.{Shown}
-use Rattle.kms_calls.specs.declared.calls.KmsCall.{KmsCall}
 use Rattle.kms_calls.specs.declared.calls.KmsCall.TheVariants as call
 use Rattle.kms_calls.specs.declared.calls.KmsReply.{KmsReply}
 use Rattle.kms_core.specs.State.{ServiceState}
 use Rattle.kms_core.specs.Users.{ServesUnder}
 use Rattle.name_calls.specs.ReadPaths.{read_any_path}
 use Rattle.name_calls.specs.Paths.{is_relative}
-use Rattle.name_calls.specs.declared.calls.NameCall.{NameCall}
 use Rattle.name_calls.specs.declared.calls.NameCall.TheVariants as name_call
 use Rattle.name_calls.specs.declared.calls.NameRefusal.{NameRefusal}
 use Rattle.name_calls.specs.declared.calls.NameReply.{NameReply}
@@ -52,9 +48,9 @@ use Rattle.world_events.specs.Events.{HoldsSame, LeadsAt, standing_of}
 use Rattle.world_events.specs.declared.events.WorldEvents.{WorldEvents}
 use Rattle.world_run.specs.Acknowledged.{Acknowledged}
 use Rattle.world_run.specs.Drives.{Standing}
-use Rattle.world_run.specs.Step.{NamesAct, PathActs, Step}
-use Rattle.world_run.specs.World.{RunningWorld, WorldState, world_of}
-use Rattle.world_rows.specs.Rows.{AsksMetadata, IsPlace, OnlyReads, ReadsOnce, place_rows, table_of}
+use Rattle.world_run.specs.Step.{PathActs, Step}
+use Rattle.world_run.specs.World.{WorldState, world_of}
+use Rattle.world_rows.specs.Rows.{IsPlace, OnlyReads, ReadsOnce, place_rows, table_of}
 use Rattle.world_rows.proofs.SeenLemmas.{children-of-place, row-of-place}
 
 -- ---- an info

@@ -1,10 +1,9 @@
 -- Rows as they are seen from a directory.
-use Rattle.std.proofs.Common.{◌≡◌, ℕ, suc, ◌+◌, Bool, true, false, cond, ◌&&◌, List, [], ◌∷◌, ◌++◌, length, drop, map, Option, Some, None, refl, sym, ap, ◌∙◌, subst, arith, length-append}
+use Rattle.std.proofs.Common.{◌≡◌, ℕ, suc, ◌+◌, Bool, true, false, cond, ◌&&◌, List, [], ◌∷◌, ◌++◌, length, drop, map, Option, Some, None, refl, sym, ap, ◌∙◌, arith, length-append}
 use Rattle.std.specs.Prelude.{◌==◌}
 use Rattle.std.specs.List.{filter}
-use Rattle.std.specs.Str.{bytes_eq}
 use Rattle.std.proofs.lemmas.Bool.Decides.{nat_tests}
-use Rattle.name_calls.specs.declared.listing.Child.{Child}
+use Rattle.std.proofs.lemmas.Bool.{and_parts}
 use Rattle.name_calls.specs.declared.read_paths.ReadPath.{ReadPath}
 use Rattle.name_calls.specs.declared.read_paths.SnapPart.{SnapPart}
 use Rattle.name_calls.specs.Paths.{is_child, is_prefix, last_name, same_path}
@@ -38,12 +37,8 @@ last-same [] b y = refl
 last-same (a ∷ []) b y = refl
 last-same (a ∷ c ∷ p) b y = last-same (c ∷ p) b y
 
-and-parts : (a b : Bool) → (a && b) ≡ true → (a ≡ true) × (b ≡ true)
-and-parts true b h = (refl, h)
-and-parts false b h = cc
-
 no-child : (q : List (List ℕ)) → is_child q [] ≡ true → ⊥
-no-child q h = let w = (and-parts (is_prefix q []) (0 == length q + 1) h).1 in less (length q) w
+no-child q h = let w = (and_parts (is_prefix q []) (0 == length q + 1) h).1 in less (length q) w
   where
     less : (n : ℕ) → (0 == n + 1) ≡ true → ⊥
     less n e = grind (arith, nat_tests)

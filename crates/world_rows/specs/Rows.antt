@@ -1,13 +1,16 @@
 -- The rows at and below a place of a world, and the events that read them.
 use Rattle.std.specs.Prelude.{◌≡◌, ◌⊎◌, ℕ, true, List, Option, None, Some, ⊤}
 use Rattle.hk_base.specs.Disk.{DiskState}
+use Rattle.hk_base.specs.declared.names.KeyName.{KeyName}
 use Rattle.hk_events.specs.declared.event.Event.{Event}
 use Rattle.hk_events.specs.declared.event.Event.TheVariants as event
 use Rattle.hk_events.specs.declared.event.Line.{Line}
+use Rattle.hk_events.specs.declared.event.Line.TheVariants as line
 use Rattle.inode_tree.specs.Below.{rows_below}
 use Rattle.inode_tree.specs.Rows.{Entry}
 use Rattle.kms_calls.specs.declared.calls.KmsCall.{KmsCall}
 use Rattle.kms_calls.specs.declared.calls.KmsCall.TheVariants as call
+use Rattle.kms_calls.specs.declared.calls.KmsReply.{KmsReply}
 use Rattle.name_calls.specs.declared.paths.NPath.{NPath}
 use Rattle.name_calls.specs.declared.read_paths.ReadPath.{ReadPath}
 use Rattle.name_calls.specs.declared.read_paths.SnapPart.{SnapPart}
@@ -17,7 +20,7 @@ use Rattle.name_store.specs.Table.{NameTable}
 use Rattle.place_texts.specs.Places.{IsRuled, is_whole_snapshot}
 use Rattle.row_copies.specs.Clusters.{IsTree}
 use Rattle.world_desk.specs.Worlds.{IsReady}
-use Rattle.world_run.specs.World.{RunningWorld, world_of}
+use Rattle.world_run.specs.World.{RunningWorld}
 use Rattle.world_events.specs.Events.{HoldsSame, LeadsAt, standing_of}
 use Rattle.world_run.specs.Drives.{Standing}
 use Rattle.world_rows.specs.declared.rows.WorldRows.{WorldRows}
@@ -70,3 +73,8 @@ pub record ReadsOn {D W : Type 0} (state : D → DiskState) (to_come : W → ℕ
   pub holds : HoldsSame old.events new.events
   pub place : new.place.now ≡ old.place.now
   pub reads : ReadsOnce state to_come old.events.now (standing_of old.events) (standing_of new.events)
+
+-- the superuser asked for the metadata of a key by an event, and this was the reply
+abbrev pub RepliesTo : {D W : Type 0} → (D → DiskState) → (W → ℕ → ℕ) → WorldRows D W → KeyName → KmsReply → WorldRows D W → Type 0
+RepliesTo state to_come old key given new =
+    LeadsAt state to_come old.events.now (standing_of old.events) (event.Kms superuser (call.Metadata key)) (line.Kms given) (standing_of new.events)

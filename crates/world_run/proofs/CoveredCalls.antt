@@ -4,6 +4,7 @@ use Rattle.std.specs.Prelude.{◌≢◌}
 use Rattle.std.specs.Option.{option_map_or}
 use Rattle.std.specs.declared.result.Result.{Result}
 use Rattle.std.proofs.lemmas.Bool.Decides.{nat_tests}
+use Rattle.std.proofs.lemmas.Bool.{not-false}
 use Rattle.hk_base.specs.declared.texts.Text.{Text}
 use Rattle.key_rows.specs.declared.rows.KeyRow.{KeyRow}
 use Rattle.inode_tree.specs.Rows.{Entry, IsRows}
@@ -142,15 +143,11 @@ asks-cover past keys s user a result names c (Plain, may, is) = subst (λ (o : A
 
 -- walks
 
-not-none : (b : Bool) → not b ≡ false → b ≡ true
-not-none true h = refl
-not-none false h = absurd cc
-
 -- the zone of a walk that nothing stops is being re-encrypted
 goes-there : (s : NameState) (p : NPath) (st : StatusRow) → first_cause (walk_causes s p) ≡ None → status_at s.table p ≡ Some st → st.completed ≡ false
 goes-there s p st free found =
     let goes = zone_goes_on s.table.statuses (id_at s.table.rows p) in
-    let on : goes ≡ true = not-none goes (clear (not goes) refusal.NotSubmitted None (none-of-both (zone_root_causes s.table.rows p) ((not goes, refusal.NotSubmitted) ∷ []) free).1).0 in
+    let on : goes ≡ true = not-false goes (clear (not goes) refusal.NotSubmitted None (none-of-both (zone_root_causes s.table.rows p) ((not goes, refusal.NotSubmitted) ∷ []) free).1).0 in
     uncompleted st.completed (sym (ap (λ (o : Option StatusRow). option_map_or goes_on o false) found) ∙ on)
   where
     uncompleted : (b : Bool) → not b ≡ true → b ≡ false

@@ -2,6 +2,7 @@
 use Rattle.std.proofs.Common.{◌≡◌, ◌⊎◌, inl, inr, ℕ, Bool, true, false, not, cond, ◌&&◌, List, [], ◌∷◌, ◌++◌, length, filter, find, Option, Some, None, refl, sym, ap, ◌∙◌, subst, arith}
 use Rattle.std.specs.Prelude.{◌==◌}
 use Rattle.std.specs.Option.{option_map_or}
+use Rattle.std.proofs.lemmas.Bool.{eqb-true, and_parts, and_from, ne_eqb}
 use Rattle.hk_base.specs.declared.names.VersionName.{VersionName}
 use Rattle.key_rows.specs.declared.rows.KeyRow.{KeyRow}
 use Rattle.edit_ops.specs.declared.ops.EditOp.TheVariants as op
@@ -13,18 +14,15 @@ use Rattle.reenc_walk.specs.Files.{is_after, walk_list}
 use Rattle.reenc_walk.specs.Walks.{WalkState, outstanding}
 use Rattle.zone_table.specs.declared.statuses.StatusRow.{StatusRow}
 use Rattle.zone_table.specs.Statuses.{ended, goes_on, goes_on_under, is_of, new_status, with_end, with_status}
-use Rattle.zone_table.proofs.Marks.{eq-yes}
-use Rattle.name_calls.proofs.PathLemmas.{and-parts}
 use Rattle.name_store.specs.Causes.{id_at}
 use Rattle.name_store.specs.Table.{NameTable, after_table, rows_of_entries, snapped_rows}
-use Rattle.name_store.proofs.CauseLemmas.{join}
 use Rattle.name_core.specs.State.{walk_under}
 use Rattle.name_core.specs.Walks.{new_walk, or_new_walk, walk_of}
 use Rattle.world_run.specs.Covered.{CoveredBy, IsAhead, IsAwaited, IsDone, WalkCovered}
 use Rattle.world_run.specs.Ledger.{Draw, Ledger, Past, files_of_zone, files_under, is_session}
 use Rattle.world_run.specs.Linked.{AreDistinct, FilesLinked}
 use Rattle.world_run.specs.Promise.{Counts, In, IsReencrypted, WasThere}
-use Rattle.world_run.proofs.CoveredWalks.{apart-no, itself, key-of-file, row-in}
+use Rattle.world_run.proofs.CoveredWalks.{itself, key-of-file, row-in}
 use Rattle.world_run.proofs.Members.{filter-in, in-filter, in-left, in-map, in-more, in-right}
 use Rattle.world_run.proofs.RowLemmas.{InPlace, one-of-id}
 use Rattle.world_run.proofs.StatusLemmas.{distinct-same, in-with}
@@ -90,7 +88,7 @@ unended-yes u h = go u.completed h
 
 -- the status goes on, and has the session
 pub under-parts : (session : ℕ) (u : StatusRow) → goes_on_under session u ≡ true → (u.session ≡ session) × (u.completed ≡ false)
-under-parts session u h = let p = and-parts (u.session == session) (goes_on u) h in (eq-yes u.session session p.0, unended-yes u p.1)
+under-parts session u h = let p = and_parts (u.session == session) (goes_on u) h in (eqb-true u.session session p.0, unended-yes u p.1)
 
 -- the session ends; if it is not cancelled, all is done
 module _ (past : Past) (keys : List KeyRow) (names : NameTable) (walks : List WalkState) (session : ℕ) (cancelled : Bool) (r : CoveredBy past keys names walks)
@@ -165,7 +163,7 @@ covered-complete past keys names walks st distinct here goes none left r = cover
     nothing x j file (inr ahead) =
         subst (In x) left
         (filter-in (λ (e : Entry). is_file_of names.rows st.zone e && is_after (walk_of walks st).cursor (path_in names.rows st.zone e.path)) x names.rows j
-        (join (is_file_of names.rows st.zone x) (is_after (walk_of walks st).cursor (path_in names.rows st.zone x.path)) file ahead))
+        (and_from (is_file_of names.rows st.zone x) (is_after (walk_of walks st).cursor (path_in names.rows st.zone x.path)) file ahead))
 
     of-st : (x : Entry) → Counts past.ledger keys st → In x names.rows → WasThere past.starts st.session x.row.id → IsDone st x
     of-st x counts j was = elim (r.going_on st x here counts goes j was) [ inl done ↦ done | inr more ↦ absurd (nothing x j (r.in_zone st x here j was) more) ]
@@ -184,12 +182,12 @@ find-new new (t ∷ ts) none = go (is_of new.zone t) (find-new new ts (λ s i. n
   where
     go : (b : Bool) → find (is_session new.session) (with_status new ts) ≡ Some new → find (is_session new.session) (cond b (new ∷ ts) (t ∷ with_status new ts)) ≡ Some new
     go true ih = ap (λ (b : Bool). cond b (Some new) (find (is_session new.session) ts)) (itself new.session)
-    go false ih = ap (λ (b : Bool). cond b (Some t) (find (is_session new.session) (with_status new ts))) (apart-no t.session new.session (none t (inl refl))) ∙ ih
+    go false ih = ap (λ (b : Bool). cond b (Some t) (find (is_session new.session) (with_status new ts))) (ne_eqb t.session new.session (none t (inl refl))) ∙ ih
 
 no-walk : (session : ℕ) (ws : List WalkState) → ((w : WalkState) → In w ws → w.session ≡ session → ⊥) → walk_under ws session ≡ None
 no-walk session [] none = refl
 no-walk session (w ∷ ws) none =
-    ap (λ (b : Bool). cond b (Some w) (walk_under ws session)) (apart-no w.session session (none w (inl refl))) ∙ no-walk session ws (λ v i. none v (inr i))
+    ap (λ (b : Bool). cond b (Some w) (walk_under ws session)) (ne_eqb w.session session (none w (inl refl))) ∙ no-walk session ws (λ v i. none v (inr i))
 
 -- a file of the zone that has the id
 in-files : (rows : List Entry) (zone id : ℕ) → In id (files_of_zone rows zone) → (x : Entry) × In x rows × (is_file_of rows zone x ≡ true) × (id ≡ x.row.id)

@@ -1,9 +1,9 @@
 -- A finish keeps re-encryptions covered: a submission begins with the files of its zone.
-use Rattle.std.proofs.Common.{◌≡◌, inl, inr, ℕ, ◌==◌, Bool, true, false, not, List, [], ◌++◌, Option, Some, None, is_some, Err, refl, sym, ap, subst, ◌∙◌, arith}
+use Rattle.std.proofs.Common.{◌≡◌, inl, inr, ℕ, Bool, true, false, List, [], ◌++◌, Option, Some, None, is_some, Err, refl, sym, ap, subst, ◌∙◌}
 use Rattle.std.specs.Option.{option_map}
 use Rattle.std.specs.declared.result.Result.{Result}
-use Rattle.std.proofs.lemmas.Bool.Decides.{nat_tests}
 use Rattle.std.proofs.lemmas.List.{append-nil}
+use Rattle.std.proofs.lemmas.Bool.{eqb-true, not-false}
 use Rattle.hk_base.specs.declared.names.Edek.{Edek}
 use Rattle.key_rows.specs.declared.rows.KeyRow.{KeyRow}
 use Rattle.inode_tree.specs.declared.rows.Row.{Row}
@@ -246,9 +246,6 @@ module _ (w : WorldState) (h : Hidden) (answer : KeyAnswer) (o : Option Draw) (a
 
 -- the files of the zone that is submitted, whether the pending operation was kept or dropped
 
-is-id : (a b : ℕ) → (a == b) ≡ true → a ≡ b
-is-id a b h = grind (arith, nat_tests)
-
 -- the zone at the path of its directory
 root-zone : (rows : List Entry) (p : List (List ℕ)) → first_cause (zone_root_causes rows p) ≡ None → zone_id rows p ≡ Some (id_at rows p)
 root-zone rows p free =
@@ -259,11 +256,7 @@ root-zone rows p free =
 
 one-zone : (a b : ℕ) (o : Option ℕ) → same_id (Some a) o ≡ true → same_id (Some b) o ≡ true → a ≡ b
 one-zone a b None h k = absurd cc
-one-zone a b (Some c) h k = is-id a c h ∙ sym (is-id b c k)
-
-not-other : (b : Bool) → not b ≡ false → b ≡ true
-not-other true h = refl
-not-other false h = absurd cc
+one-zone a b (Some c) h k = eqb-true a c h ∙ sym (eqb-true b c k)
 
 module _ (w : WorldState) (h : Hidden) (answer : KeyAnswer) (o : Option Draw) (a : OpenAsk) (fit : IsNames w.names) (l : LinkedWorld w h) (answered : Answered w h a a.id answer o) where
   -- the zone of a submission that nothing stops is that of the ask
@@ -274,7 +267,7 @@ module _ (w : WorldState) (h : Hidden) (answer : KeyAnswer) (o : Option Draw) (a
       let path : path_asked a.ask ≡ p = ap path_asked is in
       ap (λ (z : Option ℕ). same_id z a.zone) (sym (root-zone (settled k w.names).table.rows p may.root))
       ∙ ap (λ (q : List (List ℕ)). same_id (zone_id (settled k w.names).table.rows q) a.zone) (sym path)
-      ∙ not-other (same_id (zone_id (settled k w.names).table.rows (path_asked a.ask)) a.zone) may.same_zone
+      ∙ not-false (same_id (zone_id (settled k w.names).table.rows (path_asked a.ask)) a.zone) may.same_zone
 
   submit-lies : (k j : Bool) (edek other : Option Edek) (p : List (List ℕ)) → a.ask ≡ ask.Submit p
       → first_cause (finish_causes (settled k w.names).table.rows (settled k w.names).table.statuses a edek (ask.Submit p)) ≡ None → first_cause (finish_causes (settled j w.names).table.rows (settled j w.names).table.statuses a other (ask.Submit p)) ≡ None

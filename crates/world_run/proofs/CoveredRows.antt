@@ -7,6 +7,7 @@ use Rattle.std.proofs.Math.Seq.{drop-append-add}
 use Rattle.std.proofs.lemmas.Bool.Decides.{nat_tests}
 use Rattle.std.proofs.lemmas.List.{drop-drop}
 use Rattle.std.proofs.lemmas.List.Elements.{recursion_from_All}
+use Rattle.std.proofs.lemmas.Bool.{eqb-true, not-true as no}
 use Rattle.hk_base.specs.declared.names.KeyName.{KeyName}
 use Rattle.inode_tree.specs.declared.rows.Kind.{Kind}
 use Rattle.inode_tree.specs.declared.rows.Kind.TheVariants.{Dir, File}
@@ -69,9 +70,6 @@ both false h k = absurd cc
 
 -- a row that is put in
 
-equal : (a b : ℕ) → (a == b) ≡ true → a ≡ b
-equal a b h = grind (arith, nat_tests)
-
 -- a marked directory has another id than one that no row has
 other-id : (rows : List Entry) (id zone : ℕ) (key : KeyName) → entry_of rows id ≡ None → mark_of_id rows zone ≡ Some key → (id == zone) ≡ false
 other-id rows id zone key fresh marked = go (id == zone) refl
@@ -80,7 +78,7 @@ other-id rows id zone key fresh marked = go (id == zone) refl
     unmarked h = absurd cc
 
     go : (b : Bool) → (id == zone) ≡ b → b ≡ false
-    go true is = absurd (unmarked (sym (ap (option_and_then (λ (e : Entry). mark_of e.row.kind)) fresh) ∙ ap (mark_of_id rows) (equal id zone is) ∙ marked))
+    go true is = absurd (unmarked (sym (ap (option_and_then (λ (e : Entry). mark_of e.row.kind)) fresh) ∙ ap (mark_of_id rows) (eqb-true id zone is) ∙ marked))
     go false is = refl
 
 -- the zone of a status is marked
@@ -114,10 +112,6 @@ entry-stays p (y ∷ ys) id out = go (is_prefix p y.path) refl (y.row.id == id) 
     go true in_it false is h ih = ih h
     go false beside true is h ih = ap (λ c. cond c (Some y) (entry_of (removed p ys) id)) is
     go false beside false is h ih = ap (λ c. cond c (Some y) (entry_of (removed p ys) id)) is ∙ ih h
-
-no : (b : Bool) → not b ≡ true → b ≡ false
-no true h = absurd cc
-no false h = refl
 
 pub removed-keeps : (ledger : Ledger) (rows : List Entry) (p : List (List ℕ)) (statuses : List StatusRow) → KeepsFiles ledger rows (removed p rows) (without_below rows p statuses)
 removed-keeps ledger rows p statuses x d i drawn =
@@ -240,7 +234,7 @@ goes-on-there (t ∷ ts) s distinct (inl same) going =
 goes-on-there (t ∷ ts) s distinct (inr i) going = ap (λ b. option_map_or goes_on (cond b (Some t) (find (is_of s.zone) ts)) false) (other (is_of s.zone t) refl) ∙ goes-on-there ts s distinct.1 i going
   where
     other : (b : Bool) → is_of s.zone t ≡ b → b ≡ false
-    other true is = absurd ((each-in (IsOther t) ts s distinct.0 i).zone (equal t.zone s.zone is))
+    other true is = absurd ((each-in (IsOther t) ts s distinct.0 i).zone (eqb-true t.zone s.zone is))
     other false is = refl
 
 -- the path of a moved file in a directory that moves with it

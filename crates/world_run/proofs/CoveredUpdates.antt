@@ -3,11 +3,11 @@ use Rattle.std.proofs.Common.{◌≡◌, ◌≢◌, ◌⊎◌, inl, inr, ◌+◌
 use Rattle.std.specs.Prelude.{◌==◌, nat_lt}
 use Rattle.std.specs.Option.{option_and_then, option_map_or}
 use Rattle.std.specs.Str.{bytes_eq}
+use Rattle.std.proofs.lemmas.Bool.{and_parts, eqb-true, and_from}
 use Rattle.hk_base.specs.declared.names.VersionName.{VersionName}
 use Rattle.hk_base.specs.Names.{Encrypted}
 use Rattle.key_rows.specs.declared.rows.KeyRow.{KeyRow}
 use Rattle.edit_ops.specs.declared.files.FileKey.{FileKey}
-use Rattle.name_calls.proofs.PathLemmas.{and-parts}
 use Rattle.inode_tree.specs.Rows.{Entry, entry_of, same_id, zone_id}
 use Rattle.inode_tree.specs.ZoneFiles.{edek_of, is_file_of}
 use Rattle.reenc_walk.specs.declared.batches.WalkedBatch.{WalkedBatch}
@@ -24,9 +24,7 @@ use Rattle.reenc_update.specs.Replies.{Fits, ReplyState, are_of_keys}
 use Rattle.reenc_update.proofs.ChangeLemmas.{changed-delivered, delivered-changed, edek-self, same-edek}
 use Rattle.zone_table.specs.declared.statuses.StatusRow.{StatusRow}
 use Rattle.zone_table.specs.Statuses.{capped, counted, goes_on, goes_on_under, with_counts}
-use Rattle.zone_table.proofs.Marks.{eq-yes}
 use Rattle.name_store.specs.Table.{NameTable, after_table, with_edeks}
-use Rattle.name_store.proofs.CauseLemmas.{join}
 use Rattle.name_core.specs.State.{NameState, is_walk_of, retired_under, walk_under, walks_after, with_walk}
 use Rattle.name_core.specs.Updates.{is_outstanding, mark_by, update_op}
 use Rattle.name_core.specs.Walks.{or_new_walk, walk_of}
@@ -64,11 +62,11 @@ sum-second m n some none = some (omega (arith, none))
 
 id-is : (o : Option ℕ) (n : ℕ) → same_id o (Some n) ≡ true → o ≡ Some n
 id-is None n h = absurd cc
-id-is (Some m) n h = ap Some (eq-yes m n h)
+id-is (Some m) n h = ap Some (eqb-true m n h)
 
 -- a file lies in one zone
 lies-in : (rows : List Entry) (zone : ℕ) (x : Entry) → is_file_of rows zone x ≡ true → zone_id rows x.path ≡ Some zone
-lies-in rows zone x file = id-is (zone_id rows x.path) zone (and-parts (is_some (edek_of x.row.kind)) (same_id (zone_id rows x.path) (Some zone)) file).1
+lies-in rows zone x file = id-is (zone_id rows x.path) zone (and_parts (is_some (edek_of x.row.kind)) (same_id (zone_id rows x.path) (Some zone)) file).1
 
 one-zone : (rows : List Entry) (a b : ℕ) (x : Entry) → is_file_of rows a x ≡ true → is_file_of rows b x ≡ true → a ≡ b
 one-zone rows a b x h k = some-is a b (sym (lies-in rows a x h) ∙ lies-in rows b x k)
@@ -157,7 +155,7 @@ module _ (past : Past) (keys : List KeyRow) (names : NameTable) (walks : List Wa
   ]
     where
       goes : goes_on_under st.session st ≡ true
-      goes = join (st.session == st.session) (goes_on st) (itself st.session) (ap not unended)
+      goes = and_from (st.session == st.session) (goes_on st) (itself st.session) (ap not unended)
 
       not-it : goes_on_under st.session s ≡ false → s ≡ st → ⊥
       not-it h is = let f : true ≡ false = sym goes ∙ ap (goes_on_under st.session) (sym is) ∙ h in absurd cc
@@ -228,7 +226,7 @@ module _ (past : Past) (keys : List KeyRow) (names : NameTable) (walks : List Wa
       -- its batch is updated, or still awaited
       go : (k : Bool) → is_of sent b ≡ k → Going rows-after st-after x retires
       go true h =
-          let same : b.sent ≡ sent = same-files b.sent sent (and-parts b.outstanding (same_sent b.sent sent) h).1 in
+          let same : b.sent ≡ sent = same-files b.sent sent (and_parts b.outstanding (same_sent b.sent sent) h).1 in
           elim (brings.each (counts-st c) o.old o.member file (subst (λ (l : List Sent). In o.old.row.id (ids_sent l)) same m) (λ y k at. sent-st c o.old b y i out (subst (In y) (sym same) k) o.member file at)) [
             | inl some ↦ inl (inr (some-failed (inl some)))
             | inr (inl done) ↦ inl (inl (done-after c x o done))
@@ -389,7 +387,7 @@ came-for [] edeks y fits i = absurd i
 came-for (x ∷ xs) [] y fits i = absurd cc
 came-for (x ∷ xs) (e ∷ es) y fits (inl is) = (e, inl (is, refl))
 came-for (x ∷ xs) (e ∷ es) y fits (inr i) =
-    let c = came-for xs es y (and-parts (bytes_eq e.version.key x.edek.version.key) (are_of_keys xs es) fits).1 i in (c.0, inr c.1)
+    let c = came-for xs es y (and_parts (bytes_eq e.version.key x.edek.version.key) (are_of_keys xs es) fits).1 i in (c.0, inr c.1)
 
 -- the place of a file and the key that came back for it
 place-of : (sent : List Sent) (edeks : List Encrypted) (y : Sent) (e : Encrypted) → CameFor sent edeks y e → (place : ℕ) × (slice_get sent place ≡ Some y) × (slice_get edeks place ≡ Some e)
@@ -429,7 +427,7 @@ module _ (past : Past) (keys : List KeyRow) (rows : List Entry) (st : StatusRow)
       let is : d.still.entry ≡ x = some-is d.still.entry x (sym d.still.stands ∙ ap (entry_of rows) (sym same) ∙ once x j) in
       subst (λ (n : ℕ). is_file_of rows n x ≡ true) (sym zone)
       (subst (λ (z : Entry). is_file_of rows note.zone z ≡ true) is
-      (join (is_some (edek_of d.still.entry.row.kind)) (same_id (zone_id rows d.still.entry.path) (Some note.zone)) (ap is_some d.still.has) (ap (λ (o : Option ℕ). same_id o (Some note.zone)) d.still.lies ∙ itself note.zone)))
+      (and_from (is_some (edek_of d.still.entry.row.kind)) (same_id (zone_id rows d.still.entry.path) (Some note.zone)) (ap is_some d.still.has) (ap (λ (o : Option ℕ). same_id o (Some note.zone)) d.still.lies ∙ itself note.zone)))
 
   changed-noted : Counts past.ledger keys st → AllNoted st files
   changed-noted c f i = let d = changed-delivered rows note.zone note.sent edeks f (to-changes f files i) in came-noted c d.file f.edek d.came

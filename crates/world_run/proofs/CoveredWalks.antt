@@ -1,13 +1,12 @@
 -- A walk that takes a batch keeps re-encryptions covered.
-use Rattle.std.proofs.Common.{◌≡◌, ◌≢◌, ◌⊎◌, inl, inr, ◌≤◌, ℕ, zero, suc, Bool, true, false, not, cond, ◌&&◌, ◌||◌, List, [], ◌∷◌, ◌++◌, take, drop, Option, Some, None, is_some, refl, sym, ap, ◌∙◌, subst, arith}
+use Rattle.std.proofs.Common.{◌≡◌, ◌≢◌, ◌⊎◌, inl, inr, ◌≤◌, ℕ, zero, suc, Bool, true, false, not, cond, ◌&&◌, List, [], ◌∷◌, ◌++◌, take, drop, Option, Some, None, is_some, refl, sym, ap, ◌∙◌, subst, arith}
 use Rattle.std.specs.Prelude.{◌==◌}
 use Rattle.std.specs.Option.{option_map}
 use Rattle.std.specs.List.{filter}
-use Rattle.std.proofs.lemmas.Bool.{both_ways, cases_eq}
+use Rattle.std.proofs.lemmas.Bool.{both_ways, cases_eq, ne_eqb, or_left, or_right, and_parts, eqb-true, and_from}
 use Rattle.std.proofs.lemmas.Bool.Decides.{nat_tests}
 use Rattle.key_rows.specs.declared.rows.KeyRow.{KeyRow}
 use Rattle.name_calls.specs.Paths.{is_before}
-use Rattle.name_calls.proofs.PathLemmas.{and-parts}
 use Rattle.inode_tree.specs.Rows.{AllAfter as ComesAfter, Entry, IsRising, IsRows, same_id, zone_id}
 use Rattle.inode_tree.specs.ZoneFiles.{edek_of, is_file_of, path_in}
 use Rattle.inode_tree.proofs.Ranks.{before-trans}
@@ -19,9 +18,7 @@ use Rattle.reenc_walk.specs.Files.{is_after, last_in, last_path, sent_list, sent
 use Rattle.reenc_walk.specs.Walks.{WalkState, walked}
 use Rattle.zone_table.specs.declared.statuses.StatusRow.{StatusRow}
 use Rattle.zone_table.specs.Statuses.{goes_on_under, is_of, session_goes_on, status_of}
-use Rattle.zone_table.proofs.Marks.{eq-yes}
 use Rattle.name_store.specs.Table.{NameTable, rows_of_entries, snapped_rows}
-use Rattle.name_store.proofs.CauseLemmas.{join}
 use Rattle.name_core.specs.State.{NameState, is_walk_of, walk_under, with_walk}
 use Rattle.name_core.specs.Walks.{going_on, or_new_walk, taken, walk_of}
 use Rattle.name_core.proofs.WalkLemmas.{of-session}
@@ -40,42 +37,27 @@ use Rattle.world_run.proofs.StatusLemmas.{distinct-same}
 pub itself : (n : ℕ) → (n == n) ≡ true
 itself n = grind (arith, nat_tests)
 
-pub apart-no : (a b : ℕ) → (a ≡ b → ⊥) → (a == b) ≡ false
-apart-no a b apart = go (a == b) refl
-  where
-    go : (t : Bool) → (a == b) ≡ t → t ≡ false
-    go true is = absurd (apart (eq-yes a b is))
-    go false is = refl
-
 -- sessions
-
-or-first : (a b : Bool) → a ≡ true → (a || b) ≡ true
-or-first true b h = refl
-or-first false b h = absurd cc
-
-or-second : (a b : Bool) → b ≡ true → (a || b) ≡ true
-or-second true b h = refl
-or-second false b h = h
 
 -- the session of a status that goes on goes on
 pub goes-in : (statuses : List StatusRow) (s : StatusRow) → In s statuses → s.completed ≡ false → session_goes_on statuses s.session ≡ true
 goes-in [] s i goes = absurd i
 goes-in (t ∷ ts) s (inl is) goes =
-    or-first (goes_on_under s.session t) (session_goes_on ts s.session)
-    (subst (λ (u : StatusRow). goes_on_under s.session u ≡ true) is (join (s.session == s.session) (not s.completed) (itself s.session) (ap not goes)))
-goes-in (t ∷ ts) s (inr i) goes = or-second (goes_on_under s.session t) (session_goes_on ts s.session) (goes-in ts s i goes)
+    or_left (goes_on_under s.session t) (session_goes_on ts s.session)
+    (subst (λ (u : StatusRow). goes_on_under s.session u ≡ true) is (and_from (s.session == s.session) (not s.completed) (itself s.session) (ap not goes)))
+goes-in (t ∷ ts) s (inr i) goes = or_right (goes_on_under s.session t) (session_goes_on ts s.session) (goes-in ts s i goes)
 
 -- walks
 
 -- the walks of other sessions are the same with another state of one
 pub under-other : (w : WalkState) (ws : List WalkState) (session : ℕ) → (w.session ≡ session → ⊥) → walk_under (with_walk w ws) session ≡ walk_under ws session
-under-other w [] session apart = ap (λ (b : Bool). cond b (Some w) None) (apart-no w.session session apart)
+under-other w [] session apart = ap (λ (b : Bool). cond b (Some w) None) (ne_eqb w.session session apart)
 under-other w (x ∷ ws) session apart = go (is_walk_of w.session x) refl (under-other w ws session apart)
   where
     go : (b : Bool) → is_walk_of w.session x ≡ b → walk_under (with_walk w ws) session ≡ walk_under ws session → walk_under (cond b (w ∷ ws) (x ∷ with_walk w ws)) session ≡ walk_under (x ∷ ws) session
     go true at ih =
-        ap (λ (b : Bool). cond b (Some w) (walk_under ws session)) (apart-no w.session session apart)
-        ∙ sym (ap (λ (b : Bool). cond b (Some x) (walk_under ws session)) (apart-no x.session session (λ e. apart (sym (eq-yes x.session w.session at) ∙ e))))
+        ap (λ (b : Bool). cond b (Some w) (walk_under ws session)) (ne_eqb w.session session apart)
+        ∙ sym (ap (λ (b : Bool). cond b (Some x) (walk_under ws session)) (ne_eqb x.session session (λ e. apart (sym (eqb-true x.session w.session at) ∙ e))))
     go false at ih = ap (λ (o : Option WalkState). cond (is_walk_of session x) (Some x) o) ih
 
 pub in-with-walk : (w v : WalkState) (ws : List WalkState) → In v (with_walk w ws) → (v ≡ w) ⊎ In v ws
@@ -97,7 +79,7 @@ some-of (Some x) is = (x, refl)
 
 -- a file of a zone has an encrypted key
 pub key-of-file : (rows : List Entry) (zone : ℕ) (x : Entry) → is_file_of rows zone x ≡ true → (e : Encrypted) × (edek_of x.row.kind ≡ Some e)
-key-of-file rows zone x file = some-of (edek_of x.row.kind) (and-parts (is_some (edek_of x.row.kind)) (same_id (zone_id rows x.path) (Some zone)) file).0
+key-of-file rows zone x file = some-of (edek_of x.row.kind) (and_parts (is_some (edek_of x.row.kind)) (same_id (zone_id rows x.path) (Some zone)) file).0
 
 pub row-in : (e : Entry) (rows : List Entry) → In e rows → In e.row (rows_of_entries rows)
 row-in e [] i = absurd i
@@ -208,7 +190,7 @@ module _ (past : Past) (keys : List KeyRow) (names : NameTable) (walks : List Wa
   in-list : (x : Entry) → In x names.rows → is_file_of names.rows st.zone x ≡ true → is_after w.cursor (path_in names.rows st.zone x.path) ≡ true → In x list
   in-list x i file ahead =
       filter-in (λ (e : Entry). is_file_of names.rows st.zone e && is_after w.cursor (path_in names.rows st.zone e.path)) x names.rows i
-      (join (is_file_of names.rows st.zone x) (is_after w.cursor (path_in names.rows st.zone x.path)) file ahead)
+      (and_from (is_file_of names.rows st.zone x) (is_after w.cursor (path_in names.rows st.zone x.path)) file ahead)
 
   record IsListed (after : Option (List (List ℕ))) (x : Entry) : Type 0 where
     row : In x names.rows
@@ -218,7 +200,7 @@ module _ (past : Past) (keys : List KeyRow) (names : NameTable) (walks : List Wa
   listed : (after : Option (List (List ℕ))) (x : Entry) → In x (walk_list names.rows st.zone after) → IsListed after x
   listed after x i =
       let m = in-filter (λ (e : Entry). is_file_of names.rows st.zone e && is_after after (path_in names.rows st.zone e.path)) x names.rows i in
-      let both = and-parts (is_file_of names.rows st.zone x) (is_after after (path_in names.rows st.zone x.path)) m.1 in
+      let both = and_parts (is_file_of names.rows st.zone x) (is_after after (path_in names.rows st.zone x.path)) m.1 in
       record { row = m.0; file = both.0; ahead = both.1 }
 
   file-is : (x : Entry) → In x files → IsListed w.cursor x
@@ -312,7 +294,7 @@ module _ (past : Past) (keys : List KeyRow) (names : NameTable) (walks : List Wa
               let f = file-is x i in
               let again : In x (walk_list names.rows st.zone (Some last)) =
               filter-in (λ (e : Entry). is_file_of names.rows st.zone e && is_after (Some last) (path_in names.rows st.zone e.path)) x names.rows f.row
-              (join (is_file_of names.rows st.zone x) (is_after (Some last) (path_in names.rows st.zone x.path)) f.file later) in
+              (and_from (is_file_of names.rows st.zone x) (is_after (Some last) (path_in names.rows st.zone x.path)) f.file later) in
               absurd (taken-once size list x (rising-filter (λ (e : Entry). is_file_of names.rows st.zone e && is_after w.cursor (path_in names.rows st.zone e.path)) names.rows rules.rising) i
               (subst (In x) (walk-follows names.rows st.zone rules w.cursor size there) again))
 
@@ -412,7 +394,7 @@ status-in statuses zone st is = (found-in (is_of zone) statuses st is, of-zone s
     of-zone (t ∷ ts) is = go (is_of zone t) refl is (of-zone ts)
       where
         go : (b : Bool) → is_of zone t ≡ b → cond b (Some t) (status_of ts zone) ≡ Some st → (status_of ts zone ≡ Some st → st.zone ≡ zone) → st.zone ≡ zone
-        go true at is ih = ap (λ (u : StatusRow). u.zone) (sym (some-is t st is)) ∙ eq-yes t.zone zone at
+        go true at is ih = ap (λ (u : StatusRow). u.zone) (sym (some-is t st is)) ∙ eqb-true t.zone zone at
         go false at is ih = ih is
 
 -- The same for what a walk of the zone does.

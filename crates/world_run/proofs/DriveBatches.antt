@@ -3,13 +3,12 @@ use Rattle.std.proofs.Common.{◌≡◌, suc, Bool, true, false, cond, ◌||◌,
 use Rattle.std.specs.Prelude.{◌==◌}
 use Rattle.std.specs.List.{filter}
 use Rattle.std.proofs.lemmas.List.Folds.{list_any-append}
-use Rattle.name_calls.proofs.PathLemmas.{and-parts}
+use Rattle.std.proofs.lemmas.Bool.{or_right, and_parts, and_from}
 use Rattle.reenc_walk.specs.declared.batches.WalkedBatch.{WalkedBatch}
 use Rattle.reenc_walk.specs.declared.sent.Sent.{Sent}
 use Rattle.reenc_walk.specs.Files.{same_edek, same_file, same_sent}
 use Rattle.reenc_walk.specs.Walks.{from_outstanding, has_batch, is_of, outstanding, retired}
 use Rattle.reenc_update.proofs.ChangeLemmas.{edek-self}
-use Rattle.name_store.proofs.CauseLemmas.{join}
 use Rattle.world_run.proofs.CoveredWalks.{itself}
 
 abbrev waiting : List WalkedBatch → List WalkedBatch
@@ -45,20 +44,16 @@ outstanding-retired sent (b ∷ bs) h = go (is_of sent b) refl h (outstanding-re
 
     go : (t : Bool) → is_of sent b ≡ t → (t || has_batch bs sent) ≡ true → (has_batch bs sent ≡ true → outstanding bs ≡ suc (outstanding (retired sent bs)))
         → outstanding (b ∷ bs) ≡ suc (outstanding (cond t (record b { outstanding = false } ∷ bs) (b ∷ retired sent bs)))
-    go true is h ih = ap (λ (t : Bool). length (cond t (b ∷ waiting bs) (waiting bs))) (and-parts b.outstanding (same_sent b.sent sent) is).0
+    go true is h ih = ap (λ (t : Bool). length (cond t (b ∷ waiting bs) (waiting bs))) (and_parts b.outstanding (same_sent b.sent sent) is).0
     go false is h ih = later b.outstanding (ih h)
 
 -- a batch is found by its files
 
 pub sent-self : (xs : List Sent) → same_sent xs xs ≡ true
 sent-self [] = refl
-sent-self (x ∷ xs) = join (same_file x x) (same_sent xs xs) (join (x.id == x.id) (same_edek x.edek x.edek) (itself x.id) (edek-self x.edek)) (sent-self xs)
-
-or-second : (a b : Bool) → b ≡ true → (a || b) ≡ true
-or-second true b h = refl
-or-second false b h = h
+sent-self (x ∷ xs) = and_from (same_file x x) (same_sent xs xs) (and_from (x.id == x.id) (same_edek x.edek x.edek) (itself x.id) (edek-self x.edek)) (sent-self xs)
 
 pub has-last : (bs : List WalkedBatch) (b : WalkedBatch) → b.outstanding ≡ true → has_batch (bs ++ b ∷ []) b.sent ≡ true
 has-last bs b out =
     list_any-append (is_of b.sent) bs (b ∷ [])
-    ∙ or-second (has_batch bs b.sent) (is_of b.sent b || false) (ap (λ (t : Bool). t || false) (join b.outstanding (same_sent b.sent b.sent) out (sent-self b.sent)))
+    ∙ or_right (has_batch bs b.sent) (is_of b.sent b || false) (ap (λ (t : Bool). t || false) (and_from b.outstanding (same_sent b.sent b.sent) out (sent-self b.sent)))

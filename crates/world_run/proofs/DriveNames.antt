@@ -4,6 +4,7 @@ use Rattle.std.specs.Prelude.{◌==◌}
 use Rattle.std.specs.Option.{option_and_then, option_map_or}
 use Rattle.std.proofs.lemmas.Bool.Decides.{nat_tests}
 use Rattle.std.proofs.lemmas.List.{length-drop}
+use Rattle.std.proofs.lemmas.Bool.{and_from}
 use Rattle.hk_base.specs.Names.{Encrypted}
 use Rattle.edit_ops.specs.declared.ops.EditOp.TheVariants as op
 use Rattle.inode_tree.specs.Rows.{Entry, IsRows}
@@ -23,7 +24,6 @@ use Rattle.reenc_update.specs.Replies.{ReplyState}
 use Rattle.zone_table.specs.declared.statuses.StatusRow.{StatusRow}
 use Rattle.zone_table.specs.Statuses.{goes_on}
 use Rattle.name_store.specs.Causes.{first_cause, id_at}
-use Rattle.name_store.proofs.CauseLemmas.{join}
 use Rattle.name_core.specs.declared.walks.Walked.TheVariants as walk
 use Rattle.name_core.specs.Calls.{NoRoom, Plain, done_with}
 use Rattle.name_core.specs.State.{IsNames, NameState, walk_under, with_walk}
@@ -197,7 +197,7 @@ module _ (s : NameState) (zone : NPath) (left out : ℕ) (stage : Stage s zone l
       ap (λ (o : Option StatusRow). option_map_or (has_note note-taken) (option_and_then (walk_of_status next.walks) o) false) found
       ∙ ap (λ (b : Bool). option_map_or (has_note note-taken) (cond b (walk_under next.walks st.session) None) false) goes
       ∙ ap (λ (o : Option WalkState). option_map_or (has_note note-taken) o false) under-next
-      ∙ join (w.session == w.session) (has_batch grown.batches note-taken.sent) (itself w.session) (has-last w.batches batch-taken refl)
+      ∙ and_from (w.session == w.session) (has_batch grown.batches note-taken.sent) (itself w.session) (has-last w.batches batch-taken refl)
 
   takes : Takes s zone note-taken left out next
   takes = record {

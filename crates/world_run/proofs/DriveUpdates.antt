@@ -2,6 +2,7 @@
 use Rattle.std.proofs.Common.{◌≡◌, ℕ, suc, Bool, true, false, cond, not, List, [], ◌∷◌, length, Option, Some, None, is_none, refl, sym, ap, ◌∙◌}
 use Rattle.std.specs.Prelude.{◌==◌}
 use Rattle.std.specs.Option.{option_and_then, option_map_or}
+use Rattle.std.proofs.lemmas.Bool.{eqb-true, and_parts}
 use Rattle.inode_tree.specs.declared.rows.Row.{Row}
 use Rattle.inode_tree.specs.Rows.{Entry, IsRows, is_dir_at, mark_of, row_at}
 use Rattle.name_calls.specs.declared.calls.NameRefusal.{NameRefusal}
@@ -13,10 +14,9 @@ use Rattle.reenc_walk.specs.Walks.{WalkState, outstanding, retire, retired}
 use Rattle.reenc_update.specs.declared.changes.Changes.{Changes}
 use Rattle.zone_table.specs.declared.statuses.StatusRow.{StatusRow}
 use Rattle.zone_table.specs.Statuses.{counted, goes_on, goes_on_under, is_of, status_of, with_counts, zone_goes_on}
-use Rattle.zone_table.proofs.Marks.{eq-yes}
 use Rattle.name_store.specs.Causes.{first_cause, id_at, id_of, zone_root_causes}
 use Rattle.name_store.specs.Table.{with_edeks}
-use Rattle.name_store.proofs.CauseLemmas.{both, none-of-both, zone-root}
+use Rattle.name_store.proofs.CauseLemmas.{none-of-both, zone-root}
 use Rattle.name_core.specs.Calls.{done_with}
 use Rattle.name_core.specs.State.{NameState, walk_under, with_walk}
 use Rattle.name_core.specs.Updates.{is_outstanding, update_op}
@@ -109,7 +109,7 @@ module _ (s : NameState) (zone : NPath) (note : BatchNote) (changes : Changes) (
   same-walk : {X : Type 0} (f : WalkState → X) (mark : Option NPath) (t : StatusRow) → goes_on_under note.session t ≡ true
       → f (walk_of later.walks (with_counts (length changes.files) changes.failed mark t)) ≡ f (walk_of later.walks t)
   same-walk f mark t at =
-      let is = eq-yes t.session note.session (both (t.session == note.session) (goes_on t) at).0 in
+      let is = eqb-true t.session note.session (and_parts (t.session == note.session) (goes_on t) at).0 in
       ap f (walk-later (with_counts (length changes.files) changes.failed mark t) is ∙ sym (walk-later t is))
 
   -- for the status of the zone it depends on the walk after the batch is retired

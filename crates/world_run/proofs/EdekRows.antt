@@ -6,6 +6,7 @@ use Rattle.std.specs.Option.{option_and_then, option_map, option_map_or}
 use Rattle.std.specs.Str.{bytes_eq}
 use Rattle.std.proofs.lemmas.Bool.Decides.{nat_tests}
 use Rattle.std.proofs.lemmas.Slice.Eq.{bytes_eq-Decides}
+use Rattle.std.proofs.lemmas.Bool.{and_parts}
 use Rattle.hk_base.specs.declared.names.Edek.{Edek}
 use Rattle.hk_base.specs.declared.names.KeyName.{KeyName}
 use Rattle.inode_tree.specs.declared.rows.Kind.{Kind}
@@ -14,7 +15,6 @@ use Rattle.inode_tree.specs.declared.rows.Row.{Row}
 use Rattle.inode_tree.specs.Rows.{AllAfter, Entry, IsRising, entry_of, is_dir, is_dir_at, is_marked, is_zone_over, longer, mark_of, row_at, set_kind, with_kind, zone_of}
 use Rattle.name_calls.specs.Paths.{is_before, is_prefix, parent, same_path}
 use Rattle.edit_ops.specs.declared.files.FileKey.{FileKey}
-use Rattle.key_rows.proofs.Births.{both}
 use Rattle.inode_tree.specs.ZoneFiles.{edek_of}
 use Rattle.name_store.specs.Table.{NameTable, ids_once, is_of_key, is_under, key_of_zone, may_update, rows_of_entries, with_edeks}
 use Rattle.world_run.specs.Promise.{FitsZone, In}
@@ -56,7 +56,7 @@ are-files rows f good r x i same =
 
 -- so they do if the table allows an update
 pub all-replace : (t : NameTable) (session : ℕ) (files : List FileKey) → (ids_once files && list_all (may_update t session) files) ≡ true → AllReplace t.rows files
-all-replace t session files may = from files (both (ids_once files) (list_all (may_update t session) files) may).1
+all-replace t session files may = from files (and_parts (ids_once files) (list_all (may_update t session) files) may).1
   where
     of-row : (f : FileKey) (x : Entry) → entry_of t.rows f.id ≡ Some x → is_of_key f x ≡ true → Replaces t.rows f
     of-row f x found same = go x.row.kind refl same
@@ -68,12 +68,12 @@ all-replace t session files may = from files (both (ids_once files) (list_all (m
 
     of-entry : (f : FileKey) (o : Option Entry) → entry_of t.rows f.id ≡ o → option_map_or (λ (e : Entry). is_under t session e && is_of_key f e) o false ≡ true → Replaces t.rows f
     of-entry f None found may = absurd cc
-    of-entry f (Some x) found may = of-row f x found (both (is_under t session x) (is_of_key f x) may).1
+    of-entry f (Some x) found may = of-row f x found (and_parts (is_under t session x) (is_of_key f x) may).1
 
     from : (fs : List FileKey) → list_all (may_update t session) fs ≡ true → AllReplace t.rows fs
     from [] may f i = absurd i
-    from (g ∷ gs) may f (inl is) = subst (Replaces t.rows) (sym is) (of-entry g (entry_of t.rows g.id) refl (both (may_update t session g) (list_all (may_update t session) gs) may).0)
-    from (g ∷ gs) may f (inr i) = from gs (both (may_update t session g) (list_all (may_update t session) gs) may).1 f i
+    from (g ∷ gs) may f (inl is) = subst (Replaces t.rows) (sym is) (of-entry g (entry_of t.rows g.id) refl (and_parts (may_update t session g) (list_all (may_update t session) gs) may).0)
+    from (g ∷ gs) may f (inr i) = from gs (and_parts (may_update t session g) (list_all (may_update t session) gs) may).1 f i
 
 -- a row and its file's new key
 

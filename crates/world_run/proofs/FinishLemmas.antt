@@ -1,8 +1,8 @@
 -- The ledger of draws, and the files, after a finish.
-use Rattle.std.proofs.Common.{◌≡◌, ◌⊎◌, inl, inr, ℕ, ◌≤◌, ◌^◌, ◌*◌, ◌<◌, Bool, true, false, cond, not, List, [], ◌∷◌, ◌++◌, Option, Some, None, is_none, refl, sym, ap, subst, ◌∙◌, arith}
+use Rattle.std.proofs.Common.{◌≡◌, ◌⊎◌, inl, inr, ℕ, ◌≤◌, ◌^◌, ◌*◌, ◌<◌, Bool, true, false, cond, List, [], ◌∷◌, ◌++◌, Option, Some, None, is_none, refl, sym, ap, subst, ◌∙◌, arith}
 use Rattle.std.specs.Prelude.{◌==◌}
-use Rattle.std.proofs.lemmas.Bool.Decides.{nat_tests}
 use Rattle.std.proofs.lemmas.List.{append-nil}
+use Rattle.std.proofs.lemmas.Bool.{eqb-true, eq-eqb, not-false}
 use Rattle.hk_base.specs.declared.names.Edek.{Edek}
 use Rattle.hk_base.specs.declared.names.VersionName.{VersionName}
 use Rattle.eek_queues.specs.Queues.{Queue}
@@ -41,12 +41,6 @@ use Rattle.world_run.proofs.WorldLemmas.{draws-fewer}
 
 -- open asks
 
-is-id : (a b : ℕ) → (a == b) ≡ true → a ≡ b
-is-id a b h = grind (arith, nat_tests)
-
-same-id : (a b : ℕ) → a ≡ b → (a == b) ≡ true
-same-id a b h = grind (arith, nat_tests)
-
 in-without : (asks : List OpenAsk) (id : ℕ) (a : OpenAsk) → In a (without asks id) → In a asks
 in-without [] id a i = absurd i
 in-without (b ∷ asks) id a i = go (b.id == id) (in-without asks id a) i
@@ -62,7 +56,7 @@ open-in [] id a h = absurd cc
 open-in (b ∷ asks) id a h = go (b.id == id) refl (open-in asks id a) h
   where
     go : (t : Bool) → (b.id == id) ≡ t → (open_ask asks id ≡ Some a → In a asks × (a.id ≡ id)) → cond t (Some b) (open_ask asks id) ≡ Some a → In a (b ∷ asks) × (a.id ≡ id)
-    go true same ih h = let is : b ≡ a = cc in (inl (sym is), ap (λ (x : OpenAsk). x.id) (sym is) ∙ is-id b.id id same)
+    go true same ih h = let is : b ≡ a = cc in (inl (sym is), ap (λ (x : OpenAsk). x.id) (sym is) ∙ eqb-true b.id id same)
     go false same ih h = let q = ih h in (inr q.0, q.1)
 
 -- after it is closed no open ask has the id
@@ -71,8 +65,8 @@ without-apart [] id r b i same = absurd i
 without-apart (a ∷ asks) id r b i same = go (a.id == id) refl i (without-apart asks id r.1 b)
   where
     go : (t : Bool) → (a.id == id) ≡ t → In b (cond t asks (a ∷ without asks id)) → (In b (without asks id) → b.id ≡ id → ⊥) → ⊥
-    go true is i ih = let h = each-in (λ (x : OpenAsk). a.id < x.id) asks b r.0 i in absurd (omega (arith, h, same, is-id a.id id is))
-    go false is (inl e) ih = let h = same-id a.id id (ap (λ (x : OpenAsk). x.id) (sym e) ∙ same) in absurd cc
+    go true is i ih = let h = each-in (λ (x : OpenAsk). a.id < x.id) asks b r.0 i in absurd (omega (arith, h, same, eqb-true a.id id is))
+    go false is (inl e) ih = let h = eq-eqb a.id id (ap (λ (x : OpenAsk). x.id) (sym e) ∙ same) in absurd cc
     go false is (inr i) ih = ih i same
 
 -- the entry of a finish
@@ -232,10 +226,6 @@ new-noted : (ledger : Ledger) (keys : List KeyRow) (ask_id : ℕ) (o : Option Dr
 new-noted ledger keys ask_id None e k = absurd k
 new-noted ledger keys ask_id (Some d) e k = record { draw = d; entered = in-right (ask_id, d) ledger ((ask_id, d) ∷ []) (inl refl); noted_is = k.0 }
 
-not-false : (b : Bool) → not b ≡ false → b ≡ true
-not-false true h = refl
-not-false false h = absurd cc
-
 -- a re-encryption has a key, since the path is that of a zone
 pub submit-has-key : (rows : List Entry) (statuses : List StatusRow) (a : OpenAsk) (p : NPath) → first_cause (finish_causes rows statuses a None (ask.Submit p)) ≡ None → ⊥
 submit-has-key rows statuses a p free =
@@ -256,12 +246,12 @@ pub finish-drawn : (enter : Bool) (ledger : Ledger) (keys : List KeyRow) (rows :
     → first_cause (finish_causes rows statuses a edek x) ≡ None → (makes_entry ask_id (Some (finish_op a.id edek x)) ≡ true → enter ≡ true) → OpHasDraw (with_entry enter ask_id o ledger) keys (finish_op a.id edek x)
 finish-drawn enter ledger keys rows statuses a ask_id o None (ask.Create p) same k free enters = tt
 finish-drawn enter ledger keys rows statuses a ask_id o (Some e) (ask.Create p) same k free enters =
-    subst (λ (b : Bool). HasDraw (with_entry b ask_id o ledger) keys a.id e) (sym (enters (same-id a.id ask_id same)))
+    subst (λ (b : Bool). HasDraw (with_entry b ask_id o ledger) keys a.id e) (sym (enters (eq-eqb a.id ask_id same)))
     (subst (λ (n : ℕ). HasDraw (with_entry true ask_id o ledger) keys n e) (sym same) (new-draw ledger keys ask_id o e k))
 finish-drawn enter ledger keys rows statuses a ask_id o edek (ask.Zone p key) same k free enters = tt
 finish-drawn enter ledger keys rows statuses a ask_id o None (ask.Submit p) same k free enters = absurd (submit-has-key rows statuses a p free)
 finish-drawn enter ledger keys rows statuses a ask_id o (Some e) (ask.Submit p) same k free enters =
-    subst (λ (b : Bool). HasNoted (with_entry b ask_id o ledger) a.id e.version) (sym (enters (same-id a.id ask_id same)))
+    subst (λ (b : Bool). HasNoted (with_entry b ask_id o ledger) a.id e.version) (sym (enters (eq-eqb a.id ask_id same)))
     (subst (λ (n : ℕ). HasNoted (with_entry true ask_id o ledger) n e.version) (sym same) (new-noted ledger keys ask_id o e k))
 
 pub finish-fits : (rows : List Entry) (statuses : List StatusRow) (a : OpenAsk) (edek : Option Edek) (x : Ask) → first_cause (finish_causes rows statuses a edek x) ≡ None → OpFits rows (finish_op a.id edek x)

@@ -5,6 +5,7 @@ use Rattle.std.specs.List.{filter}
 use Rattle.std.specs.Option.{option_map, option_and_then}
 use Rattle.std.specs.Str.{bytes_eq}
 use Rattle.std.proofs.lemmas.Bool.Decides.{Decides-eqb, nat_tests}
+use Rattle.std.proofs.lemmas.Bool.{and_parts}
 use Rattle.hk_base.specs.declared.names.Dek.{Dek}
 use Rattle.hk_base.specs.declared.names.Edek.{Edek}
 use Rattle.key_rows.specs.declared.rows.KeyRow.{KeyRow}
@@ -12,7 +13,6 @@ use Rattle.key_rows.specs.declared.rows.KeyCommand.{KeyCommand}
 use Rattle.key_rows.specs.declared.rows.KeyCommand.TheVariants.{Opened, Create, Roll, Delete}
 use Rattle.key_rows.specs.Sound.{IsTable, NamesOnce}
 use Rattle.key_rows.specs.Table.{Table, after, applies, find_name, is_born, is_length, material_of, no_keys, opening_of, rolled, with_material}
-use Rattle.key_rows.proofs.Births.{both}
 use Rattle.key_rows.proofs.TableLemmas.{sound_create, sound_delete, sound_roll}
 use Rattle.kms_store.specs.Replay.{HasRoomForBirths, key_replay}
 use Rattle.kms_store.specs.Store.{Applies, next_opening, settled_table}
@@ -173,11 +173,11 @@ next-rises old opening h = grind (arith, nat_tests)
 pub makes-new : (t : Table) (c : KeyCommand) → applies t c ≡ true → MakesNew t c
 makes-new t (Opened opening) may = next-rises t.opening opening may
 makes-new t (Create birth name bits description created material) may =
-    let sized = both (nat_lt 0 t.opening && is_none (find_name t.rows name) && opening_of birth == t.opening && nat_lt t.greatest birth && nat_lt (length t.rows) 10000 && is_length bits) (length material == bits / 8) may in
-    let long = both (nat_lt 0 t.opening && is_none (find_name t.rows name) && opening_of birth == t.opening && nat_lt t.greatest birth && nat_lt (length t.rows) 10000) (is_length bits) sized.0 in
-    let few = both (nat_lt 0 t.opening && is_none (find_name t.rows name) && opening_of birth == t.opening && nat_lt t.greatest birth) (nat_lt (length t.rows) 10000) long.0 in
-    let born = both (nat_lt 0 t.opening && is_none (find_name t.rows name) && opening_of birth == t.opening) (nat_lt t.greatest birth) few.0 in
-    let here = both (nat_lt 0 t.opening && is_none (find_name t.rows name)) (opening_of birth == t.opening) born.0 in
+    let sized = and_parts (nat_lt 0 t.opening && is_none (find_name t.rows name) && opening_of birth == t.opening && nat_lt t.greatest birth && nat_lt (length t.rows) 10000 && is_length bits) (length material == bits / 8) may in
+    let long = and_parts (nat_lt 0 t.opening && is_none (find_name t.rows name) && opening_of birth == t.opening && nat_lt t.greatest birth && nat_lt (length t.rows) 10000) (is_length bits) sized.0 in
+    let few = and_parts (nat_lt 0 t.opening && is_none (find_name t.rows name) && opening_of birth == t.opening && nat_lt t.greatest birth) (nat_lt (length t.rows) 10000) long.0 in
+    let born = and_parts (nat_lt 0 t.opening && is_none (find_name t.rows name) && opening_of birth == t.opening) (nat_lt t.greatest birth) few.0 in
+    let here = and_parts (nat_lt 0 t.opening && is_none (find_name t.rows name)) (opening_of birth == t.opening) born.0 in
     let present : birth / 2 ^ 32 ≡ t.opening = (Decides-eqb (opening_of birth) t.opening).0 here.1 in
     let above = born.1 in (omega (arith, present), grind (arith, nat_tests, above))
 makes-new t (Roll birth number material) may = tt

@@ -2,9 +2,10 @@
 use Rattle.std.proofs.Common.{◌≡◌, ℕ, zero, suc, ◌+◌, ◌==◌, Bool, true, false, not, cond, List, [], ◌∷◌, length, refl, sym, ap, subst, ◌∙◌, arith}
 use Rattle.std.specs.Prelude.{drop, nat_lt}
 use Rattle.std.proofs.Math.Seq.{drop-length, drop-nil}
+use Rattle.std.proofs.lemmas.Bool.{eqb-true, eq-eqb}
 use Rattle.hk_base.specs.declared.names.Edek.{Edek}
 use Rattle.eek_queues.specs.Queues.{AllQueues, Queue, dropped, has_queue, put_queue, ready_in, set_ready}
-use Rattle.eek_queues.proofs.Births.{absent-ready, absent-set, has-set, is-same, other-is, ready-set, same-is}
+use Rattle.eek_queues.proofs.Births.{absent-ready, absent-set, has-set, other-is, ready-set}
 use Rattle.kms_core.specs.Calls.{handed_out, with_queue}
 
 -- each queue has the ready keys that it had, except for some of the oldest
@@ -41,7 +42,7 @@ ready-other (q ∷ qs) birth ready b other = go (q.birth == birth) refl (ready-o
     go : (t : Bool) → (q.birth == birth) ≡ t → ready_in rest b ≡ ready_in qs b → ready_in (cond t (record { birth = birth; ready = ready }) q ∷ rest) b ≡ cond (q.birth == b) q.ready (ready_in qs b)
     go true is ih =
         ap (λ t. cond t ready (ready_in rest b)) (other-is birth b other) ∙ ih
-        ∙ sym (ap (λ t. cond t q.ready (ready_in qs b)) (other-is q.birth b (λ same. other (sym (is-same q.birth birth is) ∙ same))))
+        ∙ sym (ap (λ t. cond t q.ready (ready_in qs b)) (other-is q.birth b (λ same. other (sym (eqb-true q.birth birth is) ∙ same))))
     go false is ih = ap (cond (q.birth == b) q.ready) ih
 
 -- a queue that loses some of its oldest ready keys
@@ -64,8 +65,8 @@ set-shrinks qs birth n b = go (birth == b) refl
     left = drop n (ready_in qs birth)
 
     go : (t : Bool) → (birth == b) ≡ t → (k : ℕ) × (ready_in (set_ready qs birth left) b ≡ drop k (ready_in qs b))
-    go true is = subst (λ (x : ℕ). (k : ℕ) × (ready_in (set_ready qs birth left) x ≡ drop k (ready_in qs x))) (is-same birth b is) (n, set-drop qs birth n)
-    go false is = (0, ready-other qs birth left b (λ same. let no : true ≡ false = sym (same-is birth b same) ∙ is in absurd cc))
+    go true is = subst (λ (x : ℕ). (k : ℕ) × (ready_in (set_ready qs birth left) x ≡ drop k (ready_in qs x))) (eqb-true birth b is) (n, set-drop qs birth n)
+    go false is = (0, ready-other qs birth left b (λ same. let no : true ≡ false = sym (eq-eqb birth b same) ∙ is in absurd cc))
 
 pub emptied-shrinks : (qs : List Queue) (birth : ℕ) → Shrinks qs (set_ready qs birth [])
 emptied-shrinks qs birth = subst (λ (ready : List Edek). Shrinks qs (set_ready qs birth ready)) (drop-length (ready_in qs birth)) (set-shrinks qs birth (length (ready_in qs birth)))
@@ -89,7 +90,7 @@ dropped-other (q ∷ qs) birth b other = go (q.birth == birth) refl (dropped-oth
   where
     go : (t : Bool) → (q.birth == birth) ≡ t → ready_in (dropped qs birth) b ≡ ready_in qs b
         → ready_in (cond (not t) (q ∷ dropped qs birth) (dropped qs birth)) b ≡ cond (q.birth == b) q.ready (ready_in qs b)
-    go true is ih = ih ∙ sym (ap (λ t. cond t q.ready (ready_in qs b)) (other-is q.birth b (λ same. other (sym (is-same q.birth birth is) ∙ same))))
+    go true is ih = ih ∙ sym (ap (λ t. cond t q.ready (ready_in qs b)) (other-is q.birth b (λ same. other (sym (eqb-true q.birth birth is) ∙ same))))
     go false is ih = ap (cond (q.birth == b) q.ready) ih
 
 pub dropped-has : (qs : List Queue) (birth b : ℕ) → (birth ≡ b → ⊥) → has_queue qs b ≡ true → has_queue (dropped qs birth) b ≡ true
@@ -105,7 +106,7 @@ dropped-has (q ∷ qs) birth b other has = go (q.birth == birth) refl (dropped-h
     along false ih h = ih h
 
     go : (t : Bool) → (q.birth == birth) ≡ t → (has_queue qs b ≡ true → has_queue (dropped qs birth) b ≡ true) → has_queue (cond (not t) (q ∷ dropped qs birth) (dropped qs birth)) b ≡ true
-    go true is ih = ih (skipped (q.birth == b) (other-is q.birth b (λ same. other (sym (is-same q.birth birth is) ∙ same))) has)
+    go true is ih = ih (skipped (q.birth == b) (other-is q.birth b (λ same. other (sym (eqb-true q.birth birth is) ∙ same))) has)
     go false is ih = along (q.birth == b) ih has
 
 pub dropped-shrinks : (qs : List Queue) (birth : ℕ) → Shrinks qs (dropped qs birth)
@@ -113,9 +114,9 @@ dropped-shrinks qs birth b = go (birth == b) refl
   where
     go : (t : Bool) → (birth == b) ≡ t → (k : ℕ) × (ready_in (dropped qs birth) b ≡ drop k (ready_in qs b))
     go true is =
-        subst (λ (x : ℕ). (k : ℕ) × (ready_in (dropped qs birth) x ≡ drop k (ready_in qs x))) (is-same birth b is)
+        subst (λ (x : ℕ). (k : ℕ) × (ready_in (dropped qs birth) x ≡ drop k (ready_in qs x))) (eqb-true birth b is)
         (length (ready_in qs birth), absent-ready (dropped qs birth) birth (dropped-none qs birth) ∙ sym (drop-length (ready_in qs birth)))
-    go false is = (0, dropped-other qs birth b (λ same. let no : true ≡ false = sym (same-is birth b same) ∙ is in absurd cc))
+    go false is = (0, dropped-other qs birth b (λ same. let no : true ≡ false = sym (eq-eqb birth b same) ∙ is in absurd cc))
 
 -- an empty queue that is made for a birth without one
 
@@ -130,7 +131,7 @@ front-ready : (qs : List Queue) (birth b : ℕ) → has_queue qs birth ≡ false
 front-ready qs birth b none = go (birth == b) refl
   where
     go : (t : Bool) → (birth == b) ≡ t → cond t [] (ready_in qs b) ≡ ready_in qs b
-    go true is = sym (absent-ready qs b (subst (λ (x : ℕ). has_queue qs x ≡ false) (is-same birth b is) none))
+    go true is = sym (absent-ready qs b (subst (λ (x : ℕ). has_queue qs x ≡ false) (eqb-true birth b is) none))
     go false is = refl
 
 put-ready : (qs : List Queue) (birth b : ℕ) → has_queue qs birth ≡ false → ready_in (put_queue (record { birth = birth; ready = [] }) qs) b ≡ ready_in qs b

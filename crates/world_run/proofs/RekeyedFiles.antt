@@ -3,6 +3,7 @@ use Rattle.std.proofs.Common.{◌≡◌, ◌⊎◌, inl, inr, ◌≤◌, ℕ, Bo
 use Rattle.std.specs.Prelude.{◌==◌}
 use Rattle.std.specs.Option.{option_map, option_map_or}
 use Rattle.std.proofs.lemmas.Bool.Decides.{nat_tests}
+use Rattle.std.proofs.lemmas.Bool.{eqb-true}
 use Rattle.hk_base.specs.declared.names.Edek.{Edek}
 use Rattle.edit_ops.specs.declared.files.FileKey.{FileKey}
 use Rattle.inode_tree.specs.declared.rows.Kind.{Kind}
@@ -10,7 +11,6 @@ use Rattle.inode_tree.specs.declared.rows.Kind.TheVariants.{Dir, File}
 use Rattle.inode_tree.specs.Rows.{Entry, entry_of, is_dir, same_id, set_kind, with_kind, zone_of}
 use Rattle.inode_tree.specs.ZoneFiles.{edek_of, is_file_of, path_in, zone_path}
 use Rattle.zone_table.specs.declared.statuses.StatusRow.{StatusRow}
-use Rattle.zone_table.proofs.Marks.{eq-yes}
 use Rattle.name_store.specs.Table.{with_edeks}
 use Rattle.name_core.proofs.EdekRows.{AllFiles, AreFiles, IsFileAt, zone-edeks}
 use Rattle.world_run.specs.Promise.{In, IsReencrypted}
@@ -92,7 +92,7 @@ AreKeyed rows files = (f : FileKey) (x : Entry) → In f files → In x rows →
 
 pub all-files : (rows : List Entry) (files : List FileKey) → AreKeyed rows files → AllFiles files rows
 all-files rows files keyed =
-    in-each (λ (f : FileKey). AreFiles f.id rows) files (λ f i. in-each (IsFileAt f.id) rows (λ x j same. not-dir x.row.kind (keyed f x i j (eq-yes x.row.id f.id same))))
+    in-each (λ (f : FileKey). AreFiles f.id rows) files (λ f i. in-each (IsFileAt f.id) rows (λ x j same. not-dir x.row.kind (keyed f x i j (eqb-true x.row.id f.id same))))
 
 still-keyed : (rows : List Entry) (f : FileKey) (fs : List FileKey) → AreKeyed rows (f ∷ fs) → AreKeyed (set_kind rows f.id (File (Some f.edek))) fs
 still-keyed rows f fs keyed g x i j same =

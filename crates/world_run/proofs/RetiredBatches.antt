@@ -1,8 +1,7 @@
 -- A walk whose batch is retired: its batches, their order and the mark.
 use Rattle.std.proofs.Common.{◌≡◌, ◌⊎◌, inl, inr, ℕ, Bool, true, false, cond, List, [], ◌∷◌, Option, Some, None, refl, sym, ap, ◌∙◌, subst}
 use Rattle.std.specs.Prelude.{◌==◌}
-use Rattle.std.proofs.lemmas.Bool.{both_ways}
-use Rattle.name_calls.proofs.PathLemmas.{and-parts}
+use Rattle.std.proofs.lemmas.Bool.{both_ways, and_parts, eqb-true}
 use Rattle.inode_tree.specs.Rows.{Entry}
 use Rattle.inode_tree.specs.ZoneFiles.{is_file_of, path_in}
 use Rattle.reenc_walk.specs.declared.batches.WalkedBatch.{WalkedBatch}
@@ -12,7 +11,6 @@ use Rattle.reenc_walk.specs.Walks.{WalkState, from_outstanding, is_of, mark_afte
 use Rattle.reenc_update.proofs.ChangeLemmas.{same-edek}
 use Rattle.zone_table.specs.declared.statuses.StatusRow.{StatusRow}
 use Rattle.zone_table.specs.Statuses.{or_mark, with_counts}
-use Rattle.zone_table.proofs.Marks.{eq-yes}
 use Rattle.world_run.specs.Covered.{AllAfter, InOrder, NoneShared, WalkCovered, ids_sent}
 use Rattle.world_run.specs.Ledger.{Ledger}
 use Rattle.world_run.specs.Promise.{In}
@@ -24,9 +22,9 @@ same-files [] [] h = refl
 same-files [] (y ∷ ys) h = absurd cc
 same-files (x ∷ xs) [] h = absurd cc
 same-files (x ∷ xs) (y ∷ ys) h =
-    let parts = and-parts (same_file x y) (same_sent xs ys) h in
-    let file = and-parts (x.id == y.id) (same_edek x.edek y.edek) parts.0 in
-    let id = eq-yes x.id y.id file.0 in
+    let parts = and_parts (same_file x y) (same_sent xs ys) h in
+    let file = and_parts (x.id == y.id) (same_edek x.edek y.edek) parts.0 in
+    let id = eqb-true x.id y.id file.0 in
     let edek = same-edek x.edek y.edek file.1 in
     let rest = same-files xs ys parts.1 in λ i. record { id = id i; edek = edek i } ∷ rest i
 

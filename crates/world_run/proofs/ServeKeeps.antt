@@ -5,6 +5,7 @@ use Rattle.std.specs.List.{list_any}
 use Rattle.std.specs.Option.{option_map, option_and_then}
 use Rattle.std.specs.declared.result.Result.{Result}
 use Rattle.std.proofs.lemmas.Option.{slice_get-map}
+use Rattle.std.proofs.lemmas.Bool.{or_parts}
 use Rattle.hk_base.specs.declared.names.Dek.{Dek}
 use Rattle.hk_base.specs.declared.names.Edek.{Edek}
 use Rattle.hk_base.specs.declared.names.KeyName.{KeyName}
@@ -34,7 +35,7 @@ use Rattle.reenc_walk.specs.declared.sent.Sent.{Sent}
 use Rattle.hk_events.specs.declared.event.Event.TheVariants as event
 use Rattle.hk_events.specs.declared.event.Line.{Line}
 use Rattle.world_run.specs.declared.kept.KeptReply.TheVariants.{ToBatch}
-use Rattle.batch_calls.proofs.FitLemmas.{batch-fits, neither, of-name}
+use Rattle.batch_calls.proofs.FitLemmas.{batch-fits, of-name}
 use Rattle.world_run.specs.Acknowledged.{Acknowledged}
 use Rattle.world_run.specs.Batches.{batch_call, key_of_sent, raw_keys, reply_for, result_of}
 use Rattle.world_run.specs.Ledger.{Draw, Hidden, Ledger, hidden_after, left_in, moved_on}
@@ -117,8 +118,8 @@ came-back ledger session s name x e table mine had of_session one stand same =
 -- none of a list, so not the one at a place
 none-at : {X : Type 0} (p : X → Bool) (xs : List X) (n : ℕ) (x : X) → list_any p xs ≡ false → slice_get xs n ≡ Some x → p x ≡ false
 none-at p [] n x none at = absurd cc
-none-at p (y ∷ ys) zero x none at = subst (λ z. p z ≡ false) (some-is y x at) (neither (p y) (list_any p ys) none).0
-none-at p (y ∷ ys) (suc n) x none at = none-at p ys n x (neither (p y) (list_any p ys) none).1 at
+none-at p (y ∷ ys) zero x none at = subst (λ z. p z ≡ false) (some-is y x at) (or_parts (p y) (list_any p ys) none).0
+none-at p (y ∷ ys) (suc n) x none at = none-at p ys n x (or_parts (p y) (list_any p ys) none).1 at
 
 -- the reply to the call for a batch
 

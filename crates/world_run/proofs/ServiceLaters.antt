@@ -2,9 +2,9 @@
 use Rattle.std.proofs.Common.{◌≡◌, inl, inr, ℕ, ◌<◌, Bool, true, false, cond, List, [], ◌∷◌, Option, Some, None, refl, sym, ap, subst, ◌∙◌, arith}
 use Rattle.std.specs.Prelude.{not, nat_lt, is_none, IfSome, Result, Ok, Err}
 use Rattle.std.specs.List.{filter}
+use Rattle.std.proofs.lemmas.Bool.{eq-eqb}
 use Rattle.hk_base.specs.declared.texts.Text.{Text}
 use Rattle.eek_queues.specs.Queues.{AllQueues, Queue, has_queue}
-use Rattle.eek_queues.proofs.Births.{same-is}
 use Rattle.key_rows.specs.declared.rows.KeyCommand.{KeyCommand}
 use Rattle.key_rows.specs.declared.rows.KeyCommand.TheVariants.{Opened, Create, Roll, Delete}
 use Rattle.key_rows.specs.declared.rows.KeyRow.{KeyRow}
@@ -82,7 +82,7 @@ left-other birth (r ∷ rows) row i same = go (is_born birth r) refl i (left-oth
 
     go : (t : Bool) → is_born birth r ≡ t → In row (cond (not t) (r ∷ left) left) → (In row left → birth ≡ row.birth → ⊥) → ⊥
     go true is i ih = ih i same
-    go false is (inl here) ih = let no : true ≡ false = sym (same-is r.birth birth (ap (λ (x : KeyRow). x.birth) (sym here) ∙ sym same)) ∙ is in absurd cc
+    go false is (inl here) ih = let no : true ≡ false = sym (eq-eqb r.birth birth (ap (λ (x : KeyRow). x.birth) (sym here) ∙ sym same)) ∙ is in absurd cc
     go false is (inr i) ih = ih i same
 
 state-by : (t : Table) (all : AllQueues) (c : KeyCommand) → MakesNew t c → StateLater t (after t c) all.queues (queues_after all c).queues

@@ -1,12 +1,11 @@
 -- The files of a zone have encrypted keys of the key that its re-encryption notes.
-use Rattle.std.proofs.Common.{◌≡◌, inl, inr, ℕ, ◌==◌, true, List, [], ◌∷◌, Option, Some, None, is_some, refl, sym, ap, subst, ◌∙◌, arith}
+use Rattle.std.proofs.Common.{◌≡◌, inl, inr, ℕ, true, List, [], ◌∷◌, Option, Some, None, is_some, refl, sym, ap, subst, ◌∙◌}
 use Rattle.std.specs.List.{All}
 use Rattle.std.specs.Option.{option_and_then, option_map}
-use Rattle.std.proofs.lemmas.Bool.Decides.{nat_tests}
 use Rattle.std.proofs.lemmas.List.Elements.{All-head, All-tail}
+use Rattle.std.proofs.lemmas.Bool.{eqb-true, and_parts}
 use Rattle.hk_base.specs.declared.names.Edek.{Edek}
 use Rattle.hk_base.specs.declared.names.KeyName.{KeyName}
-use Rattle.key_rows.proofs.Births.{both}
 use Rattle.inode_tree.specs.declared.rows.Kind.{Kind}
 use Rattle.inode_tree.specs.declared.rows.Kind.TheVariants.{Dir, File}
 use Rattle.inode_tree.specs.Rows.{Entry, mark_of, same_id, zone_id, zone_of}
@@ -18,9 +17,6 @@ use Rattle.world_run.specs.Promise.{FitsZone, In, edek_of}
 use Rattle.world_run.proofs.RenameLemmas.{zone-member}
 use Rattle.world_run.proofs.RowLemmas.{InPlace}
 
-is-id : (a b : ℕ) → (a == b) ≡ true → a ≡ b
-is-id a b h = grind (arith, nat_tests)
-
 all-has : {X : Type 0} (P : X → Type 0) (xs : List X) (x : X) → All P xs → In x xs → P x
 all-has P [] x all i = absurd i
 all-has P (y ∷ ys) x all (inl is) = subst P (sym is) (All-head P y ys all)
@@ -28,11 +24,11 @@ all-has P (y ∷ ys) x all (inr i) = all-has P ys x (All-tail P y ys all) i
 
 -- the directory of the zone of a file
 zone-known : (rows : List Entry) (zone : ℕ) (x : Entry) → is_file_of rows zone x ≡ true → (z : Entry) × (zone_of rows x.path ≡ Some z) × (z.row.id ≡ zone)
-zone-known rows zone x file = go (zone_of rows x.path) refl (both (is_some (edek_of x.row.kind)) (same_id (zone_id rows x.path) (Some zone)) file).1
+zone-known rows zone x file = go (zone_of rows x.path) refl (and_parts (is_some (edek_of x.row.kind)) (same_id (zone_id rows x.path) (Some zone)) file).1
   where
     go : (o : Option Entry) → zone_of rows x.path ≡ o → same_id (option_map (λ (e : Entry). e.row.id) o) (Some zone) ≡ true → (z : Entry) × (zone_of rows x.path ≡ Some z) × (z.row.id ≡ zone)
     go None is same = absurd cc
-    go (Some z) is same = (z, is, is-id z.row.id zone same)
+    go (Some z) is same = (z, is, eqb-true z.row.id zone same)
 
 -- its key is that of the version noted
 zone-noted : (rows : List Entry) (statuses : List StatusRow) (st : StatusRow) (x : Entry) → InPlace rows → StatusesFit rows statuses → In st statuses → is_file_of rows st.zone x ≡ true → key_of_zone rows x.path ≡ Some st.noted.key

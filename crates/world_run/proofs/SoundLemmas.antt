@@ -3,11 +3,11 @@ use Rattle.std.proofs.Common.{◌≡◌, ◌⊎◌, inl, inr, ℕ, zero, suc, �
 use Rattle.std.specs.Prelude.{IfSome, ◌==◌}
 use Rattle.std.specs.declared.result.Result.{Result}
 use Rattle.std.proofs.lemmas.Bool.Decides.{nat_tests}
+use Rattle.std.proofs.lemmas.Bool.{and_parts}
 use Rattle.hk_base.specs.declared.names.Edek.{Edek}
 use Rattle.key_rows.specs.declared.rows.KeyCommand.{KeyCommand}
 use Rattle.key_rows.specs.declared.rows.KeyRow.{KeyRow}
 use Rattle.key_rows.specs.Table.{Table}
-use Rattle.key_rows.proofs.Births.{both}
 use Rattle.prop_text.specs.declared.lines.PropLine.{PropLine}
 use Rattle.edit_ops.specs.declared.ops.EditOp.{EditOp}
 use Rattle.edit_ops.specs.declared.ops.EditOp.TheVariants as op
@@ -355,7 +355,7 @@ files-more w past own k r (Some more) false is f links which fits = f.files k
 files-more w past own k r (Some more) true is f links (inl waits) fits =
     subst (NamesLinked past w.keys.keys.table.rows) (pending-more k w.names.pending more w.names.names.table waits.0 waits.1) (f.files true)
 files-more w past own k r (Some more) true is f links (inr mine) fits =
-    links k more mine (ap (λ (t : NameTable). allows t more) (sym is) ∙ (both (allows r.table more) (is_fresh r.used more) fits).0)
+    links k more mine (ap (λ (t : NameTable). allows t more) (sym is) ∙ (and_parts (allows r.table more) (is_fresh r.used more) fits).0)
 
 pub files-left : (w : WorldState) (past : Past) (own : Bool → EditOp → Type 0) (made : Replayed) (ops : List EditOp) (bytes : List ℕ) → made.table ≡ w.names.names.table → LinkedFiles w past → OwnLinks w past own
     → (left : IsLeftOf made w.names.pending own ops bytes) → (found : Bool) → NamesLinked past w.keys.keys.table.rows (settled_log found left.more (settled_log left.kept w.names.pending made)).table
@@ -387,7 +387,7 @@ opening-rises t (op.Complete session) may = omega arith
 opening-more : (r : Replayed) (more : Option EditOp) (found : Bool) → AppliesToNames r more → r.table.opening ≤ (settled_names_table found more r.table).opening
 opening-more r None found fits = omega arith
 opening-more r (Some more) false fits = omega arith
-opening-more r (Some more) true fits = opening-rises r.table more (both (allows r.table more) (is_fresh r.used more) fits).0
+opening-more r (Some more) true fits = opening-rises r.table more (and_parts (allows r.table more) (is_fresh r.used more) fits).0
 
 pub opening-left : (w : WorldState) (own : Bool → EditOp → Type 0) (made : Replayed) (ops : List EditOp) (bytes : List ℕ) → made.table ≡ w.names.names.table → ServicesFit w
     → (left : IsLeftOf made w.names.pending own ops bytes) → (found : Bool) → w.names.names.table.opening ≤ (settled_log found left.more (settled_log left.kept w.names.pending made)).table.opening
@@ -396,7 +396,7 @@ opening-left w own made ops bytes is fit left found =
     ap (λ (t : NameTable). (settled_names_table left.kept w.names.pending t).opening) is ∙ opening-settled left.kept w.names fit.names in
     subst (λ (n : ℕ). n ≤ (settled_log found left.more (settled_log left.kept w.names.pending made)).table.opening) same (opening-more (settled_log left.kept w.names.pending made) left.more found left.fits)
 
--- both tables
+-- and_parts tables
 
 -- the keys of a log, which grew from the world's, and rows that are linked with the world's keys
 tables-of-files : (w : WorldState) (past : Past) (keys : Table) (names : NameTable) → ServicesFit w → KeysLater w.keys.keys.table keys → HasRoomForBirths keys
@@ -423,7 +423,7 @@ tables-of-files w past keys names fit grew room f rises files =
     higher : (id old new next : ℕ) → id < old * 2 ^ 32 + next → next ≤ 2 ^ 32 → old ≤ new → id < (new + 1) * 2 ^ 32
     higher id old new next low few over = omega (arith, low, few, over)
 
--- the tables that a start finds in what a crash leaves of both logs
+-- the tables that a start finds in what a crash leaves of and_parts logs
 pub tables-through : (w : WorldState) (past : Past) (own : Bool → EditOp → Type 0) (k found : Bool) (more : Option KeyCommand) (made : Replayed) (ops : List EditOp) (bytes : List ℕ) → ServicesFit w → Applies (settled k w.keys).table more
     → HasRoomForBirths (settled_table found more (settled k w.keys).table) → made.table ≡ w.names.names.table → LinkedFiles w past → OwnLinks w past own → (left : IsLeftOf made w.names.pending own ops bytes) → (found_names : Bool)
     → LinkedTables past (settled_table found more (settled k w.keys).table) (settled_log found_names left.more (settled_log left.kept w.names.pending made)).table

@@ -5,6 +5,7 @@ use Rattle.std.specs.List.{AllByRecursion}
 use Rattle.std.specs.declared.result.Result.{Result}
 use Rattle.std.proofs.lemmas.Bool.Decides.{nat_tests}
 use Rattle.std.proofs.lemmas.List.{map-append}
+use Rattle.std.proofs.lemmas.Bool.{and_parts as both}
 use Rattle.hk_base.specs.Disk.{DiskState, Image, IsImage, LeavesOnly, RunOn, Tells}
 use Rattle.hk_base.proofs.Runs.{begin}
 use Rattle.eek_queues.specs.Queues.{AllQueues}
@@ -21,7 +22,6 @@ use Rattle.key_rows.specs.declared.rows.KeyCommand.{KeyCommand}
 use Rattle.key_rows.specs.declared.rows.KeyCommand.TheVariants.{Opened, Create, Roll, Delete}
 use Rattle.key_rows.specs.Records.{HasSpelling, spelling}
 use Rattle.key_rows.specs.Table.{Table, after, applies}
-use Rattle.key_rows.proofs.Births.{both}
 use Rattle.prop_text.specs.SizeValues.{SizeValues}
 use Rattle.kms_store.specs.Store.{AKeyOpening, Applies, IsKeyLog, IsLeftByStart, IsLogOf, Opening, OpensKeys, is_key_opening, next_opening, settled_commands, settled_table}
 use Rattle.kms_store.proofs.Layers.{finds, left_by_start, log_of_store, sound_left}

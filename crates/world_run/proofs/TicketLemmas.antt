@@ -3,6 +3,7 @@ use Rattle.std.proofs.Common.{◌≡◌, inl, inr, ℕ, zero, suc, ◌+◌, ◌-
 use Rattle.std.specs.Prelude.{nat_lt, unwrap_or}
 use Rattle.std.specs.Option.{option_map, option_and_then}
 use Rattle.std.proofs.lemmas.Slice.Eq.{bytes_eq-Decides}
+use Rattle.std.proofs.lemmas.Bool.{eqb-true, eq-eqb}
 use Rattle.hk_base.specs.declared.names.Dek.{Dek}
 use Rattle.hk_base.specs.declared.names.Edek.{Edek}
 use Rattle.hk_base.specs.declared.names.Iv.{Iv}
@@ -14,7 +15,7 @@ use Rattle.eek_seal.specs.declared.deposit.Deposit.TheVariants.{Full, Kept, Stal
 use Rattle.eek_seal.specs.declared.tickets.Ticket.{Ticket}
 use Rattle.eek_seal.proofs.SealLemmas.{unseal-seal}
 use Rattle.eek_queues.specs.Queues.{AllQueues, Queue, has_queue, is_lower, limit, lower_of, lowest, ready_in, set_ready}
-use Rattle.eek_queues.proofs.Births.{is-same, ready-set, same-is}
+use Rattle.eek_queues.proofs.Births.{ready-set}
 use Rattle.key_rows.specs.declared.rows.KeyRow.{KeyRow}
 use Rattle.key_rows.specs.Sound.{IsRow, IsTable}
 use Rattle.key_rows.specs.Table.{find_birth, is_born, material_of}
@@ -59,7 +60,7 @@ lowest-in n (x ∷ xs) q h = go (nat_lt (length x.ready) n) (lowest n xs) (lowes
 
 has-in : (qs : List Queue) (q : Queue) → In q qs → has_queue qs q.birth ≡ true
 has-in [] q i = absurd i
-has-in (x ∷ xs) q (inl is) = ap (λ t. cond t true (has_queue xs q.birth)) (same-is x.birth q.birth (ap (λ (r : Queue). r.birth) (sym is)))
+has-in (x ∷ xs) q (inl is) = ap (λ t. cond t true (has_queue xs q.birth)) (eq-eqb x.birth q.birth (ap (λ (r : Queue). r.birth) (sym is)))
 has-in (x ∷ xs) q (inr i) = go (x.birth == q.birth) (has-in xs q i)
   where
     go : (t : Bool) → has_queue xs q.birth ≡ true → cond t true (has_queue xs q.birth) ≡ true
@@ -87,7 +88,7 @@ ticket-linked s ticket table ready given = go (lowest (limit s.ready) s.ready.qu
     for-row : (birth : ℕ) (row : KeyRow) → find_birth rows birth ≡ Some row → has_queue s.ready.queues birth ≡ true → TicketLinked s.table s.ready.queues (ticket_for s birth)
     for-row birth row found has =
         let member : In row rows = found-in (is_born birth) rows row found in
-        let born : row.birth ≡ birth = is-same row.birth birth (found_passes (is_born birth) rows row found) in
+        let born : row.birth ≡ birth = eqb-true row.birth birth (found_passes (is_born birth) rows row found) in
         let sound : IsRow row = each-in IsRow rows row table.rows member in
         let most : row.birth ≤ s.table.greatest = rising-most 0 s.table.greatest rows table.births row member in
         record {
@@ -239,9 +240,9 @@ module _ (w : WorldState) (h : Hidden) (words : ℕ → ℕ) (ticket : Ticket) (
           (pairs-more (ReadyLinked row_list ticket.birth) (ready_in old_queues ticket.birth) (h.queued ticket.birth) made_key new_draw (l.queues.opens ticket.birth) made-linked)
 
       go : (t : Bool) → (birth == ticket.birth) ≡ t → Pairs (ReadyLinked row_list birth) (ready_in new_queues birth) (cond t (h.queued birth ++ new_draw ∷ []) (h.queued birth))
-      go true is = subst (λ (b : ℕ). Pairs (ReadyLinked row_list b) (ready_in new_queues b) (h.queued b ++ new_draw ∷ [])) (sym (is-same birth ticket.birth is)) here
+      go true is = subst (λ (b : ℕ). Pairs (ReadyLinked row_list b) (ready_in new_queues b) (h.queued b ++ new_draw ∷ [])) (sym (eqb-true birth ticket.birth is)) here
       go false is = subst (λ (ready : List Edek). Pairs (ReadyLinked row_list birth) ready (h.queued birth))
-          (sym (ready-other old_queues ticket.birth (ready_in old_queues ticket.birth ++ made_key ∷ []) birth (λ same. let no : true ≡ false = sym (same-is birth ticket.birth (sym same)) ∙ is in absurd cc)))
+          (sym (ready-other old_queues ticket.birth (ready_in old_queues ticket.birth ++ made_key ∷ []) birth (λ same. let no : true ≡ false = sym (eq-eqb birth ticket.birth (sym same)) ∙ is in absurd cc)))
           (l.queues.opens birth)
 
   rises : (birth : ℕ) → IsRising (with_queued new_draw h.queued birth)

@@ -4,9 +4,9 @@ use Rattle.std.specs.Option.{option_map_or}
 use Rattle.std.specs.Str.{bytes_eq}
 use Rattle.std.specs.declared.result.Result.{Result}
 use Rattle.std.proofs.lemmas.Slice.Eq.{bytes_eq-Decides}
+use Rattle.std.proofs.lemmas.Bool.{and_parts}
 use Rattle.hk_base.specs.declared.names.Edek.{Edek}
 use Rattle.key_rows.specs.declared.rows.KeyRow.{KeyRow}
-use Rattle.key_rows.proofs.Births.{both}
 use Rattle.inode_tree.specs.declared.rows.Kind.{Kind}
 use Rattle.inode_tree.specs.declared.rows.Kind.TheVariants.{Dir, File}
 use Rattle.inode_tree.specs.Rows.{Entry, entry_of}
@@ -79,14 +79,14 @@ changed-to rows zone (x ∷ xs) (e ∷ es) f i = go (is_changed rows zone x e) r
 -- encrypted keys that are the same are of the same key
 same-key : (a b : Edek) → same_edek a b ≡ true → a.version.key ≡ b.version.key
 same-key a b h =
-    let c = both (bytes_eq a.version.key b.version.key && a.version.number == b.version.number && bytes_eq a.iv b.iv) (bytes_eq a.sealed b.sealed) h in
-    let d = both (bytes_eq a.version.key b.version.key && a.version.number == b.version.number) (bytes_eq a.iv b.iv) c.0 in
-    (bytes_eq-Decides a.version.key b.version.key).0 (both (bytes_eq a.version.key b.version.key) (a.version.number == b.version.number) d.0).0
+    let c = and_parts (bytes_eq a.version.key b.version.key && a.version.number == b.version.number && bytes_eq a.iv b.iv) (bytes_eq a.sealed b.sealed) h in
+    let d = and_parts (bytes_eq a.version.key b.version.key && a.version.number == b.version.number) (bytes_eq a.iv b.iv) c.0 in
+    (bytes_eq-Decides a.version.key b.version.key).0 (and_parts (bytes_eq a.version.key b.version.key) (a.version.number == b.version.number) d.0).0
 
 -- a file with the key that was sent gets one of the same key
 replaces-by : (rows : List Entry) (zone : ℕ) (x : Sent) (f : FileKey) → x.id ≡ f.id → is_changed rows zone x f.edek ≡ true → f.edek.version.key ≡ x.edek.version.key → Replaces rows f
 replaces-by rows zone x f id_is tested of_key =
-    of-entry (entry_of rows x.id) refl (both (option_map_or (has_edek rows zone x.edek) (entry_of rows x.id) false) (not (same_edek x.edek f.edek)) tested).0
+    of-entry (entry_of rows x.id) refl (and_parts (option_map_or (has_edek rows zone x.edek) (entry_of rows x.id) false) (not (same_edek x.edek f.edek)) tested).0
   where
     of-kind : (y : Entry) (k : Kind) → entry_of rows x.id ≡ Some y → y.row.kind ≡ k → option_map_or (same_edek x.edek) (edek_of k) false ≡ true → Replaces rows f
     of-kind y (Dir key) at is same = absurd cc
@@ -95,7 +95,7 @@ replaces-by rows zone x f id_is tested of_key =
 
     of-entry : (o : Option Entry) → entry_of rows x.id ≡ o → option_map_or (has_edek rows zone x.edek) o false ≡ true → Replaces rows f
     of-entry None at has = absurd cc
-    of-entry (Some y) at has = of-kind y y.row.kind at refl (both (is_file_of rows zone y) (option_map_or (same_edek x.edek) (edek_of y.row.kind) false) has).1
+    of-entry (Some y) at has = of-kind y y.row.kind at refl (and_parts (is_file_of rows zone y) (option_map_or (same_edek x.edek) (edek_of y.row.kind) false) has).1
 
 -- what came back for a batch replaces keys, and each has a draw
 pub record ChangesFit (ledger : Ledger) (keys : List KeyRow) (rows : List Entry) (files : List FileKey) : Type 0 where

@@ -2,9 +2,9 @@
 use Rattle.std.proofs.Common.{◌≡◌, inl, inr, ℕ, ◌==◌, Bool, true, false, cond, ◌&&◌, List, [], ◌∷◌, Option, Some, None, Ok, Err, refl, sym, ap, subst, ◌∙◌, arith}
 use Rattle.std.proofs.lemmas.Bool.Decides.{nat_tests}
 use Rattle.std.specs.declared.result.Result.{Result}
+use Rattle.std.proofs.lemmas.Bool.{and_parts}
 use Rattle.hk_base.specs.declared.names.VersionName.{VersionName}
 use Rattle.key_rows.specs.declared.rows.KeyRow.{KeyRow}
-use Rattle.key_rows.proofs.Births.{both}
 use Rattle.kms_core.proofs.KeyLemmas.{found_passes}
 use Rattle.inode_tree.specs.Rows.{Entry}
 use Rattle.name_calls.specs.declared.calls.NameRefusal.{NameRefusal}
@@ -59,7 +59,7 @@ sent-live rows zone size w x i =
     let test = λ (y : Entry). is_file_of rows zone y && is_after w.cursor (path_in rows zone y.path) in
     let walked = in-filter test from.0 rows (in-take size from.0 (walk_list rows zone w.cursor) from.1) in
     let is = sent-is from.0 x from.2 in
-    record { entry = from.0; live = walked.0; of_zone = (both (is_file_of rows zone from.0) (is_after w.cursor (path_in rows zone from.0.path)) walked.1).0; id_is = is.0; edek_is = is.1 }
+    record { entry = from.0; live = walked.0; of_zone = (and_parts (is_file_of rows zone from.0) (is_after w.cursor (path_in rows zone from.0.path)) walked.1).0; id_is = is.0; edek_is = is.1 }
 
 -- and has a draw
 pub sent-drawn : (ledger : Ledger) (keys : List KeyRow) (t : NameTable) (zone size : ℕ) (w : WalkState) (x : Sent) → FilesLinked ledger keys t → In x (note_of t.rows zone size w).sent → HasDraw ledger keys x.id x.edek

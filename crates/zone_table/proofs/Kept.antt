@@ -4,6 +4,7 @@ use Rattle.std.specs.Prelude.{◌==◌, nat_lt, slice_get}
 use Rattle.std.specs.List.{All}
 use Rattle.std.specs.Option.{option_map}
 use Rattle.std.proofs.lemmas.List.Elements.{All-head, All-tail}
+use Rattle.std.proofs.lemmas.Bool.{eqb-true}
 use Rattle.hk_base.specs.declared.names.KeyName.{KeyName}
 use Rattle.inode_tree.specs.declared.rows.Row.{Row}
 use Rattle.inode_tree.specs.Arena.{rank, rank_past}
@@ -15,7 +16,7 @@ use Rattle.inode_tree.proofs.Ranks.{any_entry, rank-above}
 use Rattle.inode_tree.proofs.Seeks.{not-before-itself}
 use Rattle.zone_table.specs.declared.zones.ZoneRow.{ZoneRow}
 use Rattle.zone_table.specs.Zones.{put_zone, with_mark, without_zone, zone_row, zones_of}
-use Rattle.zone_table.proofs.Marks.{AllFrom, IsFound, IsOrdered, eq-flip, eq-yes, lt-le-trans, put-behind, put-front, row-mark, zones-ordered}
+use Rattle.zone_table.proofs.Marks.{AllFrom, IsFound, IsOrdered, eq-flip, lt-le-trans, put-behind, put-front, row-mark, zones-ordered}
 use Rattle.zone_table.proofs.Tables.{same, without-none}
 
 -- the rows before a place that are neither at the path nor below it, and all rows from the place on
@@ -115,7 +116,7 @@ module _ (rows : List Entry) where
     where
       go : (t : Bool) → (x.row.id == e.row.id) ≡ t → t ≡ false
       go true h =
-          let i = eq-yes _ _ h in
+          let i = eqb-true _ _ h in
           let j : Some x ≡ Some e = sym f ∙ ap (entry_of rows) i ∙ g in
           let same : x ≡ e = cc in
           let k : is_before x.path x.path ≡ true = ap (λ (y : Entry). is_before x.path y.path) same ∙ b in

@@ -5,12 +5,12 @@ use Rattle.std.specs.List.{All}
 use Rattle.std.specs.Option.{option_map_or}
 use Rattle.std.proofs.lemmas.Bool.Decides.{nat_tests}
 use Rattle.std.proofs.lemmas.List.Elements.{All-head, All-tail}
+use Rattle.std.proofs.lemmas.Bool.{eqb-true, and_parts}
 use Rattle.hk_base.specs.declared.names.KeyName.{KeyName}
 use Rattle.inode_tree.specs.declared.rows.Kind.{Kind}
 use Rattle.inode_tree.specs.declared.rows.Kind.TheVariants.{Dir}
 use Rattle.name_calls.specs.Paths.{is_before}
 use Rattle.inode_tree.specs.Rows.{AllAfter, Entry, IsRising, IsRows, entry_of, is_dir, mark_of, put, set_kind}
-use Rattle.name_calls.proofs.PathLemmas.{and-parts}
 use Rattle.inode_tree.proofs.Seeks.{not-before-itself}
 use Rattle.zone_table.specs.declared.zones.ZoneRow.{ZoneRow}
 use Rattle.zone_table.specs.Laws.{MarkedIsAZone, RootHasNoZones, UnmarkedChangesNothing}
@@ -39,9 +39,6 @@ lt-trans a b c h k = grind (arith, nat_tests)
 
 pub eq-flip : (a b : ℕ) → (a == b) ≡ false → (b == a) ≡ false
 eq-flip a b h = grind (arith, nat_tests)
-
-pub eq-yes : (a b : ℕ) → (a == b) ≡ true → a ≡ b
-eq-yes a b h = grind (arith, nat_tests)
 
 -- a zone is added before one that comes after it
 pub put-front : (a x : ZoneRow) (xs : List ZoneRow) → nat_lt a.dir x.dir ≡ true → put_zone a (x ∷ xs) ≡ a ∷ x ∷ xs
@@ -102,7 +99,7 @@ IsFound rows e = entry_of rows e.row.id ≡ Some e
 -- the row with an id is the one that is found by it
 module _ (rows : List Entry) (dir : Entry) (found : IsFound rows dir) where
   is-it : (e : Entry) → IsFound rows e → (e.row.id == dir.row.id) ≡ true → e ≡ dir
-  is-it e h t = let i = eq-yes _ _ t in let f : entry_of rows e.row.id ≡ entry_of rows dir.row.id = ap (entry_of rows) i in cc
+  is-it e h t = let i = eqb-true _ _ t in let f : entry_of rows e.row.id ≡ entry_of rows dir.row.id = ap (entry_of rows) i in cc
 
   -- no zone has the id of an unmarked row
   no-zone : (es : List Entry) → All (IsFound rows) es → mark_of dir.row.kind ≡ None → zone_row (zones_of es) dir.row.id ≡ None
@@ -153,7 +150,7 @@ found-has [] id e h = cc
 found-has (x ∷ xs) id e h = go (x.row.id == id) refl h (found-has xs id e)
   where
     go : (t : Bool) → (x.row.id == id) ≡ t → cond t (Some x) (entry_of xs id) ≡ Some e → (entry_of xs id ≡ Some e → e.row.id ≡ id) → e.row.id ≡ id
-    go true f g ih = let same : x ≡ e = cc in subst (λ (d : Entry). d.row.id ≡ id) same (eq-yes _ _ f)
+    go true f g ih = let same : x ≡ e = cc in subst (λ (d : Entry). d.row.id ≡ id) same (eqb-true _ _ f)
     go false f g ih = ih g
 
 -- the row is a directory without a mark
@@ -174,7 +171,7 @@ marked-by-id rows id key r h = go (entry_of rows id) refl h
     go None e f = cc
     go (Some dir) e f =
         let same : dir.row.id ≡ id = found-has rows id dir e in
-        let parts = and-parts (is_dir dir.row.kind) (is_none (mark_of dir.row.kind)) f in
+        let parts = and_parts (is_dir dir.row.kind) (is_none (mark_of dir.row.kind)) f in
         let law = marked-is-a-zone rows dir key r (ap (entry_of rows) same ∙ e) parts.0 (none-from _ parts.1) in (
           subst (λ (i : ℕ). zones_of (set_kind rows i (Dir (Some key))) ≡ put_zone (record { dir = i; key = key }) (zones_of rows)) same law.0,
           subst (λ (i : ℕ). zone_row (zones_of rows) i ≡ None) same law.1,

@@ -4,6 +4,7 @@ use Rattle.std.specs.Prelude.{◌==◌}
 use Rattle.std.specs.List.{All}
 use Rattle.std.specs.Option.{option_and_then, option_map, option_map_or}
 use Rattle.std.proofs.lemmas.List.Elements.{All-cons, All-head, All-map, All-nil, All-tail, All-weaker, recursion_from_All}
+use Rattle.std.proofs.lemmas.Bool.{eqb-true}
 use Rattle.hk_base.specs.declared.names.KeyName.{KeyName}
 use Rattle.inode_tree.specs.declared.rows.Kind.{Kind}
 use Rattle.name_calls.specs.declared.paths.NPath.{NPath}
@@ -14,7 +15,6 @@ use Rattle.inode_tree.specs.Rows.{Entry, IsRows, entry_of, mark_of, put, removed
 use Rattle.inode_tree.proofs.MovedLaws.{entry-order, has-ids, ids-moved}
 use Rattle.zone_table.specs.declared.statuses.StatusRow.{StatusRow}
 use Rattle.zone_table.specs.Statuses.{StatusesFit, counted, ended, goes_on_under, is_of, mark_of_id, with_counts, with_end, with_status, without_below}
-use Rattle.zone_table.proofs.Marks.{eq-yes}
 
 module _ (P : StatusRow → Type 0) where
   -- what is true of a status and of all others is true of all after it was added
@@ -74,7 +74,7 @@ other-id : (rows : List Entry) (n id : ℕ) (key : KeyName) → mark_of_id rows 
 other-id rows n id key h k = go (n == id) refl
   where
     go : (b : Bool) → (n == id) ≡ b → b ≡ false
-    go true e = let same : n ≡ id = eq-yes n id e in let f = sym h ∙ ap (mark_of_id rows) same ∙ k in cc
+    go true e = let same : n ≡ id = eqb-true n id e in let f = sym h ∙ ap (mark_of_id rows) same ∙ k in cc
     go false e = refl
 
 entry-other : (e : Entry) (rows : List Entry) (id : ℕ) → (e.row.id == id) ≡ false → entry_of (put e rows) id ≡ entry_of rows id
@@ -99,7 +99,7 @@ kind-other n kind (x ∷ xs) id d = go (x.row.id == n) refl (kind-other n kind x
     go : (b : Bool) → (x.row.id == n) ≡ b → entry_of (set_kind xs n kind) id ≡ entry_of xs id → entry_of (cond b (record x { row = record { id = n; kind = kind } }) x ∷ set_kind xs n kind) id ≡ entry_of (x ∷ xs) id
     go true e ih =
         ap (λ (t : Bool). cond t (Some (record x { row = record { id = n; kind = kind } })) (entry_of (set_kind xs n kind) id)) d
-        ∙ ih ∙ sym (ap (λ (t : Bool). cond t (Some x) (entry_of xs id)) (ap (λ (i : ℕ). i == id) (eq-yes x.row.id n e) ∙ d))
+        ∙ ih ∙ sym (ap (λ (t : Bool). cond t (Some x) (entry_of xs id)) (ap (λ (i : ℕ). i == id) (eqb-true x.row.id n e) ∙ d))
     go false e ih = ap (λ (o : Option Entry). cond (x.row.id == id) (Some x) o) ih
 
 -- a row without a mark, as a directory that becomes a zone, gets another kind

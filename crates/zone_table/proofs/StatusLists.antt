@@ -2,18 +2,12 @@
 use Rattle.std.proofs.Common.{◌≡◌, ℕ, ◌+◌, ◌<◌, ◌≤◌, zero, suc, Bool, true, false, not, cond, List, [], ◌∷◌, ◌++◌, length, map, set, get_or, Option, Some, None, refl, sym, ap, ◌∙◌, subst, arith}
 use Rattle.std.specs.Prelude.{nat_lt, slice_get}
 use Rattle.std.specs.List.{find, position, position_or_len}
-use Rattle.std.proofs.lemmas.Bool.Decides.{nat_tests}
 use Rattle.std.proofs.lemmas.List.Folds.{find_at}
 use Rattle.std.proofs.lemmas.Option.{slice_get-get_or, slice_get_past}
+use Rattle.std.proofs.lemmas.Bool.{ltb-true, ltb-false}
 use Rattle.zone_table.specs.declared.statuses.StatusRow.{StatusRow}
 use Rattle.name_calls.specs.declared.paths.NPath.{NPath}
 use Rattle.zone_table.specs.Statuses.{counted, goes_on_under, is_of, with_counts, with_status}
-
-lower : (a b : ℕ) → nat_lt a b ≡ true → a < b
-lower a b h = grind (arith, nat_tests)
-
-not-lower : (a b : ℕ) → nat_lt a b ≡ false → b ≤ a
-not-lower a b h = grind (arith, nat_tests)
 
 next : (n : ℕ) → 1 + n ≡ suc n
 next n = omega arith
@@ -24,7 +18,7 @@ module _ {X : Type 0} (p : X → Bool) (xs : List X) where
   placed at h = go (nat_lt (position_or_len p xs) (length xs)) refl (sym h)
     where
       go : (b : Bool) → nat_lt (position_or_len p xs) (length xs) ≡ b → cond b (Some (position_or_len p xs)) None ≡ Some at → (position_or_len p xs ≡ at) × (at < length xs)
-      go true e f = let same : position_or_len p xs ≡ at = cc in (same, subst (λ (n : ℕ). n < length xs) same (lower _ _ e))
+      go true e f = let same : position_or_len p xs ≡ at = cc in (same, subst (λ (n : ℕ). n < length xs) same (ltb-true _ _ e))
       go false e f = cc
 
   pub unplaced : None ≡ position p xs → length xs ≤ position_or_len p xs
@@ -32,7 +26,7 @@ module _ {X : Type 0} (p : X → Bool) (xs : List X) where
     where
       go : (b : Bool) → nat_lt (position_or_len p xs) (length xs) ≡ b → cond b (Some (position_or_len p xs)) None ≡ None → length xs ≤ position_or_len p xs
       go true e f = cc
-      go false e f = not-lower _ _ e
+      go false e f = ltb-false _ _ e
 
   -- what is found is at that index
   pub found-at : (at : ℕ) (x : X) → Some at ≡ position p xs → x ≡ get_or xs at x → Some x ≡ find p xs

@@ -7,10 +7,11 @@ use Rattle.std.specs.List.{AllByRecursion, IsDistinct}
 use Rattle.std.specs.Map.{keys_of, lookup}
 use Rattle.std.specs.Option.{option_map}
 use Rattle.std.proofs.lemmas.Bool.Decides.{nat_tests}
+use Rattle.std.proofs.lemmas.Bool.{eqb-true}
 use Rattle.hk_base.specs.declared.names.KeyName.{KeyName}
 use Rattle.zone_table.specs.declared.zones.ZoneRow.{ZoneRow}
 use Rattle.zone_table.specs.Zones.{by_directory, put_zone, without_zone, zone_row}
-use Rattle.zone_table.proofs.Marks.{eq-yes, lt-trans}
+use Rattle.zone_table.proofs.Marks.{lt-trans}
 
 -- each zone has a higher id
 abbrev pub AllOver : ℕ → List ZoneRow → Type 0
@@ -102,7 +103,7 @@ row-added z (x ∷ xs) dir h = go (nat_lt z.dir x.dir) (row-added z xs dir (none
   where
     swap : (t u : Bool) → (z.dir == dir) ≡ t → (x.dir == dir) ≡ u → cond u (Some x) (cond t (Some z) (zone_row xs dir)) ≡ cond t (Some z) (cond u (Some x) (zone_row xs dir))
     swap true true e f =
-        let g : x.dir ≡ z.dir = eq-yes x.dir dir f ∙ sym (eq-yes z.dir dir e) in
+        let g : x.dir ≡ z.dir = eqb-true x.dir dir f ∙ sym (eqb-true z.dir dir e) in
         let k = (none-parts x xs z.dir h).0 in
         let m : (x.dir == z.dir) ≡ true = ap (λ (n : ℕ). x.dir == n) (sym g) ∙ same x.dir in cc
     swap true false e f = refl
@@ -122,10 +123,10 @@ row-without [] dir q s = go (dir == q)
 row-without (x ∷ xs) dir q s = go (x.dir == dir) refl (dir == q) refl (row-without xs dir q s.1)
   where
     go : (t : Bool) → (x.dir == dir) ≡ t → (u : Bool) → (dir == q) ≡ u → zone_row (without_zone xs dir) q ≡ cond (dir == q) None (zone_row xs q) → zone_row (cond t xs (x ∷ without_zone xs dir)) q ≡ cond u None (zone_row (x ∷ xs) q)
-    go true e true f ih = ap (zone_row xs) (sym (eq-yes x.dir dir e ∙ eq-yes dir q f)) ∙ none-over x.dir xs s.0
-    go true e false f ih = ap (λ (t : Bool). cond t (Some x) (zone_row xs q)) (sym (ap (λ (n : ℕ). n == q) (eq-yes x.dir dir e) ∙ f))
+    go true e true f ih = ap (zone_row xs) (sym (eqb-true x.dir dir e ∙ eqb-true dir q f)) ∙ none-over x.dir xs s.0
+    go true e false f ih = ap (λ (t : Bool). cond t (Some x) (zone_row xs q)) (sym (ap (λ (n : ℕ). n == q) (eqb-true x.dir dir e) ∙ f))
     go false e true f ih =
-        ap (λ (t : Bool). cond t (Some x) (zone_row (without_zone xs dir) q)) (ap (λ (n : ℕ). x.dir == n) (sym (eq-yes dir q f)) ∙ e) ∙ ih ∙ ap (λ (t : Bool). cond t None (zone_row xs q)) f
+        ap (λ (t : Bool). cond t (Some x) (zone_row (without_zone xs dir) q)) (ap (λ (n : ℕ). x.dir == n) (sym (eqb-true dir q f)) ∙ e) ∙ ih ∙ ap (λ (t : Bool). cond t None (zone_row xs q)) f
     go false e false f ih = ap (λ (o : Option ZoneRow). cond (x.dir == q) (Some x) o) (ih ∙ ap (λ (t : Bool). cond t None (zone_row xs q)) f)
 
 -- two tables with the same zone at each directory are equal
@@ -140,7 +141,7 @@ same-rows (x ∷ xs) (y ∷ ys) s t h = go (nat_lt x.dir y.dir) refl (nat_lt y.d
 
     tails : x.dir ≡ y.dir → (q : ℕ) (u : Bool) → (x.dir == q) ≡ u → cond u (Some x) (zone_row xs q) ≡ cond u (Some y) (zone_row ys q) → zone_row xs q ≡ zone_row ys q
     tails e q true f k =
-        let g = eq-yes x.dir q f in
+        let g = eqb-true x.dir q f in
         ap (zone_row xs) (sym g) ∙ none-over x.dir xs s.0 ∙ sym (ap (zone_row ys) (sym (sym e ∙ g)) ∙ none-over y.dir ys t.0)
     tails e q false f k = k
 
@@ -168,7 +169,7 @@ row-entries (e ∷ es) dir d =
   where
     go : (t : Bool) → (e.0 == dir) ≡ t → zone_row (by_directory es) dir ≡ row_of dir (lookup (nat_eq dir) es)
         → cond t (Some (record { dir = e.0; key = e.1 })) (zone_row (by_directory es) dir) ≡ row_of dir (cond (nat_eq dir e.0) (Some e.1) (lookup (nat_eq dir) es))
-    go true f ih = ap (λ (n : ℕ). Some (record { dir = n; key = e.1 })) (eq-yes e.0 dir f) ∙ ap (λ (t : Bool). row_of dir (cond t (Some e.1) (lookup (nat_eq dir) es))) (sym (sym (flip e.0 dir) ∙ f))
+    go true f ih = ap (λ (n : ℕ). Some (record { dir = n; key = e.1 })) (eqb-true e.0 dir f) ∙ ap (λ (t : Bool). row_of dir (cond t (Some e.1) (lookup (nat_eq dir) es))) (sym (sym (flip e.0 dir) ∙ f))
     go false f ih = ih ∙ ap (λ (t : Bool). row_of dir (cond t (Some e.1) (lookup (nat_eq dir) es))) (sym (sym (flip e.0 dir) ∙ f))
 
 pub steep-entries : (es : List (ℕ × KeyName)) → IsDistinct nat_eq (keys_of es) → IsSteep (by_directory es)
@@ -187,7 +188,7 @@ module _ {S : Type 0} (m n : HashMap ℕ KeyName S) (d : IsUnique nat_eq m) (e :
       (λ q. row-entries n.entries q e ∙ ap (row_of q) (h q) ∙ go q (nat_eq dir q) refl ∙ sym (row-added (record { dir = dir; key = key }) (by_directory m.entries) q a))
     where
       go : (q : ℕ) (t : Bool) → nat_eq dir q ≡ t → row_of q (cond t (Some key) (get nat_eq m q)) ≡ cond t (Some (record { dir = dir; key = key })) (zone_row (by_directory m.entries) q)
-      go q true f = ap (λ (k : ℕ). Some (record { dir = k; key = key })) (sym (eq-yes dir q f))
+      go q true f = ap (λ (k : ℕ). Some (record { dir = k; key = key })) (sym (eqb-true dir q f))
       go q false f = sym (row-entries m.entries q d)
 
   pub table-without : (dir : ℕ) → ((q : ℕ) → get nat_eq n q ≡ cond (nat_eq dir q) None (get nat_eq m q)) → by_directory n.entries ≡ without_zone (by_directory m.entries) dir

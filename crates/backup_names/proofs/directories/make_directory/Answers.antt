@@ -3,6 +3,9 @@ use Rattle.backup_names.specs.Changes.{Changes, MakesDirectory}
 use Rattle.backup_names.specs.Ends.{change_end}
 use Rattle.backup_names.proofs.MakeLemmas.{directory_ended}
 use Rattle.backup_names.proofs.OrderLemmas.{no_orders, orders_of_logs}
+use Rattle.std.specs.Prelude.{IfErr}
+use Rattle.file_orders.specs.Ends.{IsFailure}
+use Rattle.backup_names.proofs.LookLemmas.{change_fails}
 use Rattle.backup_names.proofs.directories.make_directory.Goals as goal
 
 pub returns-in-Err-clause-orders : goal.returns-in-Err-clause-orders
@@ -16,3 +19,6 @@ returns-clause-makes g c =
 
 pub returns-clause-orders : goal.returns-clause-orders
 returns-clause-orders g c = orders_of_logs _ _ _ _ _ _ c.requires.settled c.act-reply.ensures.disk
+
+pub returns-clause-failure : goal.returns-clause-failure
+returns-clause-failure g c = subst (λ x. IfErr x IsFailure) (sym c.change_end.ensures) (change_fails c.act-reply.result)

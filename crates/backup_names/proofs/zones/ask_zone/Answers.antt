@@ -1,11 +1,16 @@
-use Rattle.std.proofs.Common.{Ok, subst}
+use Rattle.std.proofs.Common.{Ok, subst, sym}
 use Rattle.name_calls.specs.declared.calls.Ask.TheVariants as ask
 use Rattle.name_core.specs.State.{names_of}
 use Rattle.backup_names.specs.Changes.{IsAsked}
 use Rattle.backup_names.proofs.AskedLemmas.{accepts, zone_no_faults}
+use Rattle.file_orders.specs.Ends.{IsFailure}
+use Rattle.file_orders.proofs.EndLemmas.{names_fail}
 use Rattle.backup_names.proofs.zones.ask_zone.Goals as goal
 
 pub returns-in-Ok-ask-clause-asked : goal.returns-in-Ok-ask-clause-asked
 returns-in-Ok-ask-clause-asked c =
     subst (λ p. IsAsked (ask.Zone p c.args.key) c.ask.new.self c.in-Ok-ask.note.id) c.in-Ok.ensures
     (accepts c.args.name.now c.ask.new.self c.args.user.now (ask.Zone c.in-Ok.path c.args.key) (Ok c.in-Ok-ask.note) (zone_no_faults (names_of c.args.name.now) c.args.user.now c.in-Ok.path c.args.key) c.invariants.ensures.names c.in-Ok-ask.ensures.store c.in-Ok-ask.ensures.asks).opened
+
+pub returns-in-Err-ask-clause-failure : goal.returns-in-Err-ask-clause-failure
+returns-in-Err-ask-clause-failure c = subst IsFailure (sym c.end_of_names.ensures) (names_fail c.in-Err-ask.why)

@@ -4,6 +4,9 @@ use Rattle.backup_names.specs.Changes.{Changes, FinishesZone}
 use Rattle.backup_names.specs.Ends.{ShowsRefusal}
 use Rattle.backup_names.proofs.FinishLemmas.{finish_ended, shows_refusal, zone_fault, zone_makes}
 use Rattle.backup_names.proofs.OrderLemmas.{orders_of_logs}
+use Rattle.std.specs.Prelude.{IfErr}
+use Rattle.file_orders.specs.Ends.{IsFailure}
+use Rattle.backup_names.proofs.LookLemmas.{finish_fails}
 use Rattle.backup_names.proofs.zones.finish_zone.Goals as goal
 
 pub returns-clause-makes : goal.returns-clause-makes
@@ -23,3 +26,6 @@ pub returns-clause-fault : goal.returns-clause-fault
 returns-clause-fault g c = λ is.
     zone_fault c.args.reply _
     ((finish_ended c.args.name.now c.finish.new.self c.args.id (answer_of (Some c.args.reply)) (FinishesZone c.args.id c.args.name.now) _ c.requires.settled (zone_makes c.args.name.now c.args.id (answer_of (Some c.args.reply))) c.finish.result c.finish.ensures.logged c.finish.ensures.serves).why (sym c.finish_end.ensures ∙ is))
+
+pub returns-clause-failure : goal.returns-clause-failure
+returns-clause-failure g c = subst (λ x. IfErr x IsFailure) (sym c.finish_end.ensures) (finish_fails c.finish.result)

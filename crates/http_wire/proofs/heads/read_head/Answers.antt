@@ -2,9 +2,10 @@ use Rattle.std.proofs.Common.{◌∷◌, [], ◌++◌, length, length-append, ap
 use Rattle.std.proofs.lemmas.Result.{err_from_is_err_and}
 use Rattle.std.proofs.KnownBytes.{Consumes-trans}
 use Rattle.std.specs.Io.KnownBytes.{Consumes}
+use Rattle.std.proofs.lemmas.Bool.{both_ways}
 use Rattle.http_wire.specs.Reading.{ahead}
 use Rattle.http_wire.specs.Heads.{HasNoEnd, IsHeadText, EndsHead}
-use Rattle.http_wire.proofs.HeadLemmas.{head_ended, no_end_more, is_not}
+use Rattle.http_wire.proofs.HeadLemmas.{head_ended, no_end_more}
 use Rattle.http_wire.proofs.heads.read_head.Goals as goal
 
 pub returns-in_err-push-in-Byte-clause-err : goal.returns-in_err-push-in-Byte-clause-err
@@ -38,7 +39,7 @@ bytes-preserved g c =
     let here = ahead c.bytes.buffer (g.S.Source.left c.bytes.source) in
     let now = ahead c.next.new.self (g.S.Source.left c.next.new.source) in
     let grown = c.in_ok-push-in-Byte.ensures.ok in
-    let going : ¬ EndsHead (c.bytes.head ++ c.in-Byte.byte ∷ []) = λ ends. absurd (is_not c.ends_head.result c.if-ends_head.false (c.ends_head.ensures.1 (subst (λ bytes. EndsHead bytes) (sym (c.as_slice.ensures ∙ grown)) ends))) in
+    let going : ¬ EndsHead (c.bytes.head ++ c.in-Byte.byte ∷ []) = λ ends. absurd (both_ways c.ends_head.result c.if-ends_head.false (c.ends_head.ensures.1 (subst (λ bytes. EndsHead bytes) (sym (c.as_slice.ensures ∙ grown)) ends))) in
     record {
       used = subst (λ head. Consumes start now head) (sym grown) (Consumes-trans start here now c.bytes.head (c.in-Byte.byte ∷ []) c.bytes.invariant.used c.in-Byte.ensures.consumed);
       no_end = subst (λ head. HasNoEnd head) (sym grown) (no_end_more c.bytes.head c.in-Byte.byte c.bytes.invariant.no_end going);

@@ -4,6 +4,7 @@ use Rattle.row_copies.proofs.AddLemmas.{keeps-same}
 use Rattle.row_copies.proofs.EndLemmas.{above-keeps, above-next}
 use Rattle.row_copies.proofs.PathLemmas.{may-add, next-name}
 use Rattle.row_copies.proofs.StepLemmas.{steps-join}
+use Rattle.row_copies.proofs.CauseLemmas.{ends-then, free-above}
 use Rattle.row_copies.proofs.parents.make_parents.Goals as goal
 
 pub loop-k-init : goal.loop-k-init
@@ -38,3 +39,7 @@ loop-k-preserved g c =
       ready = c.in-Ok-make_missing.ensures.ready;
       steps = steps-join g.C.Clusters.follows c.args.clusters.now c.loop-k.clusters c.make_missing.new.clusters c.loop-k.invariant.steps c.make_missing.ensures.steps;
     }
+
+pub returns-in-Err-make_missing-clause-ends : goal.returns-in-Err-make_missing-clause-ends
+returns-in-Err-make_missing-clause-ends g c =
+    ends-then g.C.Clusters.state g.C.Clusters.follows g.C.Clusters.store_fails g.C.Clusters.vault_fails c.args.clusters.now c.loop-k.clusters c.make_missing.new.clusters c.in-Err-make_missing.end c.loop-k.invariant.steps (free-above c.loop-k.k c.args.to.now (g.C.Clusters.state c.args.clusters.now) (g.C.Clusters.state c.loop-k.clusters) c.loop-k.invariant.made) c.in-Err-make_missing.ensures.ends

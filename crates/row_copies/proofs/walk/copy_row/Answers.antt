@@ -5,6 +5,7 @@ use Rattle.row_copies.specs.Clusters.{KeepsRows, MakesDirectory}
 use Rattle.row_copies.specs.Walks.{CopiesRow, MakesCopy, Stops}
 use Rattle.row_copies.proofs.StepLemmas.{if-ok, on-err, one, steps-join}
 use Rattle.row_copies.proofs.WalkLemmas.{kept-stops, row-copied, row-stopped}
+use Rattle.row_copies.proofs.CauseLemmas.{ends-now, ends-plain, free-keeps, then-ends}
 use Rattle.row_copies.proofs.walk.copy_row.Goals as goal
 
 pub returns-in-Err-clause-err : goal.returns-in-Err-clause-err
@@ -21,7 +22,7 @@ returns-in-Ok-join-clause-ok g c =
     let e = g.C.Clusters.state c.make_row.new.clusters in
     if-ok (λ (directory : Bool). MakesCopy c.in-Ok.row c.in-Ok-join.path directory b e) (λ (directory : Bool). CopiesRow c.args.from.now c.args.to.now directory a e) c.make_row.result c.make_row.ensures.ok (λ directory made.
     row-copied c.args.from.now c.args.to.now a c.requires.next c.facts.ensures.source c.facts.ensures.target c.in-Ok.row directory b e c.in-Ok.ensures.row c.look.ensures.keeps
-    (subst (λ (path : List (List ℕ)). MakesCopy c.in-Ok.row path directory b e) c.in-Ok-join.ensures made))
+    (subst (λ (path : List (List ℕ)). MakesCopy c.in-Ok.row path directory b e) c.in-Ok-join.ensures.joined made))
 
 pub returns-in-Ok-join-clause-err : goal.returns-in-Ok-join-clause-err
 returns-in-Ok-join-clause-err g c =
@@ -30,7 +31,7 @@ returns-in-Ok-join-clause-err g c =
     let e = g.C.Clusters.state c.make_row.new.clusters in
     on-err (KeepsRows b e ⊎ ((is_marked c.in-Ok.row ≡ true) × MakesDirectory c.in-Ok-join.path b e)) (Stops c.args.to.now (below a.source.rows c.args.from.now) a e) c.make_row.result c.make_row.ensures.err (λ ended.
     row-stopped c.args.from.now c.args.to.now a c.requires.next c.facts.ensures.source c.facts.ensures.target c.in-Ok.row b e c.in-Ok.ensures.row c.look.ensures.keeps
-    (subst (λ (path : List (List ℕ)). KeepsRows b e ⊎ ((is_marked c.in-Ok.row ≡ true) × MakesDirectory path b e)) c.in-Ok-join.ensures ended))
+    (subst (λ (path : List (List ℕ)). KeepsRows b e ⊎ ((is_marked c.in-Ok.row ≡ true) × MakesDirectory path b e)) c.in-Ok-join.ensures.joined ended))
 
 pub returns-in-Ok-join-clause-steps : goal.returns-in-Ok-join-clause-steps
 returns-in-Ok-join-clause-steps g c =
@@ -42,3 +43,15 @@ returns-in-Err-join-clause-err g c =
 
 pub returns-in-Err-join-clause-steps : goal.returns-in-Err-join-clause-steps
 returns-in-Err-join-clause-steps g c = one g.C.Clusters.follows c.args.clusters.now c.look.new.self c.look.ensures.follows
+
+pub returns-in-Err-clause-ends : goal.returns-in-Err-clause-ends
+returns-in-Err-clause-ends g c =
+    ends-now g.C.Clusters.state g.C.Clusters.follows g.C.Clusters.store_fails g.C.Clusters.vault_fails c.args.clusters.now c.look.new.self c.in-Err.end c.in-Err.ensures.ends
+
+pub returns-in-Ok-join-clause-ends : goal.returns-in-Ok-join-clause-ends
+returns-in-Ok-join-clause-ends g c =
+    then-ends g.C.Clusters.state g.C.Clusters.follows g.C.Clusters.store_fails g.C.Clusters.vault_fails c.args.clusters.now c.look.new.self c.make_row.new.clusters c.make_row.result (one g.C.Clusters.follows c.args.clusters.now c.look.new.self c.look.ensures.follows) (free-keeps (g.C.Clusters.state c.args.clusters.now) (g.C.Clusters.state c.look.new.self) c.look.ensures.keeps) c.make_row.ensures.ends
+
+pub returns-in-Err-join-clause-ends : goal.returns-in-Err-join-clause-ends
+returns-in-Err-join-clause-ends g c =
+    ends-plain _ _ c.in-Err-join.end c.in-Err-join.ensures.ends

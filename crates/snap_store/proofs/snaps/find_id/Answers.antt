@@ -1,21 +1,15 @@
 use Rattle.std.proofs.Common.{◌≡◌, ◌∙◌, ◌<◌, ℕ, List, true, false, get_or, sym, arith, length}
 use Rattle.std.specs.Prelude.{◌==◌}
-use Rattle.std.proofs.lemmas.Bool.Decides.{nat_tests}
 use Rattle.std.proofs.lemmas.List.{get_or_default}
+use Rattle.std.proofs.lemmas.Bool.{ne_eqb, eq-eqb}
 use Rattle.snap_store.proofs.Taken.{id-here, id-missing}
 use Rattle.snap_store.proofs.snaps.find_id.Goals as goal
 
-no : (a b : ℕ) → (a ≡ b → ⊥) → (a == b) ≡ false
-no a b h = grind (arith, nat_tests)
-
-yes : (a b : ℕ) → a ≡ b → (a == b) ≡ true
-yes a b h = grind (arith, nat_tests)
-
 same : (xs : List ℕ) (i id x : ℕ) → i < length xs → x ≡ get_or xs i x → x ≡ id → (get_or xs i 0 == id) ≡ true
-same xs i id x b e f = yes (get_or xs i 0) id (sym (e ∙ get_or_default xs i x 0 b) ∙ f)
+same xs i id x b e f = eq-eqb (get_or xs i 0) id (sym (e ∙ get_or_default xs i x 0 b) ∙ f)
 
 apart : (xs : List ℕ) (i id x : ℕ) → i < length xs → x ≡ get_or xs i x → (x ≡ id → ⊥) → (get_or xs i 0 == id) ≡ false
-apart xs i id x b e f = no (get_or xs i 0) id (λ g. f (e ∙ get_or_default xs i x 0 b ∙ g))
+apart xs i id x b e f = ne_eqb (get_or xs i 0) id (λ g. f (e ∙ get_or_default xs i x 0 b ∙ g))
 
 pub returns-then-at-len-clause-found : goal.returns-then-at-len-clause-found
 returns-then-at-len-clause-found c = sym (id-missing c.args.ids.now.items c.args.id c.place_id-at.result c.requires c.place_id-at.ensures.parted (let e = c.if-at-len.true in omega arith)).0

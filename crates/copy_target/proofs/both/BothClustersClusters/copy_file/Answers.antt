@@ -1,12 +1,13 @@
-use Rattle.std.proofs.Common.{refl}
+use Rattle.std.proofs.Common.{refl, arith}
+use Rattle.std.specs.Prelude.{Err}
 use Rattle.name_calls.specs.declared.calls.Ask.TheVariants as ask
 use Rattle.row_copies.specs.Copies.{Done}
 use Rattle.backup_names.proofs.OrderLemmas.{ask_orders, holds_after, orders_then}
-use Rattle.copy_target.proofs.TargetLemmas.{copied_file, if_done}
+use Rattle.copy_target.proofs.TargetLemmas.{copied_file, if_done, body_fails, order_ends}
 use Rattle.copy_target.proofs.both.BothClustersClusters.copy_file.Goals as goal
 
 pub returns-in-Err-clause-follows : goal.returns-in-Err-clause-follows
-returns-in-Err-clause-follows g c = record { holds = record { source = refl; names = refl; backup = refl; vault = refl; copies = refl }; source = Done; orders = ask_orders (g.E.Disk.state c.args.self.now.backup.now) c.args.self.now.user.now (ask.Create c.args.path.now) c.args.self.now.names.now c.ask_file.new.name c.ask_file.ensures.only }
+returns-in-Err-clause-follows g c = record { holds = record { source = refl; names = refl; backup = refl; vault = refl; copies = refl }; source = Done; orders = ask_orders (g.E.Disk.state c.args.self.now.backup.now) c.args.self.now.user.now (ask.Create c.args.path.now) c.args.self.now.names.now c.ask_file.new.name c.ask_file.ensures.only; vault_later = omega arith; copies_later = omega arith }
 
 pub finish_file-requires-clause-holds : goal.finish_file-requires-clause-holds
 finish_file-requires-clause-holds g c = holds_after _ _ _ _ c.requires.ready.1 (ask_orders (g.E.Disk.state c.args.self.now.backup.now) c.args.self.now.user.now (ask.Create c.args.path.now) c.args.self.now.names.now c.ask_file.new.name c.ask_file.ensures.only)
@@ -26,7 +27,19 @@ returns-in-Ok-copy_body-clause-follows g c = record {
   holds = record { source = refl; names = refl; backup = refl; vault = refl; copies = refl };
   source = Done;
   orders = orders_then _ _ _ _ _ _ (ask_orders (g.E.Disk.state c.args.self.now.backup.now) c.args.self.now.user.now (ask.Create c.args.path.now) c.args.self.now.names.now c.ask_file.new.name c.ask_file.ensures.only) c.finish_file.ensures.orders;
+  vault_later = c.copy_body.ensures.vault_later;
+  copies_later = c.copy_body.ensures.copies_later;
 }
 
 pub returns-in-Err-copy_body-clause-follows : goal.returns-in-Err-copy_body-clause-follows
-returns-in-Err-copy_body-clause-follows g c = record { holds = record { source = refl; names = refl; backup = refl; vault = refl; copies = refl }; source = Done; orders = ask_orders (g.E.Disk.state c.args.self.now.backup.now) c.args.self.now.user.now (ask.Create c.args.path.now) c.args.self.now.names.now c.ask_file.new.name c.ask_file.ensures.only }
+returns-in-Err-copy_body-clause-follows g c = record { holds = record { source = refl; names = refl; backup = refl; vault = refl; copies = refl }; source = Done; orders = ask_orders (g.E.Disk.state c.args.self.now.backup.now) c.args.self.now.user.now (ask.Create c.args.path.now) c.args.self.now.names.now c.ask_file.new.name c.ask_file.ensures.only; vault_later = c.copy_body.ensures.vault_later; copies_later = c.copy_body.ensures.copies_later }
+
+pub returns-in-Err-clause-ends : goal.returns-in-Err-clause-ends
+returns-in-Err-clause-ends g c = order_ends (Err c.in-Err.end) _ _ c.in-Err.ensures.failure (λ is. absurd (c.in-Err.ensures.fault is))
+
+pub returns-in-Ok-copy_body-clause-ends : goal.returns-in-Ok-copy_body-clause-ends
+returns-in-Ok-copy_body-clause-ends g c = order_ends c.finish_file.result _ _ c.finish_file.ensures.failure c.finish_file.ensures.fault
+
+pub returns-in-Err-copy_body-clause-ends : goal.returns-in-Err-copy_body-clause-ends
+returns-in-Err-copy_body-clause-ends g c =
+    body_fails c.args.self.now.user.now c.args.path.now c.args.self.now.names.now c.ask_file.new.name c.in-Ok.id (g.V.Vault.state c.args.self.now.vault.now) (g.V.Vault.state c.copy_body.new.vault) (g.U.Vault.state c.args.self.now.copies.now) (g.U.Vault.state c.copy_body.new.copies) c.ask_file.ensures.only c.in-Ok.ensures.asked c.in-Err-copy_body.ensures.cause

@@ -1,7 +1,10 @@
-use Rattle.std.proofs.Common.{refl}
+use Rattle.std.proofs.Common.{refl, arith}
 use Rattle.backup_names.proofs.OrderLemmas.{no_orders}
-use Rattle.copy_target.proofs.TargetLemmas.{one_step}
+use Rattle.copy_target.proofs.TargetLemmas.{one_step, read_ends}
 use Rattle.copy_target.proofs.both.BothClustersClusters.look.Goals as goal
 
 pub returns-clause-follows : goal.returns-clause-follows
-returns-clause-follows g c = record { holds = record { source = refl; names = refl; backup = refl; vault = refl; copies = refl }; source = one_step g.S.SourceRows.follows _ _ c.look.ensures.follows; orders = no_orders _ _ }
+returns-clause-follows g c = record { holds = record { source = refl; names = refl; backup = refl; vault = refl; copies = refl }; source = one_step g.S.SourceRows.follows _ _ c.look.ensures.follows; orders = no_orders _ _; vault_later = omega arith; copies_later = omega arith }
+
+pub returns-clause-ends : goal.returns-clause-ends
+returns-clause-ends g c = read_ends c.look.result _ _ c.look.ensures.ends

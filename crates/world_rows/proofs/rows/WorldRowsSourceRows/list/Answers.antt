@@ -2,6 +2,7 @@ use Rattle.std.proofs.Common.{refl, subst, sym}
 use Rattle.place_texts.specs.Places.{place_below}
 use Rattle.row_copies.specs.Clusters.{IsTree}
 use Rattle.world_events.specs.Events.{standing_of}
+use Rattle.world_rows.proofs.FaultLemmas.{list_ends}
 use Rattle.world_rows.proofs.ReadLemmas.{directory_found, list_found, list_once, lists_on, rows_same}
 use Rattle.world_rows.proofs.rows.WorldRowsSourceRows.list.Goals as goal
 
@@ -34,3 +35,8 @@ pub returns-clause-follows : goal.returns-clause-follows
 returns-clause-follows g c =
     let w = lists_on g.D.Disk.state g.W.Words.to_come c.args.self.now.events c.list_at.new.events c.args.self.now.user.now (place_below c.args.self.now.place.now c.args.path.now) c.list_at.result c.list_at.ensures.lists in
     record { holds = w.0; place = refl; reads = (list_once g.D.Disk.state g.W.Words.to_come c.args.self.now.events.now (standing_of c.args.self.now.events) (standing_of c.list_at.new.events) c.args.self.now.user.now c.requires.ready.user (place_below c.args.self.now.place.now c.args.path.now) c.list_at.result w.1) }
+
+pub returns-clause-ends : goal.returns-clause-ends
+returns-clause-ends g c =
+    let w = lists_on g.D.Disk.state g.W.Words.to_come c.args.self.now.events c.list_at.new.events c.args.self.now.user.now (place_below c.args.self.now.place.now c.args.path.now) c.list_at.result c.list_at.ensures.lists in
+    list_ends g.D.Disk.state g.W.Words.to_come c.args.self.now.events.now (standing_of c.args.self.now.events) (standing_of c.list_at.new.events) c.requires.ready.events c.args.self.now.user.now (place_below c.args.self.now.place.now c.args.path.now) c.list_at.result w.1
