@@ -60,7 +60,7 @@ props_store (props_fault.TextFault prop.NoMemory) h = cc
 pub reported_store : (how : ReplayEnd) (written now : Option (List ℕ)) (status : ℕ) → Reports how written now status → status ≡ 5 → how ≡ ended.StoreFault
 reported_store how written now status r is = replay_stores how (by_either (replay_status how) 5 status (λ h. cc) (λ h. cc) (reports_either how written now status r) is)
 
-closed_store : (how : FsEnd) (written now : Option (List ℕ)) (status : ℕ) → Closes how written now status → status ≡ 5 → how ≡ end.StoreFault
+pub closed_store : (how : FsEnd) (written now : Option (List ℕ)) (status : ℕ) → Closes how written now status → status ≡ 5 → how ≡ end.StoreFault
 closed_store how written now status c is = end_stores how (by_either (status_of how) 5 status (λ h. cc) (λ h. cc) (closes_either how written now status c) is)
 
 module _ (user path : List ℕ) (from count : ℕ) (old new backup backup' : DiskState) (words words' : ℕ → ℕ) (copies copies' : VaultState) (written now : Option (List ℕ)) (status : ℕ) (is : status ≡ 5) where

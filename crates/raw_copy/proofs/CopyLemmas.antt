@@ -1,18 +1,16 @@
 -- What a copy did to both clusters.
 use Rattle.std.proofs.Common.{◌≡◌, inl, inr, ℕ, ◌+◌, Bool, true, false, cond, List, [], ◌∷◌, ◌++◌, take, drop, Option, Some, None, refl, sym, ap, ◌∙◌, subst, IsTrue, arith}
-use Rattle.std.specs.Prelude.{Result, Ok, Err, IfOk, OnErr, OnOk, count_by}
+use Rattle.std.specs.Prelude.{Result, Ok, Err, IfErr, IfOk, OnErr, OnOk, count_by, ⊤}
 use Rattle.std.specs.Str.{bytes_eq}
 use Rattle.hk_base.specs.Disk.{DiskState, RunOn, Tells}
 use Rattle.hk_base.specs.Faults.{Rose}
 use Rattle.hk_base.specs.declared.texts.Text.{Text}
-use Rattle.hk_events.specs.declared.event.Event.{Event}
-use Rattle.hk_events.specs.declared.event.Line.{Line}
 use Rattle.body_stream.specs.Vaults.{VaultState}
 use Rattle.file_orders.specs.Events.{Leading}
 use Rattle.file_orders.proofs.FollowLemmas.{Follows}
 use Rattle.file_orders.specs.declared.ends.FsEnd.{FsEnd}
 use Rattle.inode_tree.specs.declared.rows.Row.{Row}
-use Rattle.inode_tree.specs.Rows.{is_dir_at, is_marked, row_at}
+use Rattle.inode_tree.specs.Rows.{Entry, is_dir_at, is_marked, row_at}
 use Rattle.name_calls.specs.Paths.{is_relative}
 use Rattle.name_calls.specs.ReadPaths.{read_any_path}
 use Rattle.name_calls.specs.declared.paths.NPath.{NPath}
@@ -20,6 +18,7 @@ use Rattle.name_calls.specs.declared.read_paths.ReadPath.{ReadPath}
 use Rattle.name_core.specs.Calls.{superuser}
 use Rattle.name_core.specs.Service.{Starts}
 use Rattle.name_core.specs.State.{RunningNames}
+use Rattle.name_core.proofs.LoggingLemmas.{rose_since}
 use Rattle.name_store.specs.Table.{NameTable, next_opening}
 use Rattle.place_texts.specs.Places.{is_whole_snapshot, place_below, raw, read_raw_place, whole_directory}
 use Rattle.place_texts.proofs.PlaceLemmas.{raw-ruled}
@@ -28,29 +27,33 @@ use Rattle.kms_acls.specs.Agreement.{AreListsOf}
 use Rattle.kms_acls.specs.Lists.{Lists}
 use Rattle.backup_names.specs.Orders.{OrdersNames}
 use Rattle.backup_names.proofs.OrderLemmas.{no_orders, orders_then}
-use Rattle.copy_target.specs.Targets.{HoldsSame, WorksOn}
+use Rattle.copy_target.specs.Targets.{DiskFails, VaultsFail, WorksOn, state_of}
 use Rattle.copy_target.specs.declared.both.BothClusters.{BothClusters}
-use Rattle.row_copies.specs.Copies.{CopiesAll, Steps, StopsEarly, Done, Then, is_file}
+use Rattle.row_copies.specs.Clusters.{EndsFor}
+use Rattle.row_copies.specs.Copies.{CopiesAll, CopyEnds, FailsLast, Steps, StopsEarly, Done, Then, is_file}
 use Rattle.row_copies.specs.Walks.{is_directory}
 use Rattle.row_copies.specs.declared.walk.Copied.{Copied}
+use Rattle.row_copies.proofs.CauseLemmas.{ends-so}
 use Rattle.world_desk.specs.Worlds.{IsReady}
 use Rattle.world_events.specs.Events.{LeadsAt, standing_of, HoldsSame as HoldsServices}
 use Rattle.world_run.specs.Acknowledged.{also}
 use Rattle.world_run.specs.Drives.{Standing}
 use Rattle.world_events.specs.declared.events.WorldEvents.{WorldEvents}
 use Rattle.world_run.specs.World.{WorldState, world_of}
-use Rattle.world_rows.specs.Rows.{CanRead, IsPlace, OnlyReads, ReadsOn, ReadsOnce, place_rows, table_of}
+use Rattle.world_rows.specs.Rows.{CanRead, IsPlace, ReadsOn, ReadsOnce, place_rows, table_of}
 use Rattle.world_rows.specs.declared.rows.WorldRows.{WorldRows}
+use Rattle.world_rows.proofs.FaultLemmas.{look_ends}
 use Rattle.world_rows.proofs.ReadLemmas.{look_once, looks_on, once_same, quiet, row_found}
 use Rattle.raw_copy.specs.declared.backup.CopyFault.{CopyFault}
-use Rattle.raw_copy.specs.Copies.{AreTexts, CopiesFrom, CopiesOpened, CopiesPlace, CopiesZone, Copying, OnlyRead, ReadsOnceIn, StopsPlace, StopsZone, copied_or, copying, state_at}
+use Rattle.raw_copy.specs.declared.backup.CopyFault.TheVariants.{End}
+use Rattle.raw_copy.specs.Copies.{AreTexts, CopiesFrom, CopiesOpened, CopiesPlace, CopiesZone, Copying, EndsByCause, OnlyRead, ReadsOnceIn, StopsPlace, StopsZone, VaultsFailed, copied_or, copying, state_at}
 
 steps_join : {X : Type 0} (follows : X → X → Type 0) (a b c : X) → Steps follows a b → Steps follows b c → Steps follows a c
 steps_join follows a b c s Done = s
 steps_join follows a b c s (Then m n t f) = Then m n (steps_join follows a b m s t) f
 
-module _ {S E V U : Type 0} (follows : S → S → Type 0) (disk : E → DiskState) where
-  two_works : (a b c : BothClusters S E V U) → WorksOn follows disk a b → WorksOn follows disk b c → WorksOn follows disk a c
+module _ {S E V U : Type 0} (follows : S → S → Type 0) (disk : E → DiskState) (vault : V → VaultState) (copies : U → VaultState) where
+  two_works : (a b c : BothClusters S E V U) → WorksOn follows disk vault copies a b → WorksOn follows disk vault copies b c → WorksOn follows disk vault copies a c
   two_works a b c x y = record {
     holds = record {
       source = y.holds.source ∙ x.holds.source;
@@ -61,12 +64,49 @@ module _ {S E V U : Type 0} (follows : S → S → Type 0) (disk : E → DiskSta
     };
     source = steps_join follows a.source.now b.source.now c.source.now x.source y.source;
     orders = orders_then (disk a.backup.now) (disk b.backup.now) (disk c.backup.now) a.names.now b.names.now c.names.now x.orders y.orders;
+    vault_later = omega (arith, x.vault_later, y.vault_later);
+    copies_later = omega (arith, x.copies_later, y.copies_later);
   }
 
   -- steps that work on two clusters work on them
-  pub worked : (a b : BothClusters S E V U) → Steps (WorksOn follows disk) a b → WorksOn follows disk a b
-  worked a b Done = record { holds = record { source = refl; names = refl; backup = refl; vault = refl; copies = refl }; source = Done; orders = no_orders (disk a.backup.now) a.names.now }
+  pub worked : (a b : BothClusters S E V U) → Steps (WorksOn follows disk vault copies) a b → WorksOn follows disk vault copies a b
+  worked a b Done = record { holds = record { source = refl; names = refl; backup = refl; vault = refl; copies = refl }; source = Done; orders = no_orders (disk a.backup.now) a.names.now; vault_later = omega arith; copies_later = omega arith }
   worked a b (Then m n t f) = two_works a m n (worked a m t) f
+
+  -- why they ended
+
+  module _ (rows : S → List Entry) (a b : BothClusters S E V U) where
+    disk_cause : FailsLast (state_of rows vault copies) (WorksOn follows disk vault copies) (DiskFails disk) a b → Rose (disk a.backup.now).faults (disk b.backup.now).faults
+    disk_cause f =
+        let w = worked a f.mid f.before in
+        let later = w.orders.run.faults in
+        rose_since (disk a.backup.now).faults (disk f.mid.backup.now).faults (disk b.backup.now).faults later f.last
+
+    vault_cause : FailsLast (state_of rows vault copies) (WorksOn follows disk vault copies) (VaultsFail vault copies) a b → VaultsFailed (vault a.vault.now) (vault b.vault.now) (copies a.copies.now) (copies b.copies.now)
+    vault_cause f = go f.last
+      where
+        w : WorksOn follows disk vault copies a f.mid
+        w = worked a f.mid f.before
+
+        go : VaultsFail vault copies f.mid b → VaultsFailed (vault a.vault.now) (vault b.vault.now) (copies a.copies.now) (copies b.copies.now)
+        go (inl rose) = inl (rose_since (vault a.vault.now).faults (vault f.mid.vault.now).faults (vault b.vault.now).faults w.vault_later rose)
+        go (inr (inl rose)) = inr (inl (rose_since (copies a.copies.now).faults (copies f.mid.copies.now).faults (copies b.copies.now).faults w.copies_later rose))
+        go (inr (inr had)) =
+            let kept = f.kept in
+            inr (inr (λ tells tells'.
+            let body = had (subst (λ (t : Bool). IsTrue t) (sym kept.source.bodies.tells) tells) (subst (λ (t : Bool). IsTrue t) (sym kept.tells) tells') in
+            (body.0, λ none. body.2 (kept.bodies tells' body.0 body.1 ∙ none))))
+
+    both_end : (why : FsEnd) → CopyEnds (state_of rows vault copies) (WorksOn follows disk vault copies) (DiskFails disk) (VaultsFail vault copies) a b why
+        → EndsByCause (disk a.backup.now) (disk b.backup.now) (vault a.vault.now) (vault b.vault.now) (copies a.copies.now) (copies b.copies.now) why
+    both_end why e =
+        ends-so (FailsLast (state_of rows vault copies) (WorksOn follows disk vault copies) (DiskFails disk) a b) (FailsLast (state_of rows vault copies) (WorksOn follows disk vault copies) (VaultsFail vault copies) a b)
+        (Rose (disk a.backup.now).faults (disk b.backup.now).faults) (VaultsFailed (vault a.vault.now) (vault b.vault.now) (copies a.copies.now) (copies b.copies.now)) why disk_cause vault_cause e
+
+    pub both_ends : (result : Result Copied FsEnd) → IfErr result (CopyEnds (state_of rows vault copies) (WorksOn follows disk vault copies) (DiskFails disk) (VaultsFail vault copies) a b)
+        → IfErr result (EndsByCause (disk a.backup.now) (disk b.backup.now) (vault a.vault.now) (vault b.vault.now) (copies a.copies.now) (copies b.copies.now))
+    both_ends (Ok counts) e = e
+    both_ends (Err why) e = both_end why e
 
 none_before : (k : ℕ) → 0 + k ≡ k
 none_before k = omega arith
@@ -158,6 +198,11 @@ module _ {D W : Type 0} (state : D → DiskState) (to_come : W → ℕ → ℕ) 
       let w = looks_on state to_come a b user (place_below place root) result looks in
       (w.0, read_once state to_come a.now (standing_of a) (standing_of b) ready (look_once state to_come a.now (standing_of a) (standing_of b) user is_user (place_below place root) result w.1))
 
+  pub looked_ends : IfErr result (EndsFor ⊥ ⊥)
+  looked_ends =
+      let w = looks_on state to_come a b user (place_below place root) result looks in
+      look_ends state to_come a.now (standing_of a) (standing_of b) ready user (place_below place root) result w.1
+
   pub root_found : IsPlace place → root ≡ [] → (row : Row) → result ≡ Ok row → row_at (place_rows (table_of a.world.now) place) [] ≡ Some row
   root_found is_place e row is =
       let w = looks_on state to_come a b user (place_below place root) result looks in
@@ -243,6 +288,17 @@ from_ended from to ended result is t t' vault vault' copies copies' disk disk' n
       copied = copied_over from to (copying t vault names copies) (copying t' vault' left copies') ended all;
       stopped = stopped_over from to (copying t vault names copies) (copying t' vault' left copies') ended part;
     })
+
+-- the fault of a copy is its end
+pub over_ends : (cause : FsEnd → Type 0) (ended : Result Copied FsEnd) (result : Result Copied CopyFault) (why : FsEnd) → result ≡ copied_or ended → IfErr ended cause → result ≡ Err (End why) → cause why
+over_ends cause (Ok counts) result why is e fault = let bad = sym is ∙ fault in absurd cc
+over_ends cause (Err own) result why is e fault =
+    let both = sym is ∙ fault in
+    let same : own ≡ why = cc in
+    subst cause same e
+
+pub own_ends : (store vault : Type 0) (why : FsEnd) → EndsFor store vault why → EndsFor ⊤ ⊤ why
+own_ends store vault why e = ends-so store vault ⊤ ⊤ why (λ h. tt) (λ h. tt) e
 
 pub opened_copies : (batch : ℕ) (from to : List ℕ) (result : Result Copied CopyFault) (t t' : NameTable) (vault vault' copies copies' : VaultState) (disk mid disk' : DiskState) (names : RunningNames)
     → Starts batch disk mid names → RunOn 1 disk mid → CopiesFrom from to result t t' vault vault' copies copies' mid disk' names → CopiesOpened batch from to result t t' vault vault' copies copies' disk disk'

@@ -1,9 +1,11 @@
 -- A place of one world that is copied into the namesystem of another cluster.
 use Rattle.std.specs.Prelude.{◌≡◌, ◌⊎◌, ◌≤◌, ℕ, List, [], ◌∷◌, ◌++◌, Some, true, count_by, Result, Ok, Err, IfOk, IsErrOf, OnErr}
 use Rattle.hk_base.specs.Disk.{DiskState, Tells}
+use Rattle.hk_base.specs.Faults.{Rose}
 use Rattle.frame_log.specs.declared.fault.StartFault.{StartFault}
 use Rattle.backup_names.specs.Orders.{OrdersNames}
-use Rattle.body_stream.specs.Vaults.{VaultState}
+use Rattle.body_stream.specs.Vaults.{TellsBodies, VaultState}
+use Rattle.file_orders.specs.Bodies.{HadBody}
 use Rattle.file_orders.specs.Events.{Leading}
 use Rattle.file_orders.specs.declared.ends.FsEnd.{FsEnd}
 use Rattle.hk_events.specs.declared.event.Event.{Event}
@@ -18,7 +20,7 @@ use Rattle.name_core.specs.State.{IsNamesystemOf, RunningNames, service_of, star
 use Rattle.name_store.specs.Store.{IsNameLog, OpensNames}
 use Rattle.name_store.specs.Table.{NameTable, next_opening}
 use Rattle.place_texts.specs.Places.{read_raw_place}
-use Rattle.row_copies.specs.Clusters.{CopyState, IsTree}
+use Rattle.row_copies.specs.Clusters.{CopyState, EndsFor, IsTree}
 use Rattle.row_copies.specs.Copies.{CopiesAll, Steps, StopsEarly, is_file}
 use Rattle.row_copies.specs.Walks.{is_directory}
 use Rattle.row_copies.specs.declared.walk.Copied.{Copied}
@@ -47,6 +49,16 @@ pub record OnlyRead {D W : Type 0} (state : D → DiskState) (to_come : W → �
 -- somewhere else, an event happened that only reads, or none
 abbrev pub ReadsOnceIn : {Y : Type 0} → Leading Y → Y → Y → Type 0
 ReadsOnceIn others y z = (z ≡ y) ⊎ ((e : Event) × (answer : Line) × OnlyReads e × others y e answer z)
+
+-- ---- why a copy failed
+
+-- one of the vaults failed, or the second had a body already for a file of the copy
+abbrev pub VaultsFailed : (vault vault' copies copies' : VaultState) → Type 0
+VaultsFailed vault vault' copies copies' = Rose vault.faults vault'.faults ⊎ (Rose copies.faults copies'.faults ⊎ (TellsBodies vault → TellsBodies copies → HadBody copies))
+
+-- Why a copy ends so. It was refused, or there was no memory; or the disk that gets the copy failed, or the vaults did. No other end comes.
+abbrev pub EndsByCause : (disk disk' : DiskState) → (vault vault' copies copies' : VaultState) → FsEnd → Type 0
+EndsByCause disk disk' vault vault' copies copies' why = EndsFor (Rose disk.faults disk'.faults) (VaultsFailed vault vault' copies copies') why
 
 -- ---- a zone by its texts
 

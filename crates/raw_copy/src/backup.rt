@@ -1,9 +1,11 @@
 //! Copying a zone over the disk of the other cluster.
-ghost use Rattle.std.specs.Prelude.{◌≤◌, ◌≡◌};
+ghost use Rattle.std.specs.Prelude.{◌≤◌, ◌≡◌, Err, ⊤};
+ghost use Rattle.hk_base.specs.Faults.{Rose};
 ghost use Rattle.backup_names.specs.Orders.{HoldsNames, IsSettled};
+ghost use Rattle.row_copies.specs.Clusters.{EndsFor};
 ghost use Rattle.world_desk.specs.Worlds.{IsReady, standing};
 ghost use Rattle.world_rows.specs.Rows.{table_of};
-ghost use Rattle.raw_copy.specs.Copies.{CopiesFrom, CopiesOver, OnlyRead, PlacesAreTrees, copied_or};
+ghost use Rattle.raw_copy.specs.Copies.{CopiesFrom, CopiesOver, EndsByCause, OnlyRead, PlacesAreTrees, VaultsFailed, copied_or};
 
 use crate::zone::copy_zone;
 use body_stream::Vault;
@@ -55,6 +57,9 @@ fn copy_from<D: Disk, E: Disk, V: Vault, U: Vault, W: Words>(
     ensures copies { CopiesFrom from.now to.now result (table_of world.old) (table_of world.new)
         (V.state vault.old) (V.state vault.new) (U.state copies.old) (U.state copies.new)
         (E.state backup.old) (E.state backup.new) name }
+    ensures ends { (why : _) → result ≡ Err (CopyFault.End why) →
+        EndsByCause (E.state backup.old) (E.state backup.new) (V.state vault.old)
+        (V.state vault.new) (U.state copies.old) (U.state copies.new) why }
     ensures read { OnlyRead D.state W.to_come now
         (standing disk.old world.old rand.old) (standing disk.new world.new rand.new) }
 {
@@ -68,6 +73,7 @@ fn copy_from<D: Disk, E: Disk, V: Vault, U: Vault, W: Words>(
 
 /// Opens the edit log of another cluster on file 1 of its disk, and copies an encryption zone of a world
 /// into its namesystem, as `copy_zone` does. `batch` is the size of batches with which that is opened.
+/// The rows of each place of the world must be a tree (`trees`).
 pub fn copy_over<D: Disk, E: Disk, V: Vault, U: Vault, W: Words>(
     alloc: Global,
     from: &Text,
@@ -88,6 +94,12 @@ pub fn copy_over<D: Disk, E: Disk, V: Vault, U: Vault, W: Words>(
     ensures copies { CopiesOver batch from.now to.now result (table_of world.old)
         (table_of world.new) (V.state vault.old) (V.state vault.new) (U.state copies.old)
         (U.state copies.new) (E.state backup.old) (E.state backup.new) }
+    ensures store { result ≡ Err (CopyFault.End FsEnd.StoreFault) →
+        Rose (E.state backup.old).faults (E.state backup.new).faults }
+    ensures vault { result ≡ Err (CopyFault.End FsEnd.VaultFault) →
+        VaultsFailed (V.state vault.old) (V.state vault.new)
+        (U.state copies.old) (U.state copies.new) }
+    ensures own { (why : _) → result ≡ Err (CopyFault.End why) → EndsFor ⊤ ⊤ why }
     ensures read { OnlyRead D.state W.to_come now
         (standing disk.old world.old rand.old) (standing disk.new world.new rand.new) }
 {

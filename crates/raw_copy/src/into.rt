@@ -1,11 +1,11 @@
 //! Copying rows that are read into a namesystem over its disk.
-ghost use Rattle.std.specs.Prelude.{◌≡◌, Some, [], true, count_by, IfOk, OnErr, OnOk};
+ghost use Rattle.std.specs.Prelude.{◌≡◌, Some, [], true, count_by, IfErr, IfOk, OnErr, OnOk};
 ghost use Rattle.backup_names.specs.Orders.{HoldsNames, IsSettled, OrdersNames};
 ghost use Rattle.copy_target.specs.Targets.{CanCopy, WorksOn, state_of};
 ghost use Rattle.inode_tree.specs.Rows.{is_marked, row_at};
 ghost use Rattle.row_copies.specs.Copies.{CopiesAll, Steps, StopsEarly, is_file};
 ghost use Rattle.row_copies.specs.Walks.{is_directory};
-ghost use Rattle.raw_copy.specs.Copies.{copy_state};
+ghost use Rattle.raw_copy.specs.Copies.{EndsByCause, copy_state};
 
 use body_stream::Vault;
 use copy_target::BothClusters;
@@ -35,7 +35,11 @@ fn copy_both<'a, S: SourceRows, E: Disk, V: Vault, U: Vault>(
         (is_marked row ≡ true)) }
     ensures part { OnErr result (StopsEarly to.now
         (state_of S.rows V.state U.state both.old) (state_of S.rows V.state U.state both.new)) }
-    ensures works { WorksOn S.follows E.state both.old both.new }
+    ensures ends { IfErr result (EndsByCause
+        (E.state both.old.backup.now) (E.state both.new.backup.now)
+        (V.state both.old.vault.now) (V.state both.new.vault.now)
+        (U.state both.old.copies.now) (U.state both.new.copies.now)) }
+    ensures works { WorksOn S.follows E.state V.state U.state both.old both.new }
     ensures ready { OnOk result (CanCopy S.ready E.state both.new) }
     ensures source { both.new.source.ghost_name ≡ both.old.source.ghost_name }
     ensures names { both.new.names.ghost_name ≡ both.old.names.ghost_name }
@@ -76,6 +80,8 @@ pub fn copy_into<S: SourceRows, E: Disk, V: Vault, U: Vault>(
     ensures part { OnErr result (StopsEarly to.now
         (copy_state (S.rows source.old) (V.state vault.old) names.old (U.state copies.old))
         (copy_state (S.rows source.new) (V.state vault.new) names.new (U.state copies.new))) }
+    ensures ends { IfErr result (EndsByCause (E.state backup.old) (E.state backup.new)
+        (V.state vault.old) (V.state vault.new) (U.state copies.old) (U.state copies.new)) }
     ensures source { Steps S.follows source.old source.new }
     ensures orders { OrdersNames (E.state backup.old) (E.state backup.new) names.old names.new }
     ensures settled { OnOk result (IsSettled names.new) }

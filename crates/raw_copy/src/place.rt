@@ -1,5 +1,5 @@
 //! Copying a place of a world.
-ghost use Rattle.std.specs.Prelude.{◌≡◌, Some, [], true, count_by, IfOk, OnErr, OnOk};
+ghost use Rattle.std.specs.Prelude.{◌≡◌, Some, [], true, count_by, IfErr, IfOk, OnErr, OnOk};
 ghost use Rattle.backup_names.specs.Orders.{HoldsNames, IsSettled, OrdersNames};
 ghost use Rattle.inode_tree.specs.Rows.{is_marked, row_at};
 ghost use Rattle.name_core.specs.Calls.{superuser};
@@ -9,7 +9,7 @@ ghost use Rattle.row_copies.specs.Walks.{is_directory};
 ghost use Rattle.world_desk.specs.Worlds.{IsReady, standing};
 ghost use Rattle.world_events.specs.Events.{standing_of};
 ghost use Rattle.world_rows.specs.Rows.{CanRead, IsPlace, place_rows, rows_seen, table_of};
-ghost use Rattle.raw_copy.specs.Copies.{OnlyRead, copy_state};
+ghost use Rattle.raw_copy.specs.Copies.{EndsByCause, OnlyRead, copy_state};
 
 use crate::into::copy_into;
 use body_stream::Vault;
@@ -49,6 +49,8 @@ fn copy_seen<'a, D: Disk, W: Words, E: Disk, V: Vault, U: Vault>(
     ensures part { OnErr result (StopsEarly to.now
         (copy_state (rows_seen source.old) (V.state vault.old) names.old (U.state copies.old))
         (copy_state (rows_seen source.new) (V.state vault.new) names.new (U.state copies.new))) }
+    ensures ends { IfErr result (EndsByCause (E.state backup.old) (E.state backup.new)
+        (V.state vault.old) (V.state vault.new) (U.state copies.old) (U.state copies.new)) }
     ensures read { OnlyRead D.state W.to_come source.old.events.now
         (standing_of source.old.events) (standing_of source.new.events) }
     ensures place { source.new.place.now ≡ source.old.place.now }
@@ -104,6 +106,8 @@ pub fn copy_place<D: Disk, E: Disk, V: Vault, U: Vault, W: Words>(
         (U.state copies.old))
         (copy_state (place_rows (table_of world.new) place.now) (V.state vault.new) names.new
         (U.state copies.new))) }
+    ensures ends { IfErr result (EndsByCause (E.state backup.old) (E.state backup.new)
+        (V.state vault.old) (V.state vault.new) (U.state copies.old) (U.state copies.new)) }
     ensures read { OnlyRead D.state W.to_come now
         (standing disk.old world.old rand.old) (standing disk.new world.new rand.new) }
     ensures orders { OrdersNames (E.state backup.old) (E.state backup.new) names.old names.new }

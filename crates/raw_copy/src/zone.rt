@@ -1,14 +1,15 @@
 //! Copying a zone by the texts of its place and of a path.
-ghost use Rattle.std.specs.Prelude.{◌≡◌, Some, [], true, IfOk, OnErr, OnOk};
+ghost use Rattle.std.specs.Prelude.{◌≡◌, Some, [], true, IfErr, IfOk, OnErr, OnOk};
 ghost use Rattle.backup_names.specs.Orders.{HoldsNames, IsSettled, OrdersNames};
 ghost use Rattle.inode_tree.specs.Rows.{is_dir_at, row_at};
 ghost use Rattle.name_calls.specs.Paths.{read_path};
 ghost use Rattle.name_core.specs.Calls.{superuser};
 ghost use Rattle.place_texts.specs.Places.{read_raw_place};
+ghost use Rattle.row_copies.specs.Clusters.{EndsFor};
 ghost use Rattle.world_desk.specs.Worlds.{IsReady, standing};
 ghost use Rattle.world_events.specs.Events.{standing_of};
 ghost use Rattle.world_rows.specs.Rows.{IsPlace, place_rows, table_of};
-ghost use Rattle.raw_copy.specs.Copies.{AreTexts, CopiesPlace, CopiesZone, OnlyRead, PlacesAreTrees, StopsPlace, StopsZone, copying};
+ghost use Rattle.raw_copy.specs.Copies.{AreTexts, CopiesPlace, CopiesZone, EndsByCause, OnlyRead, PlacesAreTrees, StopsPlace, StopsZone, copying};
 
 use crate::place::copy_place;
 use body_stream::Vault;
@@ -25,7 +26,9 @@ use world_events::WorldEvents;
 use world_run::World;
 
 /// Returns how a command ends at a path that could not be read.
-fn end_of_path(fault: PathFault) -> FsEnd {
+fn end_of_path(fault: PathFault) -> FsEnd
+    ensures { EndsFor ⊥ ⊥ result }
+{
     match fault {
         PathFault::BadPath => FsEnd::NameRefused(NameRefusal::BadPath),
         PathFault::NoMemory => FsEnd::NoMemory,
@@ -34,7 +37,8 @@ fn end_of_path(fault: PathFault) -> FsEnd {
 
 /// Reads the place to copy.
 fn read_from(alloc: Global, from: &Text) -> Result<ReadPath, FsEnd>
-    ensures { IfOk result (λ place. read_raw_place from.now ≡ Some place) }
+    ensures place { IfOk result (λ place. read_raw_place from.now ≡ Some place) }
+    ensures ends { IfErr result (EndsFor ⊥ ⊥) }
 {
     match read_raw_place(alloc, from.as_str().as_bytes()) {
         Ok(place) => Ok(place),
@@ -44,7 +48,8 @@ fn read_from(alloc: Global, from: &Text) -> Result<ReadPath, FsEnd>
 
 /// Reads the path of the copy.
 fn read_to(alloc: Global, to: &Text) -> Result<NPath, FsEnd>
-    ensures { IfOk result (λ path. read_path to.now ≡ Some path) }
+    ensures path { IfOk result (λ path. read_path to.now ≡ Some path) }
+    ensures ends { IfErr result (EndsFor ⊥ ⊥) }
 {
     match NPath::read(alloc, to.as_str().as_bytes()) {
         Ok(path) => Ok(path),
@@ -54,7 +59,8 @@ fn read_to(alloc: Global, to: &Text) -> Result<NPath, FsEnd>
 
 /// Reads both.
 fn read_texts(alloc: Global, from: &Text, to: &Text) -> Result<(ReadPath, NPath), FsEnd>
-    ensures { IfOk result (λ read. AreTexts from.now to.now read.0 read.1) }
+    ensures texts { IfOk result (λ read. AreTexts from.now to.now read.0 read.1) }
+    ensures ends { IfErr result (EndsFor ⊥ ⊥) }
 {
     let place = match read_from(alloc, from) {
         Ok(place) => place,
@@ -71,7 +77,8 @@ fn read_texts(alloc: Global, from: &Text, to: &Text) -> Result<(ReadPath, NPath)
 
 /// Returns `NotAZoneRoot` unless the row is that of a directory with a key.
 fn zone_only(row: Row) -> Result<(), FsEnd>
-    ensures { OnOk result (is_dir_at (Some row) ≡ true) }
+    ensures directory { OnOk result (is_dir_at (Some row) ≡ true) }
+    ensures ends { IfErr result (EndsFor ⊥ ⊥) }
 {
     match row.kind {
         Kind::Dir { key: Some(_) } => Ok(()),
@@ -91,6 +98,7 @@ fn check_seen<'a, D: Disk, W: Words>(
     requires place { IsPlace place.now }
     ensures directory { OnOk result
         (is_dir_at (row_at (place_rows (table_of events.old.world.now) place.now) []) ≡ true) }
+    ensures ends { IfErr result (EndsFor ⊥ ⊥) }
     ensures read { OnlyRead D.state W.to_come events.old.now
         (standing_of events.old) (standing_of events.new) }
     ensures world { events.new.world.ghost_name ≡ events.old.world.ghost_name }
@@ -119,6 +127,7 @@ fn check_zone<D: Disk, W: Words>(
     requires place { IsPlace place.now }
     ensures directory { OnOk result
         (is_dir_at (row_at (place_rows (table_of world.old) place.now) []) ≡ true) }
+    ensures ends { IfErr result (EndsFor ⊥ ⊥) }
     ensures read { OnlyRead D.state W.to_come now
         (standing disk.old world.old rand.old) (standing disk.new world.new rand.new) }
 {
@@ -153,6 +162,8 @@ fn copy_named<D: Disk, E: Disk, V: Vault, U: Vault, W: Words>(
     ensures part { OnErr result (StopsPlace place.now path.now
         (copying (table_of world.old) (V.state vault.old) names.old (U.state copies.old))
         (copying (table_of world.new) (V.state vault.new) names.new (U.state copies.new))) }
+    ensures ends { IfErr result (EndsByCause (E.state backup.old) (E.state backup.new)
+        (V.state vault.old) (V.state vault.new) (U.state copies.old) (U.state copies.new)) }
     ensures read { OnlyRead D.state W.to_come now
         (standing disk.old world.old rand.old) (standing disk.new world.new rand.new) }
     ensures orders { OrdersNames (E.state backup.old) (E.state backup.new) names.old names.new }
@@ -170,6 +181,8 @@ fn copy_named<D: Disk, E: Disk, V: Vault, U: Vault, W: Words>(
 /// `/.reserved/raw` and the path of the zone, or of a snapshot of it. `to` is the path of the copy, where
 /// nothing may be. The copy has the marks and the encrypted keys of the zone, and the stored bytes of its
 /// files. The world is only read, as the superuser, and no data encryption key is decrypted.
+///
+/// The rows of each place of the world must be a tree (`trees`).
 ///
 /// Returns `BadPath` if one of the texts is no such path, and `NotAZoneRoot` if the directory has no key.
 /// The first call that is refused or fails ends the copy. What was copied until then stays, each file
@@ -197,6 +210,8 @@ pub fn copy_zone<D: Disk, E: Disk, V: Vault, U: Vault, W: Words>(
     ensures part { OnErr result (StopsZone from.now to.now
         (copying (table_of world.old) (V.state vault.old) names.old (U.state copies.old))
         (copying (table_of world.new) (V.state vault.new) names.new (U.state copies.new))) }
+    ensures ends { IfErr result (EndsByCause (E.state backup.old) (E.state backup.new)
+        (V.state vault.old) (V.state vault.new) (U.state copies.old) (U.state copies.new)) }
     ensures read { OnlyRead D.state W.to_come now
         (standing disk.old world.old rand.old) (standing disk.new world.new rand.new) }
     ensures orders { OrdersNames (E.state backup.old) (E.state backup.new) names.old names.new }

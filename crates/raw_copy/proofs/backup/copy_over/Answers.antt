@@ -1,10 +1,12 @@
-use Rattle.std.proofs.Common.{inl, inr, refl, subst, sym, IsTrue, Bool}
+use Rattle.std.proofs.Common.{inl, inr, refl, subst, IsTrue, Bool}
 use Rattle.std.specs.Prelude.{Result, IsErrOf}
 use Rattle.frame_log.specs.declared.fault.StartFault.{StartFault}
 use Rattle.name_core.specs.State.{RunningNames}
 use Rattle.name_store.specs.Store.{OpensNames}
+use Rattle.file_orders.specs.declared.ends.FsEnd.TheVariants as end
+use Rattle.name_core.proofs.LoggingLemmas.{rose_since}
 use Rattle.backup_names.proofs.OrderLemmas.{started_holds}
-use Rattle.raw_copy.proofs.CopyLemmas.{opened_copies, read_nothing}
+use Rattle.raw_copy.proofs.CopyLemmas.{opened_copies, own_ends, read_nothing}
 use Rattle.raw_copy.proofs.backup.copy_over.Goals as goal
 
 pub copy_from-requires-clause-holds : goal.copy_from-requires-clause-holds
@@ -29,3 +31,22 @@ returns-in-Err-clause-copies g c = inl (record {
 
 pub returns-in-Err-clause-read : goal.returns-in-Err-clause-read
 returns-in-Err-clause-read g c = read_nothing g.D.Disk.state g.W.Words.to_come c.args.now (record { disk = c.args.disk.now; world = c.args.world.now; words = c.args.rand.now }) c.requires.ready
+
+pub returns-in-Ok-clause-store : goal.returns-in-Ok-clause-store
+returns-in-Ok-clause-store g c fault =
+    rose_since (g.E.Disk.state c.args.backup.now).faults (g.E.Disk.state c.start.new.disk).faults (g.E.Disk.state c.copy_from.new.backup).faults c.start.ensures.opens.run.faults (c.copy_from.ensures.ends end.StoreFault fault)
+
+pub returns-in-Ok-clause-vault : goal.returns-in-Ok-clause-vault
+returns-in-Ok-clause-vault g c fault = c.copy_from.ensures.ends end.VaultFault fault
+
+pub returns-in-Ok-clause-own : goal.returns-in-Ok-clause-own
+returns-in-Ok-clause-own g c why fault = own_ends _ _ why (c.copy_from.ensures.ends why fault)
+
+pub returns-in-Err-clause-store : goal.returns-in-Err-clause-store
+returns-in-Err-clause-store g c fault = absurd cc
+
+pub returns-in-Err-clause-vault : goal.returns-in-Err-clause-vault
+returns-in-Err-clause-vault g c fault = absurd cc
+
+pub returns-in-Err-clause-own : goal.returns-in-Err-clause-own
+returns-in-Err-clause-own g c why fault = absurd cc

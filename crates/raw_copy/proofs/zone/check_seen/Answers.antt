@@ -1,8 +1,13 @@
-use Rattle.raw_copy.proofs.CopyLemmas.{directory_if, look_reads, root_found}
+use Rattle.std.proofs.Common.{subst}
+use Rattle.std.specs.Prelude.{Result, IfErr}
+use Rattle.file_orders.specs.declared.ends.FsEnd.{FsEnd}
+use Rattle.inode_tree.specs.declared.rows.Row.{Row}
+use Rattle.row_copies.specs.Clusters.{EndsFor}
+use Rattle.raw_copy.proofs.CopyLemmas.{directory_if, look_reads, looked_ends, root_found}
 use Rattle.raw_copy.proofs.zone.check_seen.Goals as goal
 
 pub returns-in-Ok-clause-directory : goal.returns-in-Ok-clause-directory
-returns-in-Ok-clause-directory g c = directory_if c.zone_only.result _ c.in-Ok.row (root_found g.D.Disk.state g.W.Words.to_come c.args.events.now c.look_at.new.events c.requires.ready c.args.user.now c.requires.user c.args.place.now c.root-root.result c.look_at.result c.look_at.ensures.looks c.requires.place c.root-root.ensures c.in-Ok.row c.in-Ok.is) c.zone_only.ensures
+returns-in-Ok-clause-directory g c = directory_if c.zone_only.result _ c.in-Ok.row (root_found g.D.Disk.state g.W.Words.to_come c.args.events.now c.look_at.new.events c.requires.ready c.args.user.now c.requires.user c.args.place.now c.root-root.result c.look_at.result c.look_at.ensures.looks c.requires.place c.root-root.ensures c.in-Ok.row c.in-Ok.is) c.zone_only.ensures.directory
 
 pub returns-in-Ok-clause-read : goal.returns-in-Ok-clause-read
 returns-in-Ok-clause-read g c = let w = look_reads g.D.Disk.state g.W.Words.to_come c.args.events.now c.look_at.new.events c.requires.ready c.args.user.now c.requires.user c.args.place.now c.root-root.result c.look_at.result c.look_at.ensures.looks in w.1
@@ -27,3 +32,6 @@ returns-clause-disk g c = let w = look_reads g.D.Disk.state g.W.Words.to_come c.
 
 pub returns-clause-words : goal.returns-clause-words
 returns-clause-words g c = let w = look_reads g.D.Disk.state g.W.Words.to_come c.args.events.now c.look_at.new.events c.requires.ready c.args.user.now c.requires.user c.args.place.now c.root-root.result c.look_at.result c.look_at.ensures.looks in w.0.1.1.0
+
+pub returns-clause-ends : goal.returns-clause-ends
+returns-clause-ends g c = subst (λ (r : Result Row FsEnd). IfErr r (EndsFor ⊥ ⊥)) c.in-Err.is (looked_ends g.D.Disk.state g.W.Words.to_come c.args.events.now c.look_at.new.events c.requires.ready c.args.user.now c.requires.user c.args.place.now c.root-root.result c.look_at.result c.look_at.ensures.looks)

@@ -1,6 +1,7 @@
 use Rattle.std.proofs.Common.{inr, refl, subst, sym}
 use Rattle.backup_names.proofs.OrderLemmas.{no_orders}
 use Rattle.row_copies.specs.Clusters.{IsTree}
+use Rattle.row_copies.proofs.CauseLemmas.{ends-plain}
 use Rattle.name_store.specs.Table.{NameTable}
 use Rattle.world_rows.specs.Rows.{place_rows, table_of}
 use Rattle.raw_copy.specs.Copies.{copying}
@@ -30,3 +31,6 @@ returns-in-Err-clause-part g c = inr (record { vault = refl; names = refl; copie
 
 pub returns-in-Err-clause-orders : goal.returns-in-Err-clause-orders
 returns-in-Err-clause-orders g c = no_orders (g.E.Disk.state c.args.backup.now) c.args.names.now
+
+pub returns-in-Err-clause-ends : goal.returns-in-Err-clause-ends
+returns-in-Err-clause-ends g c = ends-plain _ _ c.in-Err.end c.in-Err.ensures.ends

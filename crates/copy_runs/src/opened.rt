@@ -1,0 +1,44 @@
+//! Copying a zone of a world that was opened.
+ghost use Rattle.std.specs.Prelude.{◌≤◌};
+ghost use Rattle.world_desk.specs.Worlds.{IsReady, standing};
+ghost use Rattle.world_rows.specs.Rows.{table_of};
+ghost use Rattle.raw_copy.specs.Copies.{CopiesOver, OnlyRead};
+
+use body_stream::Vault;
+use hk_base::{Disk, Text, Words};
+use place_trees::recall_trees;
+use raw_copy::{CopyFault, copy_over};
+use row_copies::Copied;
+use std::alloc::Global;
+use world_run::World;
+
+/// Opens the edit log of another cluster on file 1 of its disk, and copies an encryption zone of a world
+/// into its namesystem, as `copy_over` does. The rows of each place of the world are a tree, so nothing is
+/// required of them.
+pub fn copy_opened_over<D: Disk, E: Disk, V: Vault, U: Vault, W: Words>(
+    alloc: Global,
+    from: &Text,
+    to: &Text,
+    batch: u16,
+    world: &mut World,
+    disk: &mut D,
+    rand: &mut W,
+    now: u64,
+    backup: &mut E,
+    vault: &mut V,
+    copies: &mut U,
+) -> Result<Copied, CopyFault>
+    requires some { 1 ≤ batch }
+    requires most { batch ≤ 1000 }
+    requires ready { IsReady D.state (standing disk.old world.old rand.old) }
+    ensures copies { CopiesOver batch from.now to.now result (table_of world.old)
+        (table_of world.new) (V.state vault.old) (V.state vault.new) (U.state copies.old)
+        (U.state copies.new) (E.state backup.old) (E.state backup.new) }
+    ensures read { OnlyRead D.state W.to_come now
+        (standing disk.old world.old rand.old) (standing disk.new world.new rand.new) }
+{
+    recall_trees(world);
+    copy_over(
+        alloc, from, to, batch, world, disk, rand, now, backup, vault, copies,
+    )
+}
