@@ -1,10 +1,11 @@
 -- A zone that is copied over two disks is copied in a history of events that only read.
 use Rattle.std.proofs.Common.{◌≡◌, ◌≢◌, ◌⊎◌, inl, inr, ℕ, ◌+◌, List, [], ◌∷◌, refl, ap, sym, ◌∙◌, subst, arith}
-use Rattle.std.specs.Prelude.{Option, Result}
+use Rattle.std.specs.Prelude.{Option, Result, Err, ⊤}
 use Rattle.std.specs.List.{AllByRecursion}
 use Rattle.hk_base.specs.Disk.{DiskState, Tells}
 use Rattle.hk_base.specs.Faults.{Rose}
 use Rattle.body_stream.specs.Vaults.{VaultState}
+use Rattle.file_orders.specs.declared.ends.FsEnd.{FsEnd}
 use Rattle.name_store.specs.Table.{NameTable}
 use Rattle.prop_text.specs.declared.lines.PropLine.{PropLine}
 use Rattle.prop_text.specs.declared.props.Props.{Props}
@@ -18,9 +19,11 @@ use Rattle.world_run.specs.Linked.{StartsSound}
 use Rattle.world_run.specs.World.{WorldState}
 use Rattle.world_rows.specs.Rows.{OnlyReads, table_of}
 use Rattle.world_rows.proofs.ReadLemmas.{quiet}
+use Rattle.row_copies.specs.Clusters.{EndsFor}
 use Rattle.row_copies.specs.Copies.{Done, Steps, Then}
 use Rattle.row_copies.specs.declared.walk.Copied.{Copied}
 use Rattle.raw_copy.specs.declared.backup.CopyFault.{CopyFault}
+use Rattle.raw_copy.specs.declared.backup.CopyFault.TheVariants.{End}
 use Rattle.raw_copy.specs.Copies.{CopiesOver, ReadsOnceIn}
 use Rattle.raw_copy.proofs.CopyLemmas.{reads_followed}
 use Rattle.hk_runs.specs.Headline.{NothingHappened}
@@ -29,7 +32,7 @@ use Rattle.hk_runs.specs.Steps.{HasLists}
 use Rattle.hk_runs.proofs.HeadlineLemmas.{Ends, Unmoved, unmoved_keeps, unopened_keeps}
 use Rattle.data_stream.specs.Runs.{Adds, last_world, world_before}
 use Rattle.data_stream.proofs.RunLemmas.{Opened, WorksAs, adds_on, begins_as, worked_keeps, worked_so}
-use Rattle.copy_runs.proofs.EndLemmas.{ended_is_no_usage}
+use Rattle.copy_runs.proofs.EndLemmas.{ended_done, ended_is_no_usage}
 use Rattle.copy_runs.specs.Commands.{ClosesCopy, CopiesByFile, CopiesFromWorld, CopiesOnDisks, CopiesUnder, CopyKept, OnlyReadIn, ReadsAt, table_in}
 
 -- ---- the events
@@ -68,10 +71,10 @@ module _ {D W : Type 0} (state : D → DiskState) (to_come : W → ℕ → ℕ) 
   o = record { disk = state v.disk; services = v.world; words = to_come v.words }
 
   pub zone_ran : (batch : ℕ) → batch ≡ props.sizes.batch → (from to : List ℕ) (ended : Result Copied CopyFault) (backup backup' : DiskState) (vault vault' copies copies' : VaultState) (written now : Option (List ℕ)) (status : ℕ)
-      → CopiesFromWorld state to_come v v' batch from to ended backup backup' vault vault' copies copies' → ClosesCopy ended written now status
+      → CopiesFromWorld state to_come v v' batch from to ended backup backup' vault vault' copies copies' → ClosesCopy ended written now status → ((why : FsEnd) → ended ≡ Err (End why) → EndsFor ⊤ ⊤ why)
       → CopiesOnDisks props from to old (state v'.disk) backup backup' (to_come v.words) (to_come v'.words) vault vault' copies copies' written now status
   unfolding worked_so
-  zone_ran batch size from to ended backup backup' vault vault' copies copies' written now status (moment, only, over) closes =
+  zone_ran batch size from to ended backup backup' vault vault' copies copies' written now status (moment, only, over) closes own =
       let f = reads_followed state to_come moment (Adds moment) (WorksAs state to_come props.lines o) (adds_on state to_come props.lines o moment has) v v' only.events [] (begins_as state to_come props.lines v) in
       let worked = worked_so state to_come props old v v' f.0 b moments run f.2 in
       let reads = only_read props.lines (Tells old) (world_before worked) (to_come v.words) worked.before moment f.0 worked.runs (history_reads moment [] f.0 f.1 tt) in
@@ -83,6 +86,7 @@ module _ {D W : Type 0} (state : D → DiskState) (to_come : W → ℕ → ℕ) 
         copied = over_at from to ended vault vault' copies copies' backup backup' batch props.sizes.batch (table_of v.world) (table_in (world_before worked)) (table_of v'.world) (table_in (last_world worked)) size
             (ap table_in b.first) (ap table_in (only.same ∙ b.first ∙ sym reads.same)) over;
         closes = closes;
+        whole = ended_done written now status ended own closes;
       }
 
 -- ---- what is kept

@@ -64,6 +64,8 @@ pub record CopiesOnDisks (props : Props) (from to : List ℕ) (old new backup ba
   pub ended : Result Copied CopyFault
   pub copied : CopiesOver props.sizes.batch from to ended (table_in (world_before worked)) (table_in (last_world worked)) vault vault' copies copies' backup backup'
   pub closes : ClosesCopy ended written now status
+  -- with status 0 all was copied
+  pub whole : status ≡ 0 → (counts : Copied) × (ended ≡ Ok counts)
 
 -- `same` says that the disk of the second cluster, both vaults, the random words and the clock are unchanged
 abbrev pub CopiesUnder : Props → (same : Type 0) (from to : List ℕ) (old new backup backup' : DiskState) (words words' : ℕ → ℕ) (vault vault' copies copies' : VaultState) (written now : Option (List ℕ)) → ℕ → Type 0

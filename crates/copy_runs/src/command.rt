@@ -1,8 +1,10 @@
 //! Copying a zone over the disks of both clusters.
-ghost use Rattle.std.specs.Prelude.{◌≡◌, ◌⊎◌, ◌≤◌};
+ghost use Rattle.std.specs.Prelude.{◌≡◌, ◌⊎◌, ◌≤◌, Err, ⊤};
 ghost use Rattle.hk_base.specs.Faults.{Rose};
+ghost use Rattle.row_copies.specs.Clusters.{EndsFor};
 ghost use Rattle.world_run.specs.World.{RunningWorld};
 ghost use Rattle.world_desk.specs.Worlds.{IsReady, standing};
+ghost use Rattle.raw_copy.specs.Copies.{VaultsFailed};
 ghost use Rattle.hk_runs.specs.Headline.{FromSoundFiles};
 ghost use Rattle.copy_runs.specs.Commands.{CopiesFromWorld};
 ghost use Rattle.copy_runs.specs.Runs.{CopiesZoneUnder, RunsCopy, RunsCopyKept, clusters};
@@ -11,6 +13,8 @@ use crate::ends::close_copy;
 use crate::opened::copy_opened_over;
 use body_stream::Vault;
 use command_io::{ended_by, ended_by_props, read_properties, report};
+use file_orders::FsEnd;
+use frame_log::StartFault;
 use hk_base::{Clock, Disk, Sink, Source, Text, Words};
 use prop_text::{Props, Sizes};
 use raw_copy::CopyFault;
@@ -39,6 +43,14 @@ fn copy_in<D: Disk, E: Disk, V: Vault, U: Vault, W: Words, C: Clock>(
         (standing disk.old world rand.old) (standing disk.new then rand.new)
         batch from.now to.now result (E.state backup.old) (E.state backup.new)
         (V.state vault.old) (V.state vault.new) (U.state copies.old) (U.state copies.new) }
+    ensures start { result ≡ Err (CopyFault.Start StartFault.StoreFault) →
+        Rose (E.state backup.old).faults (E.state backup.new).faults }
+    ensures store { result ≡ Err (CopyFault.End FsEnd.StoreFault) →
+        Rose (E.state backup.old).faults (E.state backup.new).faults }
+    ensures vault { result ≡ Err (CopyFault.End FsEnd.VaultFault) →
+        VaultsFailed (V.state vault.old) (V.state vault.new)
+        (U.state copies.old) (U.state copies.new) }
+    ensures own { (why : _) → result ≡ Err (CopyFault.End why) → EndsFor ⊤ ⊤ why }
 {
     let mut world = world;
     let ended = copy_opened_over(
@@ -85,6 +97,15 @@ fn copy_under<D: Disk, E: Disk, V: Vault, U: Vault, K: Sink, W: Words, C: Clock>
         (clusters disk.old vault.old backup.old copies.old out.old rand.old clock.old)
         (clusters disk.new vault.new backup.new copies.new out.new rand.new clock.new)
         props.now from.now to.now result }
+    ensures store_fault { result ≡ 5 →
+        Rose (D.state disk.old).faults (D.state disk.new).faults ⊎
+        Rose (E.state backup.old).faults (E.state backup.new).faults }
+    ensures read_fault { result ≡ 7 → ⊥ }
+    ensures write_fault { result ≡ 8 → Rose (K.faults out.old) (K.faults out.new) }
+    ensures vault_fault { result ≡ 12 →
+        VaultsFailed (V.state vault.old) (V.state vault.new)
+        (U.state copies.old) (U.state copies.new) }
+    ensures long { result ≡ 13 → ⊥ }
 {
     match World::start(alloc, disk, props) {
         Err(why) => report(alloc, out, ended_by(why.file, why.fault)),
@@ -115,7 +136,7 @@ fn copy_under<D: Disk, E: Disk, V: Vault, U: Vault, K: Sink, W: Words, C: Clock>
 /// - 8: the output failed.
 /// - 10: the last opening of a log is used up.
 /// - 11: the copy was refused. What was copied until then stays, each file with its whole body.
-/// - 12: a vault failed.
+/// - 12: a vault failed, or that of the copies had a body for a new file.
 pub fn run_copy<A: Source, K: Sink, D: Disk, E: Disk, V: Vault, U: Vault, W: Words, C: Clock>(
     alloc: Global,
     from: &Text,
@@ -138,6 +159,16 @@ pub fn run_copy<A: Source, K: Sink, D: Disk, E: Disk, V: Vault, U: Vault, W: Wor
         (clusters disk.old vault.old backup.old copies.old out.old rand.old clock.old)
         (clusters disk.new vault.new backup.new copies.new out.new rand.new clock.new)
         A.Source acls.old acls.new from.now to.now) result }
+    ensures store_fault { result ≡ 5 →
+        Rose (D.state disk.old).faults (D.state disk.new).faults ⊎
+        Rose (E.state backup.old).faults (E.state backup.new).faults }
+    ensures read_fault { result ≡ 7 → Rose (A.faults acls.old) (A.faults acls.new) }
+    ensures write_fault { result ≡ 8 → Rose (K.faults out.old) (K.faults out.new) }
+    // One of the vaults failed, or that of the copies had a body already for a new file.
+    ensures vault_fault { result ≡ 12 →
+        VaultsFailed (V.state vault.old) (V.state vault.new)
+        (U.state copies.old) (U.state copies.new) }
+    ensures long { result ≡ 13 → ⊥ }
 {
     let props = match read_properties(alloc, acls) {
         Err(fault) => return report(alloc, out, ended_by_props(fault)),

@@ -1,10 +1,14 @@
 //! Copying a zone of a world that was opened.
-ghost use Rattle.std.specs.Prelude.{◌≤◌};
+ghost use Rattle.std.specs.Prelude.{◌≡◌, ◌≤◌, Err, ⊤};
+ghost use Rattle.hk_base.specs.Faults.{Rose};
+ghost use Rattle.row_copies.specs.Clusters.{EndsFor};
 ghost use Rattle.world_desk.specs.Worlds.{IsReady, standing};
 ghost use Rattle.world_rows.specs.Rows.{table_of};
-ghost use Rattle.raw_copy.specs.Copies.{CopiesOver, OnlyRead};
+ghost use Rattle.raw_copy.specs.Copies.{CopiesOver, OnlyRead, VaultsFailed};
 
 use body_stream::Vault;
+use file_orders::FsEnd;
+use frame_log::StartFault;
 use hk_base::{Disk, Text, Words};
 use place_trees::recall_trees;
 use raw_copy::{CopyFault, copy_over};
@@ -34,6 +38,14 @@ pub fn copy_opened_over<D: Disk, E: Disk, V: Vault, U: Vault, W: Words>(
     ensures copies { CopiesOver batch from.now to.now result (table_of world.old)
         (table_of world.new) (V.state vault.old) (V.state vault.new) (U.state copies.old)
         (U.state copies.new) (E.state backup.old) (E.state backup.new) }
+    ensures start { result ≡ Err (CopyFault.Start StartFault.StoreFault) →
+        Rose (E.state backup.old).faults (E.state backup.new).faults }
+    ensures store { result ≡ Err (CopyFault.End FsEnd.StoreFault) →
+        Rose (E.state backup.old).faults (E.state backup.new).faults }
+    ensures vault { result ≡ Err (CopyFault.End FsEnd.VaultFault) →
+        VaultsFailed (V.state vault.old) (V.state vault.new)
+        (U.state copies.old) (U.state copies.new) }
+    ensures own { (why : _) → result ≡ Err (CopyFault.End why) → EndsFor ⊤ ⊤ why }
     ensures read { OnlyRead D.state W.to_come now
         (standing disk.old world.old rand.old) (standing disk.new world.new rand.new) }
 {

@@ -4,6 +4,7 @@ use Rattle.std.specs.Prelude.{Result, Ok, Err, IfErr, IfOk, OnErr, OnOk, count_b
 use Rattle.std.specs.Str.{bytes_eq}
 use Rattle.hk_base.specs.Disk.{DiskState, RunOn, Tells}
 use Rattle.hk_base.specs.Faults.{Rose}
+use Rattle.frame_log.specs.declared.fault.StartFault.{StartFault}
 use Rattle.hk_base.specs.declared.texts.Text.{Text}
 use Rattle.body_stream.specs.Vaults.{VaultState}
 use Rattle.file_orders.specs.Events.{Leading}
@@ -45,7 +46,7 @@ use Rattle.world_rows.specs.declared.rows.WorldRows.{WorldRows}
 use Rattle.world_rows.proofs.FaultLemmas.{look_ends}
 use Rattle.world_rows.proofs.ReadLemmas.{look_once, looks_on, once_same, quiet, row_found}
 use Rattle.raw_copy.specs.declared.backup.CopyFault.{CopyFault}
-use Rattle.raw_copy.specs.declared.backup.CopyFault.TheVariants.{End}
+use Rattle.raw_copy.specs.declared.backup.CopyFault.TheVariants.{End, Start}
 use Rattle.raw_copy.specs.Copies.{AreTexts, CopiesFrom, CopiesOpened, CopiesPlace, CopiesZone, Copying, EndsByCause, OnlyRead, ReadsOnceIn, StopsPlace, StopsZone, VaultsFailed, copied_or, copying, state_at}
 
 steps_join : {X : Type 0} (follows : X → X → Type 0) (a b c : X) → Steps follows a b → Steps follows b c → Steps follows a c
@@ -299,6 +300,20 @@ over_ends cause (Err own) result why is e fault =
 
 pub own_ends : (store vault : Type 0) (why : FsEnd) → EndsFor store vault why → EndsFor ⊤ ⊤ why
 own_ends store vault why e = ends-so store vault ⊤ ⊤ why (λ h. tt) (λ h. tt) e
+
+-- a copy that was begun doesn't end as a start that failed
+pub never_started : (ended : Result Copied FsEnd) (result : Result Copied CopyFault) (fault : StartFault) → result ≡ copied_or ended → result ≡ Err (Start fault) → ⊥
+never_started ended result fault is same = go ended (sym is ∙ same)
+  where
+    go : (e : Result Copied FsEnd) → copied_or e ≡ Err (Start fault) → ⊥
+    go (Ok counts) h = cc
+    go (Err why) h = cc
+
+abbrev start_end : StartFault → Result Copied CopyFault
+start_end fault = Err (Start fault)
+
+pub same_start : (fault own : StartFault) → start_end fault ≡ start_end own → fault ≡ own
+same_start fault own h = cc
 
 pub opened_copies : (batch : ℕ) (from to : List ℕ) (result : Result Copied CopyFault) (t t' : NameTable) (vault vault' copies copies' : VaultState) (disk mid disk' : DiskState) (names : RunningNames)
     → Starts batch disk mid names → RunOn 1 disk mid → CopiesFrom from to result t t' vault vault' copies copies' mid disk' names → CopiesOpened batch from to result t t' vault vault' copies copies' disk disk'

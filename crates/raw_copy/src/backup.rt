@@ -57,6 +57,7 @@ fn copy_from<D: Disk, E: Disk, V: Vault, U: Vault, W: Words>(
     ensures copies { CopiesFrom from.now to.now result (table_of world.old) (table_of world.new)
         (V.state vault.old) (V.state vault.new) (U.state copies.old) (U.state copies.new)
         (E.state backup.old) (E.state backup.new) name }
+    ensures begun { (fault : _) → result ≡ Err (CopyFault.Start fault) → ⊥ }
     ensures ends { (why : _) → result ≡ Err (CopyFault.End why) →
         EndsByCause (E.state backup.old) (E.state backup.new) (V.state vault.old)
         (V.state vault.new) (U.state copies.old) (U.state copies.new) why }
@@ -94,6 +95,8 @@ pub fn copy_over<D: Disk, E: Disk, V: Vault, U: Vault, W: Words>(
     ensures copies { CopiesOver batch from.now to.now result (table_of world.old)
         (table_of world.new) (V.state vault.old) (V.state vault.new) (U.state copies.old)
         (U.state copies.new) (E.state backup.old) (E.state backup.new) }
+    ensures start { result ≡ Err (CopyFault.Start StartFault.StoreFault) →
+        Rose (E.state backup.old).faults (E.state backup.new).faults }
     ensures store { result ≡ Err (CopyFault.End FsEnd.StoreFault) →
         Rose (E.state backup.old).faults (E.state backup.new).faults }
     ensures vault { result ≡ Err (CopyFault.End FsEnd.VaultFault) →

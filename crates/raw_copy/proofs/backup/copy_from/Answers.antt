@@ -1,4 +1,4 @@
-use Rattle.raw_copy.proofs.CopyLemmas.{from_ended, over_ends}
+use Rattle.raw_copy.proofs.CopyLemmas.{from_ended, never_started, over_ends}
 use Rattle.raw_copy.proofs.backup.copy_from.Goals as goal
 
 pub returns-clause-copies : goal.returns-clause-copies
@@ -8,3 +8,6 @@ returns-clause-copies g c =
 
 pub returns-clause-ends : goal.returns-clause-ends
 returns-clause-ends g c why fault = over_ends _ c.copy_zone-result.result c.copied_or.result why c.copied_or.ensures c.copy_zone-result.ensures.ends fault
+
+pub returns-clause-begun : goal.returns-clause-begun
+returns-clause-begun g c fault same = never_started c.copy_zone-result.result c.copied_or.result fault c.copied_or.ensures same

@@ -1,12 +1,14 @@
-use Rattle.std.proofs.Common.{inl, inr, refl, subst, IsTrue, Bool}
+use Rattle.std.proofs.Common.{◌∙◌, ap, inl, inr, refl, subst, IsTrue, Bool}
 use Rattle.std.specs.Prelude.{Result, IsErrOf}
 use Rattle.frame_log.specs.declared.fault.StartFault.{StartFault}
+use Rattle.frame_log.specs.declared.fault.StartFault.TheVariants as start
 use Rattle.name_core.specs.State.{RunningNames}
 use Rattle.name_store.specs.Store.{OpensNames}
 use Rattle.file_orders.specs.declared.ends.FsEnd.TheVariants as end
 use Rattle.name_core.proofs.LoggingLemmas.{rose_since}
 use Rattle.backup_names.proofs.OrderLemmas.{started_holds}
-use Rattle.raw_copy.proofs.CopyLemmas.{opened_copies, own_ends, read_nothing}
+use Rattle.raw_copy.specs.Copies.{not_started}
+use Rattle.raw_copy.proofs.CopyLemmas.{opened_copies, own_ends, read_nothing, same_start}
 use Rattle.raw_copy.proofs.backup.copy_over.Goals as goal
 
 pub copy_from-requires-clause-holds : goal.copy_from-requires-clause-holds
@@ -50,3 +52,9 @@ returns-in-Err-clause-vault g c fault = absurd cc
 
 pub returns-in-Err-clause-own : goal.returns-in-Err-clause-own
 returns-in-Err-clause-own g c why fault = absurd cc
+
+pub returns-in-Ok-clause-start : goal.returns-in-Ok-clause-start
+returns-in-Ok-clause-start g c same = absurd (c.copy_from.ensures.begun start.StoreFault same)
+
+pub returns-in-Err-clause-start : goal.returns-in-Err-clause-start
+returns-in-Err-clause-start g c same = c.start.ensures.opens.why.cause (c.in-Err.is ∙ ap not_started (same_start c.in-Err.fault start.StoreFault same))
