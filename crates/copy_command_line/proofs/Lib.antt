@@ -1,4 +1,3 @@
 mod OrderLemmas
-mod PlainLemmas
 mod SpellingLemmas
 mod ValueLemmas

@@ -1,7 +1,7 @@
 use Rattle.std.proofs.Common.{ap, ◌∙◌}
 use Rattle.std.proofs.lemmas.Result.{IfOk-weaker}
 use Rattle.clap.specs.Words.{App, app_of, with_subcommand}
-use Rattle.copy_command_line.proofs.PlainLemmas.{third_is_false}
+use Rattle.clap_lines.proofs.PlainLemmas.{third_is_false}
 use Rattle.copy_command_line.proofs.commands.with_copy.Goals as goal
 
 pub returns : goal.returns

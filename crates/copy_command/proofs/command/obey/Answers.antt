@@ -1,0 +1,12 @@
+use Rattle.std.proofs.Common.{inl, inr}
+use Rattle.copy_command.proofs.StatusLemmas.{copy_is_no_usage, read_is_no_usage}
+use Rattle.copy_command.proofs.command.obey.Goals as goal
+
+pub returns-in-Ok-Copy-clause-own : goal.returns-in-Ok-Copy-clause-own
+returns-in-Ok-Copy-clause-own g c is = absurd (copy_is_no_usage _ _ _ _ _ _ _ _ _ _ _ _ _ _ _ _ c.run_copy.result _ _ c.run_copy.ensures.copy is)
+
+pub returns-in-Ok-Read-clause-own : goal.returns-in-Ok-Read-clause-own
+returns-in-Ok-Read-clause-own g c is = absurd (read_is_no_usage _ _ _ _ _ _ _ _ _ _ _ _ _ _ c.run_read_copy.result _ _ _ _ _ c.run_read_copy.ensures.read is)
+
+pub returns-in-Ok-Read-clause-vault_fault : goal.returns-in-Ok-Read-clause-vault_fault
+returns-in-Ok-Read-clause-vault_fault g c is = inr (inl (c.run_read_copy.ensures.vault_fault is))

@@ -1,0 +1,6 @@
+//! The top call of the program that copies encryption zones, and reads the copies.
+#![tactic(auto)]
+
+mod command;
+
+pub use command::hkcopy;
