@@ -181,9 +181,9 @@ def store_bodies(names, longest=200):
                 file.write(chance.randbytes(chance.randrange(longest)))
 
 
-def change_zone():
-    """Changes the live zone, so that it differs from its snapshot."""
-    files = sorted(headline.path_text(it) for it, row in table_in(".").rows.items() if row.is_file)
+def change_zone(put):
+    """Changes the live zone, so that it differs from its snapshot. The files that were put stay."""
+    files = sorted({headline.path_text(it) for it, row in table_in(".").rows.items() if row.is_file} - set(put))
     lines = [f"nn hdfs delete {it}" for it in files[5:60:6]]
     asks = Asks()
     for number in range(10):
@@ -205,7 +205,7 @@ def copy_zones(put):
         same_range("/w/old/snapshot" + path[2:], bytes_put, 5, 8)
     # The copies don't follow their sources.
     reencrypt("/z", "k", FILES)
-    replay(["nn hdfs unsnap /z s", "nn hdfs delete /z"])
+    replay(["nn hdfs unsnap /z s", "nn hdfs rdelete /z"])
     for path, bytes_put in put.items():
         for start, count in [(0, LONGEST), (3, 5), (65530, 11), (len(bytes_put), 4)]:
             same_range("/w/live" + path[2:], bytes_put, start, count)
@@ -285,7 +285,7 @@ def main():
     for name in ("bodies", "backup", "copies"):
         os.makedirs(os.path.join(FOLDER, name), exist_ok=True)
     put = make_zone()
-    change_zone()
+    change_zone(put)
     copy_zones(put)
     open_backup()
     make_small_zone()

@@ -75,14 +75,16 @@ fn read_texts(alloc: Global, from: &Text, to: &Text) -> Result<(ReadPath, NPath)
     }
 }
 
-/// Returns `NotAZoneRoot` unless the row is that of a directory with a key.
+/// Returns `NotADirectory` if the row is that of a file, and `NotAZoneRoot` if it is that of a directory
+/// without a key.
 fn zone_only(row: Row) -> Result<(), FsEnd>
     ensures directory { OnOk result (is_dir_at (Some row) ≡ true) }
     ensures ends { IfErr result (EndsFor ⊥ ⊥) }
 {
     match row.kind {
         Kind::Dir { key: Some(_) } => Ok(()),
-        _ => Err(FsEnd::NameRefused(NameRefusal::NotAZoneRoot)),
+        Kind::Dir { key: None } => Err(FsEnd::NameRefused(NameRefusal::NotAZoneRoot)),
+        Kind::File { .. } => Err(FsEnd::NameRefused(NameRefusal::NotADirectory)),
     }
 }
 
