@@ -7,7 +7,7 @@ use Rattle.hk_base.specs.declared.outside.Words as random
 use Rattle.body_stream.specs.declared.vault.Vault as vaults
 use Rattle.prop_text.specs.declared.props.Props.{Props}
 use Rattle.world_run.specs.Ledger.{Past}
-use Rattle.hk_runs.specs.Headline.{NothingHappened}
+use Rattle.hk_runs.specs.Headline.{FromSoundFiles, NothingHappened}
 use Rattle.copy_runs.specs.Commands.{CopiesByFile, CopiesUnder, CopyKept}
 
 -- What the command works on: the disk and the vault of the first cluster, those of the second, the output, the source of random words and
@@ -50,3 +50,7 @@ module _ {D V E U K W C : Type 0} (of_disk : disks.Ghosts D) (of_vault : vaults.
         ⊎ CopyKept past from to (of_disk.state old.disk) (of_disk.state new.disk) (of_backup.state old.backup) (of_backup.state new.backup)
         (of_acls.left acls) (of_acls.left acls') (of_rand.to_come old.rand) (of_rand.to_come new.rand)
         (of_vault.state old.vault) (of_vault.state new.vault) (of_copies.state old.copies) (of_copies.state new.copies) (of_out.written old.out) (of_out.written new.out) status
+
+    -- that is, of files that a run may start from
+    abbrev pub KeepsCopy : List ℕ → List ℕ → ℕ → Type 0
+    KeepsCopy from to status = FromSoundFiles (of_disk.state old.disk) (RunsCopyKept from to) status

@@ -5,9 +5,8 @@ ghost use Rattle.row_copies.specs.Clusters.{EndsFor};
 ghost use Rattle.world_run.specs.World.{RunningWorld};
 ghost use Rattle.world_desk.specs.Worlds.{IsReady, standing};
 ghost use Rattle.raw_copy.specs.Copies.{VaultsFailed};
-ghost use Rattle.hk_runs.specs.Headline.{FromSoundFiles};
 ghost use Rattle.copy_runs.specs.Commands.{CopiesFromWorld};
-ghost use Rattle.copy_runs.specs.Runs.{CopiesZoneUnder, RunsCopy, RunsCopyKept, clusters};
+ghost use Rattle.copy_runs.specs.Runs.{CopiesZoneUnder, KeepsCopy, RunsCopy, clusters};
 
 use crate::ends::close_copy;
 use crate::opened::copy_opened_over;
@@ -154,11 +153,10 @@ pub fn run_copy<A: Source, K: Sink, D: Disk, E: Disk, V: Vault, U: Vault, W: Wor
         (clusters disk.old vault.old backup.old copies.old out.old rand.old clock.old)
         (clusters disk.new vault.new backup.new copies.new out.new rand.new clock.new)
         A.Source acls.old acls.new from.now to.now result }
-    ensures kept { FromSoundFiles (D.state disk.old)
-        (RunsCopyKept D.Disk V.Vault E.Disk U.Vault K.Sink W.Words
+    ensures kept { KeepsCopy D.Disk V.Vault E.Disk U.Vault K.Sink W.Words
         (clusters disk.old vault.old backup.old copies.old out.old rand.old clock.old)
         (clusters disk.new vault.new backup.new copies.new out.new rand.new clock.new)
-        A.Source acls.old acls.new from.now to.now) result }
+        A.Source acls.old acls.new from.now to.now result }
     ensures store_fault { result ≡ 5 →
         Rose (D.state disk.old).faults (D.state disk.new).faults ⊎
         Rose (E.state backup.old).faults (E.state backup.new).faults }
