@@ -1,24 +1,38 @@
 -- What was put is read back of a copy.
-use Rattle.std.proofs.Common.{◌≡◌, ℕ, Bool, true, false, cond, List, [], ◌∷◌, ◌++◌, sym, ap, ◌∙◌}
+use Rattle.std.proofs.Common.{◌≡◌, ℕ, Bool, true, false, cond, List, [], ◌∷◌, ◌++◌, refl, sym, ap, subst, ◌∙◌}
 use Rattle.std.specs.Prelude.{Option, Some, None}
+use Rattle.hk_base.specs.Disk.{DiskState, Tells}
 use Rattle.hk_base.specs.declared.names.Edek.{Edek}
 use Rattle.inode_tree.specs.Rows.{Entry, is_dir, row_at}
 use Rattle.name_calls.specs.Paths.{same_path}
 use Rattle.inode_tree.specs.declared.rows.Kind.{Kind}
 use Rattle.inode_tree.specs.declared.rows.Kind.TheVariants.{File}
 use Rattle.inode_tree.specs.declared.rows.Row.{Row}
+use Rattle.key_rows.specs.Sound.{NamesOnce}
+use Rattle.key_rows.specs.Table.{Table, no_keys}
+use Rattle.key_rows.specs.declared.rows.KeyCommand.{KeyCommand}
 use Rattle.key_rows.specs.declared.rows.KeyRow.{KeyRow}
+use Rattle.kms_store.specs.Store.{settled_table}
+use Rattle.prop_text.specs.declared.props.Props.{Props}
 use Rattle.name_core.proofs.SnapshotRows.{row-below}
 use Rattle.backup_names.specs.Ends.{row_shown}
 use Rattle.file_orders.specs.declared.open.ShownFile.{ShownFile}
 use Rattle.row_copies.specs.Copies.{AreCopies, HasBodyOf, Pairs}
-use Rattle.world_run.specs.Ledger.{Draw}
+use Rattle.world_run.specs.Ledger.{Draw, Past}
+use Rattle.world_run.specs.Linked.{OpensTo}
 use Rattle.world_run.specs.Promise.{edek_of}
+use Rattle.world_run.specs.World.{WorldState}
 use Rattle.world_run.proofs.DrawLemmas.{opens-among}
+use Rattle.world_run.proofs.LawLemmas.{no-keys-table, replayed-table}
 use Rattle.world_rows.specs.Rows.{place_rows}
+use Rattle.hk_runs.specs.Headline.{Headline}
+use Rattle.hk_runs.specs.KeyFacts.{OpensKey}
+use Rattle.hk_runs.specs.Laws.{RunFrom}
+use Rattle.hk_runs.proofs.HeadlineLemmas.{whole}
 use Rattle.data_stream.specs.Bodies.{stored_of}
+use Rattle.data_stream.specs.Runs.{Worked, last_world, world_before}
 use Rattle.copy_reads.specs.Bodies.{IsDrawOfCopy}
-use Rattle.copy_laws.specs.Laws.{CopiesAreReadBack, KeptFactsOpenCopies, StillOpens}
+use Rattle.copy_laws.specs.Laws.{CopiesAreReadBack, FactsGoOn, KeptFactsOpenCopies, KeyStands, LaterRunsReadCopies, OpenedBefore, RunsOpenCopies, StillOpens}
 
 -- ---- the copy of a row
 
@@ -87,3 +101,36 @@ kept_facts_open keys edek draw once carries fact = record {
   carries = carries;
   opens = λ row among born. opens-among keys row edek draw.dek once among (fact row among born).opens;
 }
+
+-- ---- from run to run
+
+dropped : (o : Option KeyCommand) (t : Table) → settled_table false o t ≡ t
+dropped None t = refl
+dropped (Some command) t = refl
+
+-- the keys in the end are those of a key log
+names_once : (props : Props) (old new : DiskState) (words words' : ℕ → ℕ) (worked : Worked props old new words words') → Tells old → NamesOnce (last_world worked).keys.keys.table.rows
+names_once props old new words words' worked tells =
+    let reads = worked.reads tells in
+    let log = reads.2.keys in
+    subst (λ (w : WorldState). NamesOnce w.keys.keys.table.rows) reads.1 (replayed-table no_keys reads.0.keys.store.table.keys _ log.spelled no-keys-table log.makes).names
+
+pub runs_open : (old new : DiskState) → RunsOpenCopies old new
+runs_open old new past props words words' worked edek draw tells keeps carries fact =
+    let w = last_world worked in
+    let opens : OpensTo w.keys.keys.table.rows draw edek =
+    subst (λ (t : Table). OpensTo t.rows draw edek) (dropped w.keys.pending w.keys.keys.table) ((keeps.lasts (OpensKey draw edek) fact).worlds worked.history (whole worked.history) false) in
+    kept_facts_open w.keys.keys.table.rows edek draw (names_once props old new words words' worked tells) carries opens
+
+module _ (at_copy copied at_read done : DiskState) where
+  -- the source opened so before the run that copied it, and opens so in the end of the run that reads
+  still_opens : (past : Past) (props : Props) (words words' : ℕ → ℕ) (worked : Worked props at_read done words words') (file : Row) (draw : Option Draw) → OpenedBefore at_copy file draw → RunFrom at_copy copied → FactsGoOn copied at_read
+      → Tells at_read → Headline past props.lines at_read done words (world_before worked) worked.history → KeyStands (last_world worked).keys.keys.table.rows draw → StillOpens (last_world worked).keys.keys.table.rows file draw
+  still_opens past props words words' worked file None none run go tells keeps stands = none
+  still_opens past props words words' worked file (Some draw) (edek, has, carries, fact) run go tells keeps (row, among, born) =
+      (edek, has, runs_open at_read done past props words words' worked edek draw tells keeps carries (go (OpensKey draw edek) (run.keeps.lasts (OpensKey draw edek) fact).on_disk.last), row, among, born)
+
+  pub later_read : LaterRunsReadCopies at_copy copied at_read done
+  later_read known past w props path text count from wanted left left' old new copies draw place target below file before after words words' worked rows written now put of was opened run go tells keeps there stands is_text read =
+      read_back known w path text count from wanted left left' old new copies draw place target below file before after (last_world worked).keys.keys.table.rows rows written now put of was there
+      (still_opens past props words words' worked file draw opened run go tells keeps stands) is_text read
