@@ -316,8 +316,8 @@ pub same_start : (fault own : StartFault) → start_end fault ≡ start_end own 
 same_start fault own h = cc
 
 pub opened_copies : (batch : ℕ) (from to : List ℕ) (result : Result Copied CopyFault) (t t' : NameTable) (vault vault' copies copies' : VaultState) (disk mid disk' : DiskState) (names : RunningNames)
-    → Starts batch disk mid names → RunOn 1 disk mid → CopiesFrom from to result t t' vault vault' copies copies' mid disk' names → CopiesOpened batch from to result t t' vault vault' copies copies' disk disk'
-opened_copies batch from to result t t' vault vault' copies copies' disk mid disk' names s run work =
+    → Starts batch disk mid names → RunOn 1 disk mid → CopiesFrom from to result t t' vault vault' copies copies' mid disk' names → ((fault : StartFault) → result ≡ Err (Start fault) → ⊥) → CopiesOpened batch from to result t t' vault vault' copies copies' disk disk'
+opened_copies batch from to result t t' vault vault' copies copies' disk mid disk' names s run work begun =
     let o = work.orders in
     let later = o.run in
     record {
@@ -333,4 +333,5 @@ opened_copies batch from to result t t' vault vault' copies copies' disk mid dis
       faults = let more = run.faults in let most = later.faults in omega (arith, more, most);
       copied = work.copied;
       stopped = work.stopped;
+      begun = begun;
     }

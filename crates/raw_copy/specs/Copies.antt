@@ -143,6 +143,8 @@ pub record CopiesOpened (batch : ℕ) (from to : List ℕ) (result : Result Copi
   pub faults : disk.faults ≤ disk'.faults
   pub copied : IfOk result (λ counts. CopiesZone from to counts (copying t vault names copies) (copying t' vault' left copies'))
   pub stopped : OnErr result (StopsZone from to (copying t vault names copies) (copying t' vault' left copies'))
+  -- it does not end as if the log had not been opened
+  pub begun : (fault : StartFault) → result ≡ Err (Start fault) → ⊥
 
 abbrev pub not_started : StartFault → Result RunningNames StartFault
 not_started fault = Err fault

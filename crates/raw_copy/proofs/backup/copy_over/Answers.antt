@@ -19,7 +19,7 @@ copy_from-requires-clause-settled g c = let h = started_holds c.args.batch (g.E.
 
 pub returns-in-Ok-clause-copies : goal.returns-in-Ok-clause-copies
 returns-in-Ok-clause-copies g c =
-    inr (opened_copies c.args.batch c.args.from.now c.args.to.now c.copy_from.result _ _ _ _ _ _ (g.E.Disk.state c.args.backup.now) (g.E.Disk.state c.start.new.disk) (g.E.Disk.state c.copy_from.new.backup) c.in-Ok.name c.in-Ok.ensures.started c.start.ensures.opens.run c.copy_from.ensures.copies)
+    inr (opened_copies c.args.batch c.args.from.now c.args.to.now c.copy_from.result _ _ _ _ _ _ (g.E.Disk.state c.args.backup.now) (g.E.Disk.state c.start.new.disk) (g.E.Disk.state c.copy_from.new.backup) c.in-Ok.name c.in-Ok.ensures.started c.start.ensures.opens.run c.copy_from.ensures.copies c.copy_from.ensures.begun)
 
 pub returns-in-Err-clause-copies : goal.returns-in-Err-clause-copies
 returns-in-Err-clause-copies g c = inl (record {
