@@ -98,8 +98,8 @@ fn obey<A: Source, K: Sink, D: Disk, E: Disk, V: Vault, U: Vault, W: Words, C: C
 /// and the properties of `acls`. The second is the edit log on file 1 of `backup` and the bodies of
 /// `copies`.
 ///
-/// The clause `reason` says why a copy ends with its status, and `copy_kept` and `read_kept` what is kept: the promise of `hkms` on files holds in every
-/// world of the run and after every crash.
+/// The clause `reason` says why a copy ends with its status, and the clauses `copy_kept` and `read_kept`
+/// what is kept: the promise of `hkms` on files holds in every world of the run and after every crash.
 ///
 /// Help and version are printed with status 0, whatever other words there are. A mistake in the words
 /// gives status 2 and the line `usage refused`. If allocation fails while the words are read, the status
