@@ -110,6 +110,9 @@ module _ (s : Around) (from to : List ℕ) (written now : Option (List ℕ)) (st
   copies_end same_disk same (inl bad) = by_either (replay_status (ended_by_props bad.fault)) (reports_either (ended_by_props bad.fault) written now status bad.reports) (props_good bad.fault bad.has_fault)
   copies_end same_disk same (inr with) = under with.props same with.read with.copy
 
+pub copy_is : (Holds : List ℕ → List ℕ → Type 0) (order : Result CopyOrder OrderFault) (source target : List ℕ) → order ≡ Ok (Copy source target) → Holds source target → OfCopy order Holds
+copy_is Holds order source target is holds = subst (λ (o : Result CopyOrder OrderFault). OfCopy o Holds) (sym is) holds
+
 -- what holds of a copy holds of an order that is this copy, or there is no memory to read the words
 pub copy_so : (Holds : List ℕ → List ℕ → Type 0) (Lacks : Type 0) (order : Result CopyOrder OrderFault) (source target : List ℕ) → (order ≡ Ok (Copy source target)) ⊎ (order ≡ Err fault.NoMemory) → OfCopy order Holds → (order ≡ Err fault.NoMemory → Lacks)
     → Holds source target ⊎ Lacks

@@ -1,5 +1,6 @@
-use Rattle.std.proofs.Common.{inl, inr}
-use Rattle.copy_command.proofs.ReasonLemmas.{copies_end}
+use Rattle.std.proofs.Common.{inl, inr, ap, ◌∙◌}
+use Rattle.std.specs.Prelude.{Ok}
+use Rattle.copy_command.proofs.ReasonLemmas.{copies_end, copy_is}
 use Rattle.copy_command.proofs.StatusLemmas.{copy_is_no_usage, read_is_no_usage}
 use Rattle.copy_command.proofs.command.obey.Goals as goal
 
@@ -15,4 +16,5 @@ returns-in-Ok-Read-clause-vault_fault g c is = inr (inl (c.run_read_copy.ensures
 pub returns-in-Ok-Copy-clause-reason : goal.returns-in-Ok-Copy-clause-reason
 returns-in-Ok-Copy-clause-reason g c =
     let r = c.run_copy.ensures in
-    copies_end _ _ _ _ _ c.run_copy.result r.store_fault r.read_fault r.write_fault r.vault_fault r.long _ _ r.copy
+    copy_is _ c.args.order _ _ (c.in-Ok-Copy.is ∙ ap Ok c.in-Ok-Copy.field-0-is)
+    (copies_end _ _ _ _ _ c.run_copy.result r.store_fault r.read_fault r.write_fault r.vault_fault r.long _ _ r.copy)
