@@ -37,6 +37,10 @@ module _ (copies : List ℕ → List ℕ → Type 0) (reads : List ℕ → List 
   obeyed order o (inl is) obeys = inl (subst (λ (x : OrderRead). Obeys x copies reads same written now status) is obeys)
   obeyed order o (inr is) obeys = inr (subst (λ (x : OrderRead). Obeys x copies reads same written now status) is obeys)
 
+  -- there is no memory to read the words
+  pub lacks_so : (order : OrderRead) → order ≡ Err NoMemory → Obeys order copies reads same written now status → WantsMemory same written now status
+  lacks_so order is obeys = subst (λ (x : OrderRead). Obeys x copies reads same written now status) is obeys
+
 -- words that name an order give it, or there is no memory to read them
 pub named_so : (order : OrderRead) (words : List Text) → IfOk order (λ o. Answers o words) → IfErr order (λ fault. fault ≡ Usage → IsMistake (line_fault words)) → (o : CopyOrder) → Names o words
     → (order ≡ Ok o) ⊎ (order ≡ Err NoMemory)

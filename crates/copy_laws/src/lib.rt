@@ -3,7 +3,6 @@
 #![tactic(auto)]
 
 ghost use Rattle.copy_laws.specs.Laws.{CopiesAreReadBack, KeptFactsOpenCopies, LaterRunsReadCopies, RunsOpenCopies};
-ghost use Rattle.copy_laws.specs.Reasons.{CopiesEndForReasons};
 
 use hk_base::Disk;
 
@@ -33,11 +32,4 @@ pub fn runs_open_copies<D: Disk>(before: &D, after: &D)
 pub fn later_runs_read_copies<D: Disk>(at_copy: &D, copied: &D, at_read: &D, done: &D)
     ensures { LaterRunsReadCopies (D.state at_copy.now) (D.state copied.now)
         (D.state at_read.now) (D.state done.now) }
-{}
-
-/// Each exit status of a copy has its cause, but for want of memory: the properties have a mistake, a log
-/// is damaged or spent, the copy was refused, or a disk, a vault, the properties or the output failed. That
-/// these failed only where a count rose is said by the clauses of `run_copy`.
-pub fn copies_end_for_reasons()
-    ensures { CopiesEndForReasons }
 {}

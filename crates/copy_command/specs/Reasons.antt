@@ -1,6 +1,12 @@
 -- Why a copy ends with its exit status.
-use Rattle.std.specs.Prelude.{◌≡◌, ◌≢◌, ◌⊎◌, ℕ, List, Option, Err, IsErrOf}
+use Rattle.std.specs.Prelude.{◌≡◌, ◌≢◌, ◌⊎◌, ℕ, ⊤, List, Option, Result, Ok, Err, IsErrOf}
 use Rattle.hk_base.specs.Disk.{DiskState}
+use Rattle.hk_base.specs.Faults.{Rose}
+use Rattle.hk_base.specs.declared.disk.Disk as disks
+use Rattle.hk_base.specs.declared.outside.Source as sources
+use Rattle.hk_base.specs.declared.outside.Sink as sinks
+use Rattle.hk_base.specs.declared.outside.Words as random
+use Rattle.body_stream.specs.declared.vault.Vault as vaults
 use Rattle.frame_log.specs.declared.fault.StartFault.TheVariants as start
 use Rattle.body_stream.specs.Vaults.{VaultState}
 use Rattle.prop_text.specs.declared.faults.PropFault.{PropFault}
@@ -12,8 +18,13 @@ use Rattle.world_run.specs.Starts.{FailsAt, OpensBoth}
 use Rattle.name_store.specs.Store.{OpensNames}
 use Rattle.file_orders.specs.declared.ends.FsEnd.{FsEnd}
 use Rattle.raw_copy.specs.declared.backup.CopyFault.TheVariants.{End}
-use Rattle.raw_copy.specs.Copies.{not_started}
-use Rattle.copy_runs.specs.Commands.{CopiesByFile, CopiesOnDisks}
+use Rattle.raw_copy.specs.Copies.{VaultsFailed, not_started}
+use Rattle.clap_lines.specs.declared.told.OrderFault.{OrderFault}
+use Rattle.copy_command_line.specs.declared.order.CopyOrder.{CopyOrder}
+use Rattle.copy_command_line.specs.declared.order.CopyOrder.TheVariants.{Copy}
+use Rattle.copy_runs.specs.Commands.{CopiesOnDisks}
+use Rattle.copy_runs.specs.Runs.{Clusters}
+use Rattle.copy_command.specs.Files.{LacksMemory}
 use Rattle.data_stream.specs.Statuses.{IsRefusal, Reason, status_by}
 use Rattle.data_stream.specs.Statuses.{BadProperties, BadWords, Damaged, Done, NoMemory, ReadFailed, Refused, Spent, StoreFailed, TooLong, VaultFailed, WriteFailed}
 
@@ -35,11 +46,6 @@ pub record Around : Type 1 where
   pub vault' : VaultState
   pub copies : VaultState
   pub copies' : VaultState
-
--- a copy ran, and did this by its texts
-abbrev pub Ran : Around → (same_disk same : Type 0) (from to : List ℕ) (written now : Option (List ℕ)) → ℕ → Type 0
-Ran s same_disk same from to written now status =
-    CopiesByFile same_disk same from to s.disk s.disk' s.backup s.backup' s.acls s.acls' s.words s.words' s.vault s.vault' s.copies s.copies' written now status
 
 -- Under properties that were read, all logs were opened, and the copy ended with a refusal.
 pub record CopyRefused (s : Around) (from to : List ℕ) (written now : Option (List ℕ)) (status : ℕ) : Type 0 where
@@ -70,9 +76,41 @@ IsGoodFor s from to written now status TooLong = ⊥
 abbrev pub HasReasonFor : Around → (from to : List ℕ) (written now : Option (List ℕ)) → ℕ → Type 0
 HasReasonFor s from to written now status = (reason : Reason) × (status ≡ status_by reason) × IsGoodFor s from to written now status reason
 
--- The exit status of a copy has a good reason: a disk, the properties, the output or a vault failed only where the copy's own clauses say so.
-abbrev pub CopiesEndForReasons : Type 1
-CopiesEndForReasons =
-    (s : Around) (same_disk same : Type 0) (from to : List ℕ) (written now : Option (List ℕ)) (status : ℕ)
-    → Ran s same_disk same from to written now status → (status ≡ 5 → s.disk_failed) → (status ≡ 7 → s.properties_failed) → (status ≡ 8 → s.output_failed) → (status ≡ 12 → s.vault_failed) → (status ≡ 13 → ⊥)
-    → HasReasonFor s from to written now status
+-- if the order is a copy, this holds of its texts
+abbrev pub OfCopy : Result CopyOrder OrderFault → (List ℕ → List ℕ → Type 0) → Type 0
+OfCopy (Ok (Copy source target)) Holds = Holds source target
+OfCopy _ Holds = ⊤
+
+module _ {D V E U K W C A : Type 0} (of_disk : disks.Ghosts D) (of_vault : vaults.Ghosts V) (of_backup : disks.Ghosts E) (of_copies : vaults.Ghosts U) (of_out : sinks.Ghosts K) (of_rand : random.Ghosts W) (of_acls : sources.Ghosts A)
+    (old new : Clusters D V E U K W C) (acls acls' : A) where
+  abbrev pub around : Around
+  around = record {
+    disk_failed = Rose (of_disk.state old.disk).faults (of_disk.state new.disk).faults ⊎ Rose (of_backup.state old.backup).faults (of_backup.state new.backup).faults;
+    properties_failed = Rose (of_acls.faults acls) (of_acls.faults acls');
+    output_failed = Rose (of_out.faults old.out) (of_out.faults new.out);
+    vault_failed = VaultsFailed (of_vault.state old.vault) (of_vault.state new.vault) (of_copies.state old.copies) (of_copies.state new.copies);
+    disk = of_disk.state old.disk;
+    disk' = of_disk.state new.disk;
+    backup = of_backup.state old.backup;
+    backup' = of_backup.state new.backup;
+    acls = of_acls.left acls;
+    acls' = of_acls.left acls';
+    words = of_rand.to_come old.rand;
+    words' = of_rand.to_come new.rand;
+    vault = of_vault.state old.vault;
+    vault' = of_vault.state new.vault;
+    copies = of_copies.state old.copies;
+    copies' = of_copies.state new.copies;
+  }
+
+  -- the status of a copy has a good reason
+  abbrev pub CopyHasReason : List ℕ → List ℕ → ℕ → Type 0
+  CopyHasReason source target status = HasReasonFor around source target (of_out.written old.out) (of_out.written new.out) status
+
+  -- that of an order has one if it is a copy
+  abbrev pub OrderHasReason : Result CopyOrder OrderFault → ℕ → Type 0
+  OrderHasReason order status = OfCopy order (λ source target. CopyHasReason source target status)
+
+  -- or there is no memory to read the words
+  abbrev pub ReasonByWords : List ℕ → List ℕ → ℕ → Type 0
+  ReasonByWords source target status = CopyHasReason source target status ⊎ LacksMemory of_out old new acls acls' status

@@ -18,13 +18,16 @@ use Rattle.raw_copy.specs.declared.backup.CopyFault.{CopyFault}
 use Rattle.raw_copy.specs.declared.backup.CopyFault.TheVariants.{End, Start}
 use Rattle.raw_copy.specs.Copies.{CopiesOver, not_started}
 use Rattle.copy_ends.specs.Ends.{ShowsLine, copied_line, start_line, start_status}
-use Rattle.copy_runs.specs.Commands.{ClosesCopy, CopiesOnDisks, CopiesUnder, CopiesWith, table_in}
-use Rattle.data_stream.specs.Commands.{CannotOpen, RefusesProperties}
+use Rattle.copy_runs.specs.Commands.{ClosesCopy, CopiesByFile, CopiesOnDisks, CopiesUnder, table_in}
 use Rattle.data_stream.specs.Ends.{status_of}
 use Rattle.data_stream.specs.Runs.{last_world, world_before}
 use Rattle.data_stream.specs.Statuses.{BadProperties, Damaged, Done, NoMemory, ReadFailed, Refused, Spent, StoreFailed, VaultFailed, WriteFailed}
 use Rattle.data_stream.proofs.StatusLemmas.{Either, closes_either, reports_either}
-use Rattle.copy_laws.specs.Reasons.{Around, CopiesEndForReasons, HasReasonFor}
+use Rattle.clap_lines.specs.declared.told.OrderFault.{OrderFault}
+use Rattle.clap_lines.specs.declared.told.OrderFault.TheVariants as fault
+use Rattle.copy_command_line.specs.declared.order.CopyOrder.{CopyOrder}
+use Rattle.copy_command_line.specs.declared.order.CopyOrder.TheVariants.{Copy}
+use Rattle.copy_command.specs.Reasons.{Around, HasReasonFor, OfCopy}
 
 shows_either : (line : List ℕ) (own : ℕ) (written now : Option (List ℕ)) (status : ℕ) → ShowsLine line own written now status → Either own status
 shows_either line own written now status (inl (inl shown)) = inl shown.0
@@ -102,8 +105,16 @@ module _ (s : Around) (from to : List ℕ) (written now : Option (List ℕ)) (st
       by_either (replay_status (ended_by bad.file bad.fault)) (reports_either (ended_by bad.file bad.fault) written now status bad.reports) (start_good bad.file bad.fault bad.not_opened)
   under props same read (inr c) = on props read c c.ended refl c.closes
 
-pub copies_end : CopiesEndForReasons
-copies_end s same_disk same from to written now status (inl bad) disk properties output vault long =
-    by_either s from to written now status disk properties output vault long (replay_status (ended_by_props bad.fault)) (reports_either (ended_by_props bad.fault) written now status bad.reports)
-    (props_good s from to written now status disk properties output vault long bad.fault bad.has_fault)
-copies_end s same_disk same from to written now status (inr with) disk properties output vault long = under s from to written now status disk properties output vault long with.props same with.read with.copy
+  -- the exit status of a copy that did this has a good reason
+  pub copies_end : (same_disk same : Type 0) → CopiesByFile same_disk same from to s.disk s.disk' s.backup s.backup' s.acls s.acls' s.words s.words' s.vault s.vault' s.copies s.copies' written now status → Good
+  copies_end same_disk same (inl bad) = by_either (replay_status (ended_by_props bad.fault)) (reports_either (ended_by_props bad.fault) written now status bad.reports) (props_good bad.fault bad.has_fault)
+  copies_end same_disk same (inr with) = under with.props same with.read with.copy
+
+pub copy_is : (Holds : List ℕ → List ℕ → Type 0) (order : Result CopyOrder OrderFault) (source target : List ℕ) → order ≡ Ok (Copy source target) → Holds source target → OfCopy order Holds
+copy_is Holds order source target is holds = subst (λ (o : Result CopyOrder OrderFault). OfCopy o Holds) (sym is) holds
+
+-- what holds of a copy holds of an order that is this copy, or there is no memory to read the words
+pub copy_so : (Holds : List ℕ → List ℕ → Type 0) (Lacks : Type 0) (order : Result CopyOrder OrderFault) (source target : List ℕ) → (order ≡ Ok (Copy source target)) ⊎ (order ≡ Err fault.NoMemory) → OfCopy order Holds → (order ≡ Err fault.NoMemory → Lacks)
+    → Holds source target ⊎ Lacks
+copy_so Holds Lacks order source target (inl is) holds lacks = inl (subst (λ (o : Result CopyOrder OrderFault). OfCopy o Holds) is holds)
+copy_so Holds Lacks order source target (inr none) holds lacks = inr (lacks none)
