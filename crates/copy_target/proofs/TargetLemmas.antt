@@ -82,45 +82,45 @@ finish_ends : {T : Type 0} (result : Result T FsEnd) (store vault : Type 0) (cau
 finish_ends (Ok done) store vault cause refused fails fault caused so = tt
 finish_ends (Err why) store vault cause refused fails fault caused so = ends-failed store vault refused why fails (λ is. fault (ap Err is)) (inr (so why caused))
 
-module _ {S E : Type 0} (refuses : S → S → FsEnd → Type 0) (replies : S → KeyName → KmsReply → S → Type 0) (disk : E → DiskState) (s s' : S) (e e' : E) (r r' : RunningNames) where
+module _ {S E : Type 0} (refuses : S → S → FsEnd → Type 0) (replies : S → KeyName → KmsReply → S → Type 0) (disk : E → DiskState) (user : Text) (s s' : S) (e e' : E) (r r' : RunningNames) where
   abbrev Refused : FsEnd → Type 0
-  Refused why = PartsRefuse refuses replies disk s s' e e' r r' why
+  Refused why = PartsRefuse refuses replies disk user s s' e e' r r' why
 
   -- the first order was refused
-  first : (why : FsEnd) → NamesRefuse (RepliedTo replies s s') (disk e) (disk e') r r' why → Refused why
+  first : (why : FsEnd) → NamesRefuse user (RepliedTo replies s s') (disk e) (disk e') r r' why → Refused why
   first why refused = inr (record { mid = e; names = r; orders = no_orders (disk e) r; refused = refused })
 
   -- or the one after an ask
-  then : (mid : RunningNames) (user : Text) (a : Ask) (why : FsEnd) → OnlyAsks user a r mid → NamesRefuse (RepliedTo replies s s') (disk e) (disk e') mid r' why → Refused why
-  then mid user a why only refused = inr (record { mid = e; names = mid; orders = ask_orders (disk e) user a r mid only; refused = refused })
+  then : (mid : RunningNames) (a : Ask) (why : FsEnd) → OnlyAsks user a r mid → NamesRefuse user (RepliedTo replies s s') (disk e) (disk e') mid r' why → Refused why
+  then mid a why only refused = inr (record { mid = e; names = mid; orders = ask_orders (disk e) user a r mid only; refused = refused })
 
   -- the source was read
-  pub read_ends : {T : Type 0} (result : Result T FsEnd) (store vault : Type 0) → IfErr result (EndsFor ⊥ ⊥ (refuses s s')) → IfErr result (EndsFor store vault (PartsRefuse refuses replies disk s s' e e' r r'))
+  pub read_ends : {T : Type 0} (result : Result T FsEnd) (store vault : Type 0) → IfErr result (EndsFor ⊥ ⊥ (refuses s s')) → IfErr result (EndsFor store vault (PartsRefuse refuses replies disk user s s' e e' r r'))
   read_ends (Ok done) store vault ends = tt
   read_ends (Err why) store vault ends = ends-so ⊥ ⊥ store vault (refuses s s') Refused why (λ h. absurd h) (λ h. absurd h) (λ h. inl h) ends
 
   module _ {T : Type 0} (result : Result T FsEnd) (store vault : Type 0) (fails : IfErr result IsFailure) (fault : IsErrOf result end.StoreFault → store) where
-    pub look_ends : (user : Text) (path : NPath) → IfErr result (NoMemoryOr (CallRefused (disk e) (disk e') r r' user (info_at path))) → IfErr result (EndsFor store vault (PartsRefuse refuses replies disk s s' e e' r r'))
-    look_ends user path cause = order_ends result store vault (CallRefused (disk e) (disk e') r r' user (info_at path)) Refused fails fault cause (λ why refused. first why (LookRefused user path refused))
+    pub look_ends : (path : NPath) → IfErr result (NoMemoryOr (CallRefused (disk e) (disk e') r r' user (info_at path))) → IfErr result (EndsFor store vault (PartsRefuse refuses replies disk user s s' e e' r r'))
+    look_ends path cause = order_ends result store vault (CallRefused (disk e) (disk e') r r' user (info_at path)) Refused fails fault cause (λ why refused. first why (LookRefused path refused))
 
-    pub make_ends : (user : Text) (path : NPath) → IfErr result (NoMemoryOr (CallRefused (disk e) (disk e') r r' user (call.Mkdir path))) → IfErr result (EndsFor store vault (PartsRefuse refuses replies disk s s' e e' r r'))
-    make_ends user path cause = order_ends result store vault (CallRefused (disk e) (disk e') r r' user (call.Mkdir path)) Refused fails fault cause (λ why refused. first why (DirectoryRefused user path refused))
+    pub make_ends : (path : NPath) → IfErr result (NoMemoryOr (CallRefused (disk e) (disk e') r r' user (call.Mkdir path))) → IfErr result (EndsFor store vault (PartsRefuse refuses replies disk user s s' e e' r r'))
+    make_ends path cause = order_ends result store vault (CallRefused (disk e) (disk e') r r' user (call.Mkdir path)) Refused fails fault cause (λ why refused. first why (DirectoryRefused path refused))
 
-    pub ask_zone_ends : (user : Text) (path : NPath) (key : KeyName) → IfErr result (NoMemoryOr (AskRefused r r' user (ask.Zone path key))) → IfErr result (EndsFor store vault (PartsRefuse refuses replies disk s s' e e' r r'))
-    ask_zone_ends user path key cause = order_ends result store vault (AskRefused r r' user (ask.Zone path key)) Refused fails fault cause (λ why refused. first why (ZoneAskRefused user path key refused))
+    pub ask_zone_ends : (path : NPath) (key : KeyName) → IfErr result (NoMemoryOr (AskRefused r r' user (ask.Zone path key))) → IfErr result (EndsFor store vault (PartsRefuse refuses replies disk user s s' e e' r r'))
+    ask_zone_ends path key cause = order_ends result store vault (AskRefused r r' user (ask.Zone path key)) Refused fails fault cause (λ why refused. first why (ZoneAskRefused path key refused))
 
-    pub ask_file_ends : (user : Text) (path : NPath) → IfErr result (NoMemoryOr (AskRefused r r' user (ask.Create path))) → IfErr result (EndsFor store vault (PartsRefuse refuses replies disk s s' e e' r r'))
-    ask_file_ends user path cause = order_ends result store vault (AskRefused r r' user (ask.Create path)) Refused fails fault cause (λ why refused. first why (FileAskRefused user path refused))
+    pub ask_file_ends : (path : NPath) → IfErr result (NoMemoryOr (AskRefused r r' user (ask.Create path))) → IfErr result (EndsFor store vault (PartsRefuse refuses replies disk user s s' e e' r r'))
+    ask_file_ends path cause = order_ends result store vault (AskRefused r r' user (ask.Create path)) Refused fails fault cause (λ why refused. first why (FileAskRefused path refused))
 
-    pub zone_ends : (mid : RunningNames) (user : Text) (a : Ask) (id : ℕ) (key : KeyName) (reply : KmsReply) → OnlyAsks user a r mid → replies s key reply s' → IfErr result (FinishRefused (disk e) (disk e') mid r' id (answer_of (Some reply)))
-        → IfErr result (EndsFor store vault (PartsRefuse refuses replies disk s s' e e' r r'))
-    zone_ends mid user a id key reply only replied cause =
-        finish_ends result store vault (FinishRefused (disk e) (disk e') mid r' id (answer_of (Some reply))) Refused fails fault cause (λ why refused. then mid user a why only (ZoneRefused id reply (key, replied) refused))
+    pub zone_ends : (mid : RunningNames) (a : Ask) (id : ℕ) (key : KeyName) (reply : KmsReply) → OnlyAsks user a r mid → replies s key reply s' → IfErr result (FinishRefused (disk e) (disk e') mid r' id (answer_of (Some reply)))
+        → IfErr result (EndsFor store vault (PartsRefuse refuses replies disk user s s' e e' r r'))
+    zone_ends mid a id key reply only replied cause =
+        finish_ends result store vault (FinishRefused (disk e) (disk e') mid r' id (answer_of (Some reply))) Refused fails fault cause (λ why refused. then mid a why only (ZoneRefused id reply (key, replied) refused))
 
-    pub file_ends : (mid : RunningNames) (user : Text) (a : Ask) (id : ℕ) (edek : Option Edek) → OnlyAsks user a r mid → IfErr result (FinishRefused (disk e) (disk e') mid r' id (answer.Given edek))
-        → IfErr result (EndsFor store vault (PartsRefuse refuses replies disk s s' e e' r r'))
-    file_ends mid user a id edek only cause =
-        finish_ends result store vault (FinishRefused (disk e) (disk e') mid r' id (answer.Given edek)) Refused fails fault cause (λ why refused. then mid user a why only (FileRefused id edek refused))
+    pub file_ends : (mid : RunningNames) (a : Ask) (id : ℕ) (edek : Option Edek) → OnlyAsks user a r mid → IfErr result (FinishRefused (disk e) (disk e') mid r' id (answer.Given edek))
+        → IfErr result (EndsFor store vault (PartsRefuse refuses replies disk user s s' e e' r r'))
+    file_ends mid a id edek only cause =
+        finish_ends result store vault (FinishRefused (disk e) (disk e') mid r' id (answer.Given edek)) Refused fails fault cause (λ why refused. then mid a why only (FileRefused id edek refused))
 
 -- the key management service has no fault of its disk
 pub only_names : (given : KmsReply) (result : Result KmsReply FsEnd) (fault : Type 0) → (result ≡ Ok (key_reply.Refused key_refusal.StoreFault) → ⊥) → result ≡ Ok given → fault ⊎ IsFaultOfKeys given → fault

@@ -41,6 +41,7 @@ pub record HoldsSame {S E V U : Type 0} (old new : BothClusters S E V U) : Type 
   pub backup : new.backup.ghost_name ≡ old.backup.ghost_name
   pub vault : new.vault.ghost_name ≡ old.vault.ghost_name
   pub copies : new.copies.ghost_name ≡ old.copies.ghost_name
+  pub user : new.user.now ≡ old.user.now
 
 -- The source was read, and changes of the target were made.
 pub record WorksOn {S E V U : Type 0} (follows : S → S → Type 0) (disk : E → DiskState) (vault : V → VaultState) (copies : U → VaultState) (old new : BothClusters S E V U) : Type 0 where
@@ -77,25 +78,25 @@ pub record KnowsKey {S : Type 0} (replies : S → KeyName → KmsReply → S →
 abbrev pub RepliedTo : {S : Type 0} → (S → KeyName → KmsReply → S → Type 0) → S → S → KmsReply → Type 0
 RepliedTo replies old new reply = (key : KeyName) × replies old key reply new
 
--- The namesystem refused an order of a copy: a call, an ask, or to finish one. An ask for a zone was finished with a reply that was given.
-pub data NamesRefuse (given : KmsReply → Type 0) (disk disk' : DiskState) (r r' : RunningNames) (why : FsEnd) : Type 0 where
-  LookRefused : (user : Text) (path : NPath) → CallRefused disk disk' r r' user (info_at path) why → NamesRefuse given disk disk' r r' why
-  DirectoryRefused : (user : Text) (path : NPath) → CallRefused disk disk' r r' user (call.Mkdir path) why → NamesRefuse given disk disk' r r' why
-  ZoneAskRefused : (user : Text) (path : NPath) (key : KeyName) → AskRefused r r' user (ask.Zone path key) why → NamesRefuse given disk disk' r r' why
-  FileAskRefused : (user : Text) (path : NPath) → AskRefused r r' user (ask.Create path) why → NamesRefuse given disk disk' r r' why
-  ZoneRefused : (id : ℕ) (reply : KmsReply) → given reply → FinishRefused disk disk' r r' id (answer_of (Some reply)) why → NamesRefuse given disk disk' r r' why
-  FileRefused : (id : ℕ) (edek : Option Edek) → FinishRefused disk disk' r r' id (answer.Given edek) why → NamesRefuse given disk disk' r r' why
+-- The namesystem refused an order of a user for a copy: a call, an ask, or to finish one. An ask for a zone was finished with a reply that was given.
+pub data NamesRefuse (user : Text) (given : KmsReply → Type 0) (disk disk' : DiskState) (r r' : RunningNames) (why : FsEnd) : Type 0 where
+  LookRefused : (path : NPath) → CallRefused disk disk' r r' user (info_at path) why → NamesRefuse user given disk disk' r r' why
+  DirectoryRefused : (path : NPath) → CallRefused disk disk' r r' user (call.Mkdir path) why → NamesRefuse user given disk disk' r r' why
+  ZoneAskRefused : (path : NPath) (key : KeyName) → AskRefused r r' user (ask.Zone path key) why → NamesRefuse user given disk disk' r r' why
+  FileAskRefused : (path : NPath) → AskRefused r r' user (ask.Create path) why → NamesRefuse user given disk disk' r r' why
+  ZoneRefused : (id : ℕ) (reply : KmsReply) → given reply → FinishRefused disk disk' r r' id (answer_of (Some reply)) why → NamesRefuse user given disk disk' r r' why
+  FileRefused : (id : ℕ) (edek : Option Edek) → FinishRefused disk disk' r r' id (answer.Given edek) why → NamesRefuse user given disk disk' r r' why
 
 -- Orders were done, and then the namesystem refused one.
-pub record TargetRefuses {E : Type 0} (disk : E → DiskState) (given : KmsReply → Type 0) (old new : E) (r r' : RunningNames) (why : FsEnd) : Type 0 where
+pub record TargetRefuses {E : Type 0} (disk : E → DiskState) (user : Text) (given : KmsReply → Type 0) (old new : E) (r r' : RunningNames) (why : FsEnd) : Type 0 where
   pub mid : E
   pub names : RunningNames
   pub orders : OrdersNames (disk old) (disk mid) r names
-  pub refused : NamesRefuse given (disk mid) (disk new) names r' why
+  pub refused : NamesRefuse user given (disk mid) (disk new) names r' why
 
 -- the source refused, or the namesystem that gets the copy did
-abbrev pub PartsRefuse : {S E : Type 0} → (S → S → FsEnd → Type 0) → (S → KeyName → KmsReply → S → Type 0) → (E → DiskState) → (source source' : S) (old new : E) (r r' : RunningNames) → FsEnd → Type 0
-PartsRefuse refuses replies disk source source' old new r r' why = refuses source source' why ⊎ TargetRefuses disk (RepliedTo replies source source') old new r r' why
+abbrev pub PartsRefuse : {S E : Type 0} → (S → S → FsEnd → Type 0) → (S → KeyName → KmsReply → S → Type 0) → (E → DiskState) → (user : Text) (source source' : S) (old new : E) (r r' : RunningNames) → FsEnd → Type 0
+PartsRefuse refuses replies disk user source source' old new r r' why = refuses source source' why ⊎ TargetRefuses disk user (RepliedTo replies source source') old new r r' why
 
 abbrev pub BothRefuse : {S E V U : Type 0} → (S → S → FsEnd → Type 0) → (S → KeyName → KmsReply → S → Type 0) → (E → DiskState) → (old new : BothClusters S E V U) → FsEnd → Type 0
-BothRefuse refuses replies disk old new why = PartsRefuse refuses replies disk old.source.now new.source.now old.backup.now new.backup.now old.names.now new.names.now why
+BothRefuse refuses replies disk old new why = PartsRefuse refuses replies disk old.user.now old.source.now new.source.now old.backup.now new.backup.now old.names.now new.names.now why

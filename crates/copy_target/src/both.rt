@@ -40,6 +40,7 @@ impl<'a, S, E, V, U> BothClusters<'a, S, E, V, U> {
         vault: &'a mut V,
         copies: &'a mut U,
     ) -> BothClusters<'a, S, E, V, U>
+        ensures user { result.user.now ≡ user.now }
         ensures source { (result.source.ghost_name ≡ source.entry.ghost_name) ×
             (result.source.now ≡ source.old) }
         ensures names { (result.names.ghost_name ≡ names.entry.ghost_name) ×

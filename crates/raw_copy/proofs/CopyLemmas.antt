@@ -30,7 +30,7 @@ use Rattle.kms_acls.specs.Agreement.{AreListsOf}
 use Rattle.kms_acls.specs.Lists.{Lists}
 use Rattle.backup_names.specs.Orders.{OrdersNames}
 use Rattle.backup_names.proofs.OrderLemmas.{no_orders, orders_then}
-use Rattle.copy_target.specs.Targets.{BothRefuse, DiskFails, PartsRefuse, VaultsFail, WorksOn, state_of}
+use Rattle.copy_target.specs.Targets.{BothRefuse, DiskFails, NamesRefuse, PartsRefuse, RepliedTo, VaultsFail, WorksOn, state_of}
 use Rattle.copy_target.specs.declared.both.BothClusters.{BothClusters}
 use Rattle.row_copies.specs.Clusters.{EndsFor}
 use Rattle.row_copies.specs.Copies.{CopiesAll, CopyRefused, FailsLast, Steps, WholeEnds, StopsEarly, Done, Then, is_file}
@@ -65,6 +65,7 @@ module _ {S E V U : Type 0} (follows : S → S → Type 0) (disk : E → DiskSta
       backup = y.holds.backup ∙ x.holds.backup;
       vault = y.holds.vault ∙ x.holds.vault;
       copies = y.holds.copies ∙ x.holds.copies;
+      user = y.holds.user ∙ x.holds.user;
     };
     source = steps_join follows a.source.now b.source.now c.source.now x.source y.source;
     orders = orders_then (disk a.backup.now) (disk b.backup.now) (disk c.backup.now) a.names.now b.names.now c.names.now x.orders y.orders;
@@ -74,7 +75,7 @@ module _ {S E V U : Type 0} (follows : S → S → Type 0) (disk : E → DiskSta
 
   -- steps that work on two clusters work on them
   pub worked : (a b : BothClusters S E V U) → Steps (WorksOn follows disk vault copies) a b → WorksOn follows disk vault copies a b
-  worked a b Done = record { holds = record { source = refl; names = refl; backup = refl; vault = refl; copies = refl }; source = Done; orders = no_orders (disk a.backup.now) a.names.now; vault_later = omega arith; copies_later = omega arith }
+  worked a b Done = record { holds = record { source = refl; names = refl; backup = refl; vault = refl; copies = refl; user = refl }; source = Done; orders = no_orders (disk a.backup.now) a.names.now; vault_later = omega arith; copies_later = omega arith }
   worked a b (Then m n t f) = two_works a m n (worked a m t) f
 
   -- why they ended
@@ -104,15 +105,15 @@ module _ {S E V U : Type 0} (follows : S → S → Type 0) (disk : E → DiskSta
     -- the steps before the last one are those of the source and of the namesystem
     module _ (refuses : S → S → FsEnd → Type 0) (replies : S → KeyName → KmsReply → S → Type 0) (to : List (List ℕ)) where
       refused_cause : (why : FsEnd) → CopyRefused (state_of rows vault copies) (WorksOn follows disk vault copies) (BothRefuse refuses replies disk) to a b why
-          → IntoRefused follows refuses replies disk to (state_of rows vault copies a) a.source.now b.source.now a.backup.now b.backup.now a.names.now b.names.now why
+          → IntoRefused follows refuses replies disk a.user.now to (state_of rows vault copies a) a.source.now b.source.now a.backup.now b.backup.now a.names.now b.names.now why
       refused_cause why (inr rule) = inl rule
       refused_cause why (inl f) = inr (go f.last)
         where
           w : WorksOn follows disk vault copies a f.mid
           w = worked a f.mid f.before
 
-          go : PartsRefuse refuses replies disk f.mid.source.now b.source.now f.mid.backup.now b.backup.now f.mid.names.now b.names.now why
-              → (mid : S) × Steps follows a.source.now mid × PartsRefuse refuses replies disk mid b.source.now a.backup.now b.backup.now a.names.now b.names.now why
+          go : PartsRefuse refuses replies disk f.mid.user.now f.mid.source.now b.source.now f.mid.backup.now b.backup.now f.mid.names.now b.names.now why
+              → (mid : S) × Steps follows a.source.now mid × PartsRefuse refuses replies disk a.user.now mid b.source.now a.backup.now b.backup.now a.names.now b.names.now why
           go (inl r) = (f.mid.source.now, w.source, inl r)
           go (inr t) = (
             f.mid.source.now,
@@ -121,28 +122,28 @@ module _ {S E V U : Type 0} (follows : S → S → Type 0) (disk : E → DiskSta
               mid = t.mid;
               names = t.names;
               orders = orders_then (disk a.backup.now) (disk f.mid.backup.now) (disk t.mid) a.names.now f.mid.names.now t.names w.orders t.orders;
-              refused = t.refused;
+              refused = subst (λ (user : Text). NamesRefuse user (RepliedTo replies f.mid.source.now b.source.now) (disk t.mid) (disk b.backup.now) t.names b.names.now why) w.holds.user t.refused;
             }),
           )
 
       both_end : (why : FsEnd) → WholeEnds (state_of rows vault copies) (WorksOn follows disk vault copies) (DiskFails disk) (VaultsFail vault copies) (BothRefuse refuses replies disk) to a b why
           → EndsFor (Rose (disk a.backup.now).faults (disk b.backup.now).faults) (VaultsFailed (vault a.vault.now) (vault b.vault.now) (copies a.copies.now) (copies b.copies.now))
-          (IntoRefused follows refuses replies disk to (state_of rows vault copies a) a.source.now b.source.now a.backup.now b.backup.now a.names.now b.names.now) why
+          (IntoRefused follows refuses replies disk a.user.now to (state_of rows vault copies a) a.source.now b.source.now a.backup.now b.backup.now a.names.now b.names.now) why
       both_end why e =
           ends-so (FailsLast (state_of rows vault copies) (WorksOn follows disk vault copies) (DiskFails disk) a b) (FailsLast (state_of rows vault copies) (WorksOn follows disk vault copies) (VaultsFail vault copies) a b)
           (Rose (disk a.backup.now).faults (disk b.backup.now).faults) (VaultsFailed (vault a.vault.now) (vault b.vault.now) (copies a.copies.now) (copies b.copies.now))
           (CopyRefused (state_of rows vault copies) (WorksOn follows disk vault copies) (BothRefuse refuses replies disk) to a b)
-          (IntoRefused follows refuses replies disk to (state_of rows vault copies a) a.source.now b.source.now a.backup.now b.backup.now a.names.now b.names.now) why disk_cause vault_cause (refused_cause why) e
+          (IntoRefused follows refuses replies disk a.user.now to (state_of rows vault copies a) a.source.now b.source.now a.backup.now b.backup.now a.names.now b.names.now) why disk_cause vault_cause (refused_cause why) e
 
       pub both_ends : (result : Result Copied FsEnd) → IfErr result (WholeEnds (state_of rows vault copies) (WorksOn follows disk vault copies) (DiskFails disk) (VaultsFail vault copies) (BothRefuse refuses replies disk) to a b)
           → IfErr result (EndsByCause (disk a.backup.now) (disk b.backup.now) (vault a.vault.now) (vault b.vault.now) (copies a.copies.now) (copies b.copies.now))
       both_ends (Ok counts) e = e
-      both_ends (Err why) e = ends-so (Rose (disk a.backup.now).faults (disk b.backup.now).faults) (VaultsFailed (vault a.vault.now) (vault b.vault.now) (copies a.copies.now) (copies b.copies.now)) (Rose (disk a.backup.now).faults (disk b.backup.now).faults) (VaultsFailed (vault a.vault.now) (vault b.vault.now) (copies a.copies.now) (copies b.copies.now)) (IntoRefused follows refuses replies disk to (state_of rows vault copies a) a.source.now b.source.now a.backup.now b.backup.now a.names.now b.names.now) (λ (w : FsEnd). ⊤) why (λ h. h) (λ h. h) (λ h. tt) (both_end why e)
+      both_ends (Err why) e = ends-so (Rose (disk a.backup.now).faults (disk b.backup.now).faults) (VaultsFailed (vault a.vault.now) (vault b.vault.now) (copies a.copies.now) (copies b.copies.now)) (Rose (disk a.backup.now).faults (disk b.backup.now).faults) (VaultsFailed (vault a.vault.now) (vault b.vault.now) (copies a.copies.now) (copies b.copies.now)) (IntoRefused follows refuses replies disk a.user.now to (state_of rows vault copies a) a.source.now b.source.now a.backup.now b.backup.now a.names.now b.names.now) (λ (w : FsEnd). ⊤) why (λ h. h) (λ h. h) (λ h. tt) (both_end why e)
 
       pub both_refused : (result : Result Copied FsEnd) → IfErr result (WholeEnds (state_of rows vault copies) (WorksOn follows disk vault copies) (DiskFails disk) (VaultsFail vault copies) (BothRefuse refuses replies disk) to a b)
-          → IfErr result (RefusedFor (IntoRefused follows refuses replies disk to (state_of rows vault copies a) a.source.now b.source.now a.backup.now b.backup.now a.names.now b.names.now))
+          → IfErr result (RefusedFor (IntoRefused follows refuses replies disk a.user.now to (state_of rows vault copies a) a.source.now b.source.now a.backup.now b.backup.now a.names.now b.names.now))
       both_refused (Ok counts) e = e
-      both_refused (Err why) e = ends-so (Rose (disk a.backup.now).faults (disk b.backup.now).faults) (VaultsFailed (vault a.vault.now) (vault b.vault.now) (copies a.copies.now) (copies b.copies.now)) ⊤ ⊤ (IntoRefused follows refuses replies disk to (state_of rows vault copies a) a.source.now b.source.now a.backup.now b.backup.now a.names.now b.names.now) (IntoRefused follows refuses replies disk to (state_of rows vault copies a) a.source.now b.source.now a.backup.now b.backup.now a.names.now b.names.now) why (λ h. tt) (λ h. tt) (λ h. h) (both_end why e)
+      both_refused (Err why) e = ends-so (Rose (disk a.backup.now).faults (disk b.backup.now).faults) (VaultsFailed (vault a.vault.now) (vault b.vault.now) (copies a.copies.now) (copies b.copies.now)) ⊤ ⊤ (IntoRefused follows refuses replies disk a.user.now to (state_of rows vault copies a) a.source.now b.source.now a.backup.now b.backup.now a.names.now b.names.now) (IntoRefused follows refuses replies disk a.user.now to (state_of rows vault copies a) a.source.now b.source.now a.backup.now b.backup.now a.names.now b.names.now) why (λ h. tt) (λ h. tt) (λ h. h) (both_end why e)
 
 none_before : (k : ℕ) → 0 + k ≡ k
 none_before k = omega arith

@@ -2,6 +2,7 @@
 use Rattle.std.proofs.Common.{◌≡◌, ◌⊎◌, inl, inr, ℕ, List, [], Some, refl, sym, subst}
 use Rattle.std.specs.Prelude.{Result, Ok, Err, IfErr, ⊤}
 use Rattle.hk_base.specs.Disk.{DiskState}
+use Rattle.hk_base.specs.declared.texts.Text.{Text}
 use Rattle.body_stream.specs.Vaults.{VaultState}
 use Rattle.copy_target.specs.Targets.{DirectoryRefused, FileAskRefused, FileRefused, LookRefused, NamesRefuse, PartsRefuse, RepliedTo, TargetRefuses, ZoneAskRefused, ZoneRefused as FinishZoneRefused}
 use Rattle.file_orders.specs.Events.{Leading}
@@ -44,16 +45,16 @@ end_so refused refused' why so e = ends-so ⊤ ⊤ ⊤ ⊤ refused refused' why 
 
 -- ---- orders of the namesystem
 
-module _ {E : Type 0} (disk : E → DiskState) (old new : E) (r r' : RunningNames) (why : FsEnd) (given given' : KmsReply → Type 0) (so : (reply : KmsReply) → given reply → given' reply) where
-  order_so : (d d' : DiskState) (s s' : RunningNames) → NamesRefuse given d d' s s' why → NamesRefuse given' d d' s s' why
-  order_so d d' s s' (LookRefused user path refused) = LookRefused user path refused
-  order_so d d' s s' (DirectoryRefused user path refused) = DirectoryRefused user path refused
-  order_so d d' s s' (ZoneAskRefused user path key refused) = ZoneAskRefused user path key refused
-  order_so d d' s s' (FileAskRefused user path refused) = FileAskRefused user path refused
+module _ {E : Type 0} (disk : E → DiskState) (user : Text) (old new : E) (r r' : RunningNames) (why : FsEnd) (given given' : KmsReply → Type 0) (so : (reply : KmsReply) → given reply → given' reply) where
+  order_so : (d d' : DiskState) (s s' : RunningNames) → NamesRefuse user given d d' s s' why → NamesRefuse user given' d d' s s' why
+  order_so d d' s s' (LookRefused path refused) = LookRefused path refused
+  order_so d d' s s' (DirectoryRefused path refused) = DirectoryRefused path refused
+  order_so d d' s s' (ZoneAskRefused path key refused) = ZoneAskRefused path key refused
+  order_so d d' s s' (FileAskRefused path refused) = FileAskRefused path refused
   order_so d d' s s' (FinishZoneRefused id reply told refused) = FinishZoneRefused id reply (so reply told) refused
   order_so d d' s s' (FileRefused id edek refused) = FileRefused id edek refused
 
-  target_so : TargetRefuses disk given old new r r' why → TargetRefuses disk given' old new r r' why
+  target_so : TargetRefuses disk user given old new r r' why → TargetRefuses disk user given' old new r r' why
   target_so t = record { mid = t.mid; names = t.names; orders = t.orders; refused = order_so (disk t.mid) (disk new) t.names r' t.refused }
 
 -- ---- the rows that are read
@@ -62,8 +63,8 @@ pub as_in : {D W : Type 0} (state : D → DiskState) (to_come : W → ℕ → �
 as_in state to_come now a b Done = Done
 as_in state to_come now a b (Then m n t f) = Then m n (as_in state to_come now a m t) f
 
-module _ {D W E : Type 0} (state : D → DiskState) (to_come : W → ℕ → ℕ) (disk : E → DiskState) (to : List (List ℕ)) (s : CopyState) (a b : WorldRows D W) (can : CanRead state a) (old new : E) (r r' : RunningNames) where
-  seen_so : (why : FsEnd) → IntoRefused (ReadsOn state to_come) (RefusesTo state to_come) (RepliesTo state to_come) disk to s a b old new r r' why → SeenRefused state to_come disk to s a b old new r r' why
+module _ {D W E : Type 0} (state : D → DiskState) (to_come : W → ℕ → ℕ) (disk : E → DiskState) (user : Text) (to : List (List ℕ)) (s : CopyState) (a b : WorldRows D W) (can : CanRead state a) (old new : E) (r r' : RunningNames) where
+  seen_so : (why : FsEnd) → IntoRefused (ReadsOn state to_come) (RefusesTo state to_come) (RepliesTo state to_come) disk user to s a b old new r r' why → SeenRefused state to_come disk user to s a b old new r r' why
   seen_so why (inl rule) = inl rule
   seen_so why (inr (mid, steps, refused)) = inr (standing_of mid.events, as_in state to_come a.events.now (standing_of a.events) (standing_of mid.events) x.read.events, go refused)
     where
@@ -73,26 +74,26 @@ module _ {D W E : Type 0} (state : D → DiskState) (to_come : W → ℕ → ℕ
       same : mid.events.now ≡ a.events.now
       same = let h = x.holds in h.1.1.1
 
-      go : PartsRefuse (RefusesTo state to_come) (RepliesTo state to_come) disk mid b old new r r' why
-          → ReadRefused state to_come a.events.now (standing_of mid.events) (standing_of b.events) why ⊎ TargetRefuses disk (KeyToldIn (LeadsAt state to_come a.events.now) (standing_of mid.events) (standing_of b.events)) old new r r' why
+      go : PartsRefuse (RefusesTo state to_come) (RepliesTo state to_come) disk user mid b old new r r' why
+          → ReadRefused state to_come a.events.now (standing_of mid.events) (standing_of b.events) why ⊎ TargetRefuses disk user (KeyToldIn (LeadsAt state to_come a.events.now) (standing_of mid.events) (standing_of b.events)) old new r r' why
       go (inl own) = inl (subst (λ (n : ℕ). ReadRefused state to_come n (standing_of mid.events) (standing_of b.events) why) same own)
       go (inr t) =
-          inr (target_so disk old new r r' why (RepliedTo (RepliesTo state to_come) mid b) (KeyToldIn (LeadsAt state to_come a.events.now) (standing_of mid.events) (standing_of b.events))
+          inr (target_so disk user old new r r' why (RepliedTo (RepliesTo state to_come) mid b) (KeyToldIn (LeadsAt state to_come a.events.now) (standing_of mid.events) (standing_of b.events))
           (λ reply told. (told.0, subst (λ (n : ℕ). LeadsAt state to_come n (standing_of mid.events) (event.Kms superuser (call.Metadata told.0)) (line.Kms reply) (standing_of b.events)) same told.1)) t)
 
-  pub seen_refused : {T : Type 0} (result : Result T FsEnd) → IfErr result (RefusedFor (IntoRefused (ReadsOn state to_come) (RefusesTo state to_come) (RepliesTo state to_come) disk to s a b old new r r'))
-      → IfErr result (RefusedFor (SeenRefused state to_come disk to s a b old new r r'))
-  seen_refused result e = refused_so result (IntoRefused (ReadsOn state to_come) (RefusesTo state to_come) (RepliesTo state to_come) disk to s a b old new r r') (SeenRefused state to_come disk to s a b old new r r') seen_so e
+  pub seen_refused : {T : Type 0} (result : Result T FsEnd) → IfErr result (RefusedFor (IntoRefused (ReadsOn state to_come) (RefusesTo state to_come) (RepliesTo state to_come) disk user to s a b old new r r'))
+      → IfErr result (RefusedFor (SeenRefused state to_come disk user to s a b old new r r'))
+  seen_refused result e = refused_so result (IntoRefused (ReadsOn state to_come) (RefusesTo state to_come) (RepliesTo state to_come) disk user to s a b old new r r') (SeenRefused state to_come disk user to s a b old new r r') seen_so e
 
 -- the same of the services that the rows were made of
-module _ {T D W E : Type 0} (state : D → DiskState) (to_come : W → ℕ → ℕ) (disk : E → DiskState) (to : NPath) (vault copies : VaultState) (names : RunningNames) (old new : E) (r' : RunningNames) (result : Result T FsEnd) (s s' : WorldRows D W) where
+module _ {T D W E : Type 0} (state : D → DiskState) (to_come : W → ℕ → ℕ) (disk : E → DiskState) (user : Text) (to : NPath) (vault copies : VaultState) (names : RunningNames) (old new : E) (r' : RunningNames) (result : Result T FsEnd) (s s' : WorldRows D W) where
   abbrev RowsAsked : ReadPath → ℕ → (a b : Standing D W) → Type 0
   RowsAsked place now a b = IfErr result (RefusedFor (RowsRefused (LeadsAt state to_come now) disk place to (copying (table_of a.world) vault names copies) a b old new r'))
 
-  pub rows_refused : (place : ReadPath) (now : ℕ) (d d' : D) (w w' : RunningWorld) (x x' : W) → s.place.now ≡ place → s.events.now ≡ now → s.events.disk.now ≡ d → s.events.world.now ≡ w → s.events.words.now ≡ x
-      → s'.events.disk.now ≡ d' → s'.events.world.now ≡ w' → s'.events.words.now ≡ x' → IfErr result (RefusedFor (SeenRefused state to_come disk to (copy_state (rows_seen s) vault names copies) s s' old new names r'))
+  pub rows_refused : (place : ReadPath) (now : ℕ) (d d' : D) (w w' : RunningWorld) (x x' : W) → user ≡ superuser → s.place.now ≡ place → s.events.now ≡ now → s.events.disk.now ≡ d → s.events.world.now ≡ w → s.events.words.now ≡ x
+      → s'.events.disk.now ≡ d' → s'.events.world.now ≡ w' → s'.events.words.now ≡ x' → IfErr result (RefusedFor (SeenRefused state to_come disk user to (copy_state (rows_seen s) vault names copies) s s' old new names r'))
       → IfErr result (RefusedFor (RowsRefused (LeadsAt state to_come now) disk place to (copying (table_of w) vault names copies) (standing d w x) (standing d' w' x') old new r'))
-  rows_refused place now d d' w w' x x' e1 e2 e3 e4 e5 e6 e7 e8 e =
+  rows_refused place now d d' w w' x x' is_user e1 e2 e3 e4 e5 e6 e7 e8 e =
       subst (λ (v : ReadPath). RowsAsked v now (standing d w x) (standing d' w' x')) e1
       (subst (λ (v : ℕ). RowsAsked s.place.now v (standing d w x) (standing d' w' x')) e2
       (subst (λ (v : D). RowsAsked s.place.now s.events.now (standing v w x) (standing d' w' x')) e3
@@ -100,7 +101,7 @@ module _ {T D W E : Type 0} (state : D → DiskState) (to_come : W → ℕ → �
       (subst (λ (v : W). RowsAsked s.place.now s.events.now (standing s.events.disk.now s.events.world.now v) (standing d' w' x')) e5
       (subst (λ (v : D). RowsAsked s.place.now s.events.now (standing_of s.events) (standing v w' x')) e6
       (subst (λ (v : RunningWorld). RowsAsked s.place.now s.events.now (standing_of s.events) (standing s'.events.disk.now v x')) e7
-      (subst (λ (v : W). RowsAsked s.place.now s.events.now (standing_of s.events) (standing s'.events.disk.now s'.events.world.now v)) e8 e)))))))
+      (subst (λ (v : W). RowsAsked s.place.now s.events.now (standing_of s.events) (standing s'.events.disk.now s'.events.world.now v)) e8 (subst (λ (u : Text). IfErr result (RefusedFor (SeenRefused state to_come disk u to (copy_state (rows_seen s) vault names copies) s s' old new names r'))) is_user e))))))))
 
 -- ---- the check of the place
 
@@ -173,24 +174,24 @@ module _ {X Y : Type 0} (leads : Leading X) (others : Leading Y) (R : X → Y �
     nothing_refused P p = let w = steps_followed a b read y r in (w.0, w.1, w.2, p w.0)
 
     module _ {E : Type 0} (disk : E → DiskState) (old new : E) (s s' : RunningNames) (why : FsEnd) where
-      step_followed : StepRefused leads disk a b old new s s' why → Followed (λ (z : Y). StepRefused others disk y z old new s s' why)
+      step_followed : StepRefused leads disk superuser a b old new s s' why → Followed (λ (z : Y). StepRefused others disk superuser y z old new s s' why)
       step_followed (mid, steps, inl (e, answer, only, led, shows)) =
           let w = steps_followed a mid steps y r in
           let f = follow mid b w.0 e answer w.2 led in
           (f.0, Then w.0 f.0 w.1 (inr (e, answer, only, f.1.0)), f.1.1, (w.0, w.1, inl (e, answer, only, f.1.0, shows)))
       step_followed (mid, steps, inr t) = go t.refused
         where
-          again : (z : Y) → NamesRefuse (KeyToldIn others z z) (disk t.mid) (disk new) t.names s' why → TargetRefuses disk (KeyToldIn others z z) old new s s' why
+          again : (z : Y) → NamesRefuse superuser (KeyToldIn others z z) (disk t.mid) (disk new) t.names s' why → TargetRefuses disk superuser (KeyToldIn others z z) old new s s' why
           again z refused = record { mid = t.mid; names = t.names; orders = t.orders; refused = refused }
 
-          whole : ((z : Y) → NamesRefuse (KeyToldIn others z z) (disk t.mid) (disk new) t.names s' why) → Followed (λ (z : Y). StepRefused others disk y z old new s s' why)
+          whole : ((z : Y) → NamesRefuse superuser (KeyToldIn others z z) (disk t.mid) (disk new) t.names s' why) → Followed (λ (z : Y). StepRefused others disk superuser y z old new s s' why)
           whole refused = let w = steps_followed a b read y r in (w.0, w.1, w.2, (w.0, w.1, inr (again w.0 (refused w.0))))
 
-          go : NamesRefuse (KeyToldIn leads mid b) (disk t.mid) (disk new) t.names s' why → Followed (λ (z : Y). StepRefused others disk y z old new s s' why)
-          go (LookRefused user path refused) = whole (λ z. LookRefused user path refused)
-          go (DirectoryRefused user path refused) = whole (λ z. DirectoryRefused user path refused)
-          go (ZoneAskRefused user path key refused) = whole (λ z. ZoneAskRefused user path key refused)
-          go (FileAskRefused user path refused) = whole (λ z. FileAskRefused user path refused)
+          go : NamesRefuse superuser (KeyToldIn leads mid b) (disk t.mid) (disk new) t.names s' why → Followed (λ (z : Y). StepRefused others disk superuser y z old new s s' why)
+          go (LookRefused path refused) = whole (λ z. LookRefused path refused)
+          go (DirectoryRefused path refused) = whole (λ z. DirectoryRefused path refused)
+          go (ZoneAskRefused path key refused) = whole (λ z. ZoneAskRefused path key refused)
+          go (FileAskRefused path refused) = whole (λ z. FileAskRefused path refused)
           go (FileRefused id edek refused) = whole (λ z. FileRefused id edek refused)
           go (FinishZoneRefused id reply (key, led) refused) =
               let w = steps_followed a mid steps y r in

@@ -2,6 +2,7 @@
 use Rattle.std.specs.Prelude.{◌≡◌, ◌⊎◌, ℕ, false, List, [], Some, None, ⊤}
 use Rattle.hk_base.specs.Disk.{DiskState}
 use Rattle.hk_base.specs.declared.names.KeyName.{KeyName}
+use Rattle.hk_base.specs.declared.texts.Text.{Text}
 use Rattle.body_stream.specs.Vaults.{VaultState}
 use Rattle.copy_target.specs.Targets.{PartsRefuse, TargetRefuses}
 use Rattle.file_orders.specs.Events.{Leading}
@@ -40,8 +41,8 @@ RefusedFor refused why = EndsFor ⊤ ⊤ refused why
 -- ---- the last step
 
 -- after steps, the source refused, or the namesystem that gets the copy did; or a rule refuses the copy by what was there in the beginning
-abbrev pub IntoRefused : {S E : Type 0} → (S → S → Type 0) → (S → S → FsEnd → Type 0) → (S → KeyName → KmsReply → S → Type 0) → (E → DiskState) → (to : List (List ℕ)) (s : CopyState) (source source' : S) (old new : E) (r r' : RunningNames) → FsEnd → Type 0
-IntoRefused {S} follows refuses replies disk to s source source' old new r r' why = RuleRefuses to s why ⊎ ((mid : S) × Steps follows source mid × PartsRefuse refuses replies disk mid source' old new r r' why)
+abbrev pub IntoRefused : {S E : Type 0} → (S → S → Type 0) → (S → S → FsEnd → Type 0) → (S → KeyName → KmsReply → S → Type 0) → (E → DiskState) → (user : Text) (to : List (List ℕ)) (s : CopyState) (source source' : S) (old new : E) (r r' : RunningNames) → FsEnd → Type 0
+IntoRefused {S} follows refuses replies disk user to s source source' old new r r' why = RuleRefuses to s why ⊎ ((mid : S) × Steps follows source mid × PartsRefuse refuses replies disk user mid source' old new r r' why)
 
 -- an event that reads was answered by a refusal
 abbrev pub ReadRefusedIn : {Y : Type 0} → Leading Y → Y → Y → FsEnd → Type 0
@@ -52,17 +53,19 @@ abbrev pub KeyToldIn : {Y : Type 0} → Leading Y → Y → Y → KmsReply → T
 KeyToldIn others y z reply = (key : KeyName) × others y (event.Kms superuser (call.Metadata key)) (line.Kms reply) z
 
 -- After events that read, one was refused; or the namesystem that gets the copy refused an order.
-abbrev pub StepRefused : {Y E : Type 0} → Leading Y → (E → DiskState) → (y z : Y) (old new : E) (r r' : RunningNames) → FsEnd → Type 0
-StepRefused {Y} others disk y z old new r r' why = (mid : Y) × Steps (ReadsOnceIn others) y mid × (ReadRefusedIn others mid z why ⊎ TargetRefuses disk (KeyToldIn others mid z) old new r r' why)
+abbrev pub StepRefused : {Y E : Type 0} → Leading Y → (E → DiskState) → (user : Text) (y z : Y) (old new : E) (r r' : RunningNames) → FsEnd → Type 0
+StepRefused {Y} others disk user y z old new r r' why = (mid : Y) × Steps (ReadsOnceIn others) y mid × (ReadRefusedIn others mid z why ⊎ TargetRefuses disk user (KeyToldIn others mid z) old new r r' why)
 
 -- ---- a place
 
-abbrev pub SeenRefused : {D W E : Type 0} → (D → DiskState) → (W → ℕ → ℕ) → (E → DiskState) → (to : List (List ℕ)) (s : CopyState) (source source' : WorldRows D W) (old new : E) (r r' : RunningNames) → FsEnd → Type 0
-SeenRefused state to_come disk to s source source' old new r r' why =
-    RuleRefuses to s why ⊎ StepRefused (LeadsAt state to_come source.events.now) disk (standing_of source.events) (standing_of source'.events) old new r r' why
+-- the rows of a place were copied as this user
+abbrev pub SeenRefused : {D W E : Type 0} → (D → DiskState) → (W → ℕ → ℕ) → (E → DiskState) → (user : Text) (to : List (List ℕ)) (s : CopyState) (source source' : WorldRows D W) (old new : E) (r r' : RunningNames) → FsEnd → Type 0
+SeenRefused state to_come disk user to s source source' old new r r' why =
+    RuleRefuses to s why ⊎ StepRefused (LeadsAt state to_come source.events.now) disk user (standing_of source.events) (standing_of source'.events) old new r r' why
 
+-- the same as the superuser
 abbrev pub RowsRefused : {Y E : Type 0} → Leading Y → (E → DiskState) → (place : ReadPath) (path : NPath) (c : Copying) (y z : Y) (old new : E) (r' : RunningNames) → FsEnd → Type 0
-RowsRefused others disk place path c y z old new r' why = RuleRefuses path (state_at place c) why ⊎ StepRefused others disk y z old new c.names r' why
+RowsRefused others disk place path c y z old new r' why = RuleRefuses path (state_at place c) why ⊎ StepRefused others disk superuser y z old new c.names r' why
 
 -- the row is that of a directory without a mark, or of a file
 abbrev pub IsNoZoneRow : Row → FsEnd → Type 0

@@ -41,7 +41,7 @@ fn copy_both<'a, S: SourceRows, E: Disk, V: Vault, U: Vault>(
         (V.state both.old.vault.now) (V.state both.new.vault.now)
         (U.state both.old.copies.now) (U.state both.new.copies.now)) }
     ensures refused { IfErr result (RefusedFor (IntoRefused S.follows S.refuses S.replies E.state
-        to.now (state_of S.rows V.state U.state both.old) both.old.source.now
+        both.old.user.now to.now (state_of S.rows V.state U.state both.old) both.old.source.now
         both.new.source.now both.old.backup.now both.new.backup.now both.old.names.now
         both.new.names.now)) }
     ensures works { WorksOn S.follows E.state V.state U.state both.old both.new }
@@ -88,7 +88,8 @@ pub fn copy_into<S: SourceRows, E: Disk, V: Vault, U: Vault>(
     ensures ends { IfErr result (EndsByCause (E.state backup.old) (E.state backup.new)
         (V.state vault.old) (V.state vault.new) (U.state copies.old) (U.state copies.new)) }
     ensures refused { IfErr result (RefusedFor (IntoRefused S.follows S.refuses S.replies E.state
-        to.now (copy_state (S.rows source.old) (V.state vault.old) names.old (U.state copies.old))
+        user.now to.now
+        (copy_state (S.rows source.old) (V.state vault.old) names.old (U.state copies.old))
         source.old source.new backup.old backup.new names.old names.new)) }
     ensures source { Steps S.follows source.old source.new }
     ensures orders { OrdersNames (E.state backup.old) (E.state backup.new) names.old names.new }

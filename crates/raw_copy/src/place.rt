@@ -52,7 +52,7 @@ fn copy_seen<'a, D: Disk, W: Words, E: Disk, V: Vault, U: Vault>(
         (copy_state (rows_seen source.new) (V.state vault.new) names.new (U.state copies.new))) }
     ensures ends { IfErr result (EndsByCause (E.state backup.old) (E.state backup.new)
         (V.state vault.old) (V.state vault.new) (U.state copies.old) (U.state copies.new)) }
-    ensures refused { IfErr result (RefusedFor (SeenRefused D.state W.to_come E.state to.now
+    ensures refused { IfErr result (RefusedFor (SeenRefused D.state W.to_come E.state user.now to.now
         (copy_state (rows_seen source.old) (V.state vault.old) names.old (U.state copies.old))
         source.old source.new backup.old backup.new names.old names.new)) }
     ensures read { OnlyRead D.state W.to_come source.old.events.now

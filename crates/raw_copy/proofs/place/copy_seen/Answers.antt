@@ -21,4 +21,4 @@ returns-clause-words g c = let w = read_all g.D.Disk.state g.W.Words.to_come c.a
 
 pub returns-clause-refused : goal.returns-clause-refused
 returns-clause-refused g c =
-    seen_refused g.D.Disk.state g.W.Words.to_come g.E.Disk.state c.args.to.now (copy_state (rows_seen c.args.source.now) (g.V.Vault.state c.args.vault.now) c.args.names.now (g.U.Vault.state c.args.copies.now)) c.args.source.now c.copy_into.new.source c.requires.ready c.args.backup.now c.copy_into.new.backup c.args.names.now c.copy_into.new.names c.copy_into.result c.copy_into.ensures.refused
+    seen_refused g.D.Disk.state g.W.Words.to_come g.E.Disk.state c.args.user.now c.args.to.now (copy_state (rows_seen c.args.source.now) (g.V.Vault.state c.args.vault.now) c.args.names.now (g.U.Vault.state c.args.copies.now)) c.args.source.now c.copy_into.new.source c.requires.ready c.args.backup.now c.copy_into.new.backup c.args.names.now c.copy_into.new.names c.copy_into.result c.copy_into.ensures.refused

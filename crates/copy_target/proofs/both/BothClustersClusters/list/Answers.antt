@@ -4,8 +4,8 @@ use Rattle.copy_target.proofs.TargetLemmas.{one_step, read_ends}
 use Rattle.copy_target.proofs.both.BothClustersClusters.list.Goals as goal
 
 pub returns-clause-follows : goal.returns-clause-follows
-returns-clause-follows g c = record { holds = record { source = refl; names = refl; backup = refl; vault = refl; copies = refl }; source = one_step g.S.SourceRows.follows _ _ c.list.ensures.follows; orders = no_orders _ _; vault_later = omega arith; copies_later = omega arith }
+returns-clause-follows g c = record { holds = record { source = refl; names = refl; backup = refl; vault = refl; copies = refl; user = refl }; source = one_step g.S.SourceRows.follows _ _ c.list.ensures.follows; orders = no_orders _ _; vault_later = omega arith; copies_later = omega arith }
 
 pub returns-clause-ends : goal.returns-clause-ends
 returns-clause-ends g c =
-    read_ends g.S.SourceRows.refuses g.S.SourceRows.replies g.E.Disk.state c.args.self.now.source.now c.list.new.self c.args.self.now.backup.now c.args.self.now.backup.now c.args.self.now.names.now c.args.self.now.names.now c.list.result _ _ c.list.ensures.ends
+    read_ends g.S.SourceRows.refuses g.S.SourceRows.replies g.E.Disk.state c.args.self.now.user.now c.args.self.now.source.now c.list.new.self c.args.self.now.backup.now c.args.self.now.backup.now c.args.self.now.names.now c.args.self.now.names.now c.list.result _ _ c.list.ensures.ends
