@@ -3,3 +3,4 @@ mod FinishLemmas
 mod LookLemmas
 mod MakeLemmas
 pub mod OrderLemmas
+mod RefusalLemmas

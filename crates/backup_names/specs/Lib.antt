@@ -1,3 +1,4 @@
 pub mod Changes
 pub mod Ends
 pub mod Orders
+pub mod Refusals

@@ -4,7 +4,9 @@ ghost use Rattle.hk_base.specs.Faults.{Rose};
 ghost use Rattle.backup_names.specs.Changes.{Changes, MakesDirectory};
 ghost use Rattle.backup_names.specs.Ends.{change_end};
 ghost use Rattle.backup_names.specs.Orders.{HoldsNames, IsSettled, OrdersNames};
+ghost use Rattle.backup_names.specs.Refusals.{CallRefused, NoMemoryOr};
 ghost use Rattle.file_orders.specs.Ends.{IsFailure};
+ghost use Rattle.name_calls.specs.declared.calls.NameCall.TheVariants as call;
 
 use file_orders::{FsEnd, end_of_names};
 use hk_base::{Disk, Text};
@@ -39,6 +41,8 @@ pub fn make_directory<E: Disk>(
     ensures fault { IsErrOf result FsEnd.StoreFault →
         Rose (E.state disk.old).faults (E.state disk.new).faults }
     ensures failure { IfErr result IsFailure }
+    ensures cause { IfErr result (NoMemoryOr (CallRefused (E.state disk.old) (E.state disk.new)
+        name.old name.new user.now (call.Mkdir path.now))) }
 {
     name.invariants();
     let path = match path.copy(alloc) {

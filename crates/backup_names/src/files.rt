@@ -3,8 +3,10 @@ ghost use Rattle.std.specs.Prelude.{◌≡◌, IfErr, IfOk, IsErrOf};
 ghost use Rattle.hk_base.specs.Faults.{Rose};
 ghost use Rattle.backup_names.specs.Changes.{Changes, FinishesFile, IsAsked};
 ghost use Rattle.backup_names.specs.Orders.{HoldsNames, IsSettled, OnlyAsks, OrdersNames};
+ghost use Rattle.backup_names.specs.Refusals.{AskRefused, FinishRefused, NoMemoryOr};
 ghost use Rattle.file_orders.specs.Ends.{IsFailure};
 ghost use Rattle.name_calls.specs.declared.calls.Ask.TheVariants as ask;
+ghost use Rattle.name_calls.specs.declared.calls.KeyAnswer.TheVariants as answer;
 
 use crate::zones::finish_end;
 use file_orders::{FsEnd, end_of_names};
@@ -20,6 +22,8 @@ pub fn ask_file(alloc: Global, name: &mut Name, user: &Text, path: &NPath) -> Re
     ensures only { OnlyAsks user.now (ask.Create path.now) name.old name.new }
     ensures fault { IsErrOf result FsEnd.StoreFault → ⊥ }
     ensures failure { IfErr result IsFailure }
+    ensures cause { IfErr result (NoMemoryOr (AskRefused name.old name.new user.now
+        (ask.Create path.now))) }
 {
     name.invariants();
     let path = match path.copy(alloc) {
@@ -48,6 +52,8 @@ pub fn finish_file<E: Disk>(
     ensures fault { IsErrOf result FsEnd.StoreFault →
         Rose (E.state disk.old).faults (E.state disk.new).faults }
     ensures failure { IfErr result IsFailure }
+    ensures cause { IfErr result (FinishRefused (E.state disk.old) (E.state disk.new) name.old
+        name.new id (answer.Given edek)) }
 {
     finish_end(name.finish_with(disk, id, KeyAnswer::Given(edek)))
 }

@@ -3,6 +3,7 @@ ghost use Rattle.std.specs.Prelude.{◌≡◌, Err, IfErr, IfOk, IsErrOf, None, 
 ghost use Rattle.std.specs.Option.{option_map};
 ghost use Rattle.backup_names.specs.Ends.{row_end, row_shown};
 ghost use Rattle.backup_names.specs.Orders.{HoldsNames, IsSettled, OrdersNames};
+ghost use Rattle.backup_names.specs.Refusals.{CallRefused, NoMemoryOr, info_at};
 ghost use Rattle.file_orders.specs.Ends.{IsFailure};
 ghost use Rattle.inode_tree.specs.Rows.{IsRows, is_dir, is_dir_at, row_at};
 ghost use Rattle.name_core.specs.State.{service_of};
@@ -62,6 +63,8 @@ pub fn look<E: Disk>(
     ensures same { service_of name.new ≡ service_of name.old }
     ensures fault { IsErrOf result FsEnd.StoreFault → ⊥ }
     ensures failure { IfErr result IsFailure }
+    ensures cause { IfErr result (NoMemoryOr (CallRefused (E.state disk.old) (E.state disk.new)
+        name.old name.new user.now (info_at path.now))) }
     ensures orders { OrdersNames (E.state disk.old) (E.state disk.new) name.old name.new }
 {
     let path = match path.copy(alloc) {
@@ -93,6 +96,8 @@ pub fn is_directory<E: Disk>(
     ensures same { service_of name.new ≡ service_of name.old }
     ensures fault { IsErrOf result FsEnd.StoreFault → ⊥ }
     ensures failure { IfErr result IsFailure }
+    ensures cause { IfErr result (NoMemoryOr (CallRefused (E.state disk.old) (E.state disk.new)
+        name.old name.new user.now (info_at path.now))) }
     ensures orders { OrdersNames (E.state disk.old) (E.state disk.new) name.old name.new }
 {
     match look(alloc, name, disk, user, path) {

@@ -1,10 +1,12 @@
 //! Zones of a copy, with their keys.
-ghost use Rattle.std.specs.Prelude.{◌≡◌, ◌⊎◌, IfErr, IfOk, IsErrOf};
+ghost use Rattle.std.specs.Prelude.{◌≡◌, ◌⊎◌, IfErr, IfOk, IsErrOf, Some};
 ghost use Rattle.hk_base.specs.Faults.{Rose};
 ghost use Rattle.backup_names.specs.Changes.{Changes, FinishesZone, IsAsked};
 ghost use Rattle.backup_names.specs.Ends.{IsFaultOfKeys, ShowsRefusal, finish_end};
 ghost use Rattle.backup_names.specs.Orders.{HoldsNames, IsSettled, OnlyAsks, OrdersNames};
+ghost use Rattle.backup_names.specs.Refusals.{AskRefused, FinishRefused, NoMemoryOr};
 ghost use Rattle.file_orders.specs.Ends.{IsFailure};
+ghost use Rattle.name_calls.specs.Answers.{answer_of};
 ghost use Rattle.name_calls.specs.declared.calls.Ask.TheVariants as ask;
 
 use file_orders::{FsEnd, end_of_names};
@@ -37,6 +39,8 @@ pub fn ask_zone(
     ensures only { OnlyAsks user.now (ask.Zone path.now key) name.old name.new }
     ensures fault { IsErrOf result FsEnd.StoreFault → ⊥ }
     ensures failure { IfErr result IsFailure }
+    ensures cause { IfErr result (NoMemoryOr (AskRefused name.old name.new user.now
+        (ask.Zone path.now key))) }
 {
     name.invariants();
     let path = match path.copy(alloc) {
@@ -67,6 +71,8 @@ pub fn finish_zone<E: Disk>(
     ensures fault { IsErrOf result FsEnd.StoreFault →
         Rose (E.state disk.old).faults (E.state disk.new).faults ⊎ IsFaultOfKeys reply }
     ensures failure { IfErr result IsFailure }
+    ensures cause { IfErr result (FinishRefused (E.state disk.old) (E.state disk.new) name.old
+        name.new id (answer_of (Some reply))) }
 {
     let reply = Some(reply);
     finish_end(name.finish(disk, Answered { id, reply }))

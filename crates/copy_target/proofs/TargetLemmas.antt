@@ -1,6 +1,7 @@
 -- What a call on two clusters comes to.
 use Rattle.std.proofs.Common.{◌≡◌, ⊎_elim, inl, inr, ℕ, List, true, ap, sym, ◌∙◌, subst}
-use Rattle.std.specs.Prelude.{◌⊎◌, Option, None, is_some, Result, Ok, Err, IfErr, IsErrOf, OnOk}
+use Rattle.std.specs.Prelude.{◌⊎◌, Option, None, Some, is_some, Result, Ok, Err, IfErr, IsErrOf, OnOk}
+use Rattle.hk_base.specs.Disk.{DiskState}
 use Rattle.hk_base.specs.declared.names.Edek.{Edek}
 use Rattle.hk_base.specs.declared.names.KeyName.{KeyName}
 use Rattle.hk_base.specs.declared.texts.Text.{Text}
@@ -10,6 +11,9 @@ use Rattle.kms_calls.specs.declared.calls.KmsReply.TheVariants as key_reply
 use Rattle.name_calls.specs.declared.paths.NPath.{NPath}
 use Rattle.name_calls.specs.declared.calls.Ask.{Ask}
 use Rattle.name_calls.specs.declared.calls.Ask.TheVariants as ask
+use Rattle.name_calls.specs.Answers.{answer_of}
+use Rattle.name_calls.specs.declared.calls.KeyAnswer.TheVariants as answer
+use Rattle.name_calls.specs.declared.calls.NameCall.TheVariants as call
 use Rattle.name_core.specs.Asks.{open_ask}
 use Rattle.name_core.specs.State.{NameService, RunningNames, service_of}
 use Rattle.name_store.specs.Store.{StoreState}
@@ -21,12 +25,14 @@ use Rattle.file_orders.specs.declared.ends.FsEnd.TheVariants as end
 use Rattle.backup_names.specs.Ends.{IsFaultOfKeys, ShowsRefusal}
 use Rattle.backup_names.specs.Changes.{Changes, FinishesFile, IsAsked}
 use Rattle.backup_names.specs.Orders.{IsSettled, OnlyAsks}
+use Rattle.backup_names.specs.Refusals.{AskRefused, CallRefused, FinishRefused, NoMemoryOr, info_at}
+use Rattle.backup_names.proofs.OrderLemmas.{ask_orders, no_orders}
 use Rattle.body_copies.specs.Copies.{CopiesBody, CopyFails}
 use Rattle.body_stream.specs.Vaults.{VaultState}
 use Rattle.row_copies.specs.Clusters.{CopiesFile, CopyState, EndsFor, KeepsCluster}
 use Rattle.row_copies.specs.Copies.{Steps, Done, Then}
-use Rattle.row_copies.proofs.CauseLemmas.{ends-failed, ends-plain}
-use Rattle.copy_target.specs.Targets.{BodyFails, KnowsKey}
+use Rattle.row_copies.proofs.CauseLemmas.{ends-failed, ends-so}
+use Rattle.copy_target.specs.Targets.{BodyFails, DirectoryRefused, FileAskRefused, FileRefused, KnowsKey, LookRefused, NamesRefuse, PartsRefuse, RepliedTo, ZoneAskRefused, ZoneRefused}
 
 pub one_step : {X : Type 0} (follows : X → X → Type 0) (a b : X) → follows a b → Steps follows a b
 one_step follows a b f = Then a b Done f
@@ -65,14 +71,56 @@ copied_file (Ok done) from id path edek old new user r mid r' only asked changes
 -- ---- why a call failed
 
 -- an order of the namesystem
-pub order_ends : {T : Type 0} (result : Result T FsEnd) (store vault : Type 0) → IfErr result IsFailure → (IsErrOf result end.StoreFault → store) → IfErr result (EndsFor store vault)
-order_ends (Ok done) store vault fails cause = tt
-order_ends (Err why) store vault fails cause = ends-failed store vault why fails (λ is. cause (ap Err is))
+order_ends : {T : Type 0} (result : Result T FsEnd) (store vault : Type 0) (cause refused : FsEnd → Type 0) → IfErr result IsFailure → (IsErrOf result end.StoreFault → store) → IfErr result (NoMemoryOr cause) → ((why : FsEnd) → cause why → refused why)
+    → IfErr result (EndsFor store vault refused)
+order_ends (Ok done) store vault cause refused fails fault caused so = tt
+order_ends (Err why) store vault cause refused fails fault caused so = ends-failed store vault refused why fails (λ is. fault (ap Err is)) (⊎_elim (λ is. inl is) (λ c. inr (so why c)) caused)
 
--- the source was read
-pub read_ends : {T : Type 0} (result : Result T FsEnd) (store vault : Type 0) → IfErr result (EndsFor ⊥ ⊥) → IfErr result (EndsFor store vault)
-read_ends (Ok done) store vault ends = tt
-read_ends (Err why) store vault ends = ends-plain store vault why ends
+-- a finish of an ask
+finish_ends : {T : Type 0} (result : Result T FsEnd) (store vault : Type 0) (cause refused : FsEnd → Type 0) → IfErr result IsFailure → (IsErrOf result end.StoreFault → store) → IfErr result cause → ((why : FsEnd) → cause why → refused why)
+    → IfErr result (EndsFor store vault refused)
+finish_ends (Ok done) store vault cause refused fails fault caused so = tt
+finish_ends (Err why) store vault cause refused fails fault caused so = ends-failed store vault refused why fails (λ is. fault (ap Err is)) (inr (so why caused))
+
+module _ {S E : Type 0} (refuses : S → S → FsEnd → Type 0) (replies : S → KeyName → KmsReply → S → Type 0) (disk : E → DiskState) (s s' : S) (e e' : E) (r r' : RunningNames) where
+  abbrev Refused : FsEnd → Type 0
+  Refused why = PartsRefuse refuses replies disk s s' e e' r r' why
+
+  -- the first order was refused
+  first : (why : FsEnd) → NamesRefuse (RepliedTo replies s s') (disk e) (disk e') r r' why → Refused why
+  first why refused = inr (record { mid = e; names = r; orders = no_orders (disk e) r; refused = refused })
+
+  -- or the one after an ask
+  then : (mid : RunningNames) (user : Text) (a : Ask) (why : FsEnd) → OnlyAsks user a r mid → NamesRefuse (RepliedTo replies s s') (disk e) (disk e') mid r' why → Refused why
+  then mid user a why only refused = inr (record { mid = e; names = mid; orders = ask_orders (disk e) user a r mid only; refused = refused })
+
+  -- the source was read
+  pub read_ends : {T : Type 0} (result : Result T FsEnd) (store vault : Type 0) → IfErr result (EndsFor ⊥ ⊥ (refuses s s')) → IfErr result (EndsFor store vault (PartsRefuse refuses replies disk s s' e e' r r'))
+  read_ends (Ok done) store vault ends = tt
+  read_ends (Err why) store vault ends = ends-so ⊥ ⊥ store vault (refuses s s') Refused why (λ h. absurd h) (λ h. absurd h) (λ h. inl h) ends
+
+  module _ {T : Type 0} (result : Result T FsEnd) (store vault : Type 0) (fails : IfErr result IsFailure) (fault : IsErrOf result end.StoreFault → store) where
+    pub look_ends : (user : Text) (path : NPath) → IfErr result (NoMemoryOr (CallRefused (disk e) (disk e') r r' user (info_at path))) → IfErr result (EndsFor store vault (PartsRefuse refuses replies disk s s' e e' r r'))
+    look_ends user path cause = order_ends result store vault (CallRefused (disk e) (disk e') r r' user (info_at path)) Refused fails fault cause (λ why refused. first why (LookRefused user path refused))
+
+    pub make_ends : (user : Text) (path : NPath) → IfErr result (NoMemoryOr (CallRefused (disk e) (disk e') r r' user (call.Mkdir path))) → IfErr result (EndsFor store vault (PartsRefuse refuses replies disk s s' e e' r r'))
+    make_ends user path cause = order_ends result store vault (CallRefused (disk e) (disk e') r r' user (call.Mkdir path)) Refused fails fault cause (λ why refused. first why (DirectoryRefused user path refused))
+
+    pub ask_zone_ends : (user : Text) (path : NPath) (key : KeyName) → IfErr result (NoMemoryOr (AskRefused r r' user (ask.Zone path key))) → IfErr result (EndsFor store vault (PartsRefuse refuses replies disk s s' e e' r r'))
+    ask_zone_ends user path key cause = order_ends result store vault (AskRefused r r' user (ask.Zone path key)) Refused fails fault cause (λ why refused. first why (ZoneAskRefused user path key refused))
+
+    pub ask_file_ends : (user : Text) (path : NPath) → IfErr result (NoMemoryOr (AskRefused r r' user (ask.Create path))) → IfErr result (EndsFor store vault (PartsRefuse refuses replies disk s s' e e' r r'))
+    ask_file_ends user path cause = order_ends result store vault (AskRefused r r' user (ask.Create path)) Refused fails fault cause (λ why refused. first why (FileAskRefused user path refused))
+
+    pub zone_ends : (mid : RunningNames) (user : Text) (a : Ask) (id : ℕ) (key : KeyName) (reply : KmsReply) → OnlyAsks user a r mid → replies s key reply s' → IfErr result (FinishRefused (disk e) (disk e') mid r' id (answer_of (Some reply)))
+        → IfErr result (EndsFor store vault (PartsRefuse refuses replies disk s s' e e' r r'))
+    zone_ends mid user a id key reply only replied cause =
+        finish_ends result store vault (FinishRefused (disk e) (disk e') mid r' id (answer_of (Some reply))) Refused fails fault cause (λ why refused. then mid user a why only (ZoneRefused id reply (key, replied) refused))
+
+    pub file_ends : (mid : RunningNames) (user : Text) (a : Ask) (id : ℕ) (edek : Option Edek) → OnlyAsks user a r mid → IfErr result (FinishRefused (disk e) (disk e') mid r' id (answer.Given edek))
+        → IfErr result (EndsFor store vault (PartsRefuse refuses replies disk s s' e e' r r'))
+    file_ends mid user a id edek only cause =
+        finish_ends result store vault (FinishRefused (disk e) (disk e') mid r' id (answer.Given edek)) Refused fails fault cause (λ why refused. then mid user a why only (FileRefused id edek refused))
 
 -- the key management service has no fault of its disk
 pub only_names : (given : KmsReply) (result : Result KmsReply FsEnd) (fault : Type 0) → (result ≡ Ok (key_reply.Refused key_refusal.StoreFault) → ⊥) → result ≡ Ok given → fault ⊎ IsFaultOfKeys given → fault

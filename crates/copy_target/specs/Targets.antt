@@ -1,14 +1,24 @@
 -- Two clusters: one that is only read, and the namesystem of another over its disk. Each has a vault.
-use Rattle.std.specs.Prelude.{◌≡◌, ◌≢◌, ◌⊎◌, ◌≤◌, ℕ, List, [], None}
+use Rattle.std.specs.Prelude.{◌≡◌, ◌≢◌, ◌⊎◌, ◌≤◌, ℕ, List, [], Option, None, Some}
 use Rattle.hk_base.specs.Disk.{DiskState}
 use Rattle.hk_base.specs.Faults.{Rose}
+use Rattle.hk_base.specs.declared.names.Edek.{Edek}
 use Rattle.hk_base.specs.declared.names.KeyName.{KeyName}
+use Rattle.hk_base.specs.declared.texts.Text.{Text}
+use Rattle.file_orders.specs.declared.ends.FsEnd.{FsEnd}
 use Rattle.kms_calls.specs.declared.calls.KmsRefusal.{KmsRefusal}
 use Rattle.kms_calls.specs.declared.calls.KmsReply.{KmsReply}
 use Rattle.kms_calls.specs.declared.calls.KmsReply.TheVariants.{Refused}
+use Rattle.name_calls.specs.Answers.{answer_of}
+use Rattle.name_calls.specs.declared.calls.Ask.TheVariants as ask
+use Rattle.name_calls.specs.declared.calls.KeyAnswer.TheVariants as answer
+use Rattle.name_calls.specs.declared.calls.NameCall.TheVariants as call
+use Rattle.name_calls.specs.declared.paths.NPath.{NPath}
+use Rattle.name_core.specs.State.{RunningNames}
 use Rattle.inode_tree.specs.Rows.{Entry, entry_of}
 use Rattle.body_stream.specs.Vaults.{TellsBodies, VaultState}
 use Rattle.backup_names.specs.Orders.{HoldsNames, IsSettled, OrdersNames}
+use Rattle.backup_names.specs.Refusals.{AskRefused, CallRefused, FinishRefused, info_at}
 use Rattle.row_copies.specs.Clusters.{CopyState}
 use Rattle.row_copies.specs.Copies.{Steps}
 use Rattle.copy_target.specs.declared.both.BothClusters.{BothClusters}
@@ -60,3 +70,32 @@ pub record KnowsKey {S : Type 0} (replies : S → KeyName → KmsReply → S →
   pub reply : KmsReply
   pub replied : replies old key reply new
   pub accepted : (why : KmsRefusal) → reply ≢ Refused why
+
+-- ---- refusals
+
+-- the key management service was asked for the metadata of a key, and this was its reply
+abbrev pub RepliedTo : {S : Type 0} → (S → KeyName → KmsReply → S → Type 0) → S → S → KmsReply → Type 0
+RepliedTo replies old new reply = (key : KeyName) × replies old key reply new
+
+-- The namesystem refused an order of a copy: a call, an ask, or to finish one. An ask for a zone was finished with a reply that was given.
+pub data NamesRefuse (given : KmsReply → Type 0) (disk disk' : DiskState) (r r' : RunningNames) (why : FsEnd) : Type 0 where
+  LookRefused : (user : Text) (path : NPath) → CallRefused disk disk' r r' user (info_at path) why → NamesRefuse given disk disk' r r' why
+  DirectoryRefused : (user : Text) (path : NPath) → CallRefused disk disk' r r' user (call.Mkdir path) why → NamesRefuse given disk disk' r r' why
+  ZoneAskRefused : (user : Text) (path : NPath) (key : KeyName) → AskRefused r r' user (ask.Zone path key) why → NamesRefuse given disk disk' r r' why
+  FileAskRefused : (user : Text) (path : NPath) → AskRefused r r' user (ask.Create path) why → NamesRefuse given disk disk' r r' why
+  ZoneRefused : (id : ℕ) (reply : KmsReply) → given reply → FinishRefused disk disk' r r' id (answer_of (Some reply)) why → NamesRefuse given disk disk' r r' why
+  FileRefused : (id : ℕ) (edek : Option Edek) → FinishRefused disk disk' r r' id (answer.Given edek) why → NamesRefuse given disk disk' r r' why
+
+-- Orders were done, and then the namesystem refused one.
+pub record TargetRefuses {E : Type 0} (disk : E → DiskState) (given : KmsReply → Type 0) (old new : E) (r r' : RunningNames) (why : FsEnd) : Type 0 where
+  pub mid : E
+  pub names : RunningNames
+  pub orders : OrdersNames (disk old) (disk mid) r names
+  pub refused : NamesRefuse given (disk mid) (disk new) names r' why
+
+-- the source refused, or the namesystem that gets the copy did
+abbrev pub PartsRefuse : {S E : Type 0} → (S → S → FsEnd → Type 0) → (S → KeyName → KmsReply → S → Type 0) → (E → DiskState) → (source source' : S) (old new : E) (r r' : RunningNames) → FsEnd → Type 0
+PartsRefuse refuses replies disk source source' old new r r' why = refuses source source' why ⊎ TargetRefuses disk (RepliedTo replies source source') old new r r' why
+
+abbrev pub BothRefuse : {S E V U : Type 0} → (S → S → FsEnd → Type 0) → (S → KeyName → KmsReply → S → Type 0) → (E → DiskState) → (old new : BothClusters S E V U) → FsEnd → Type 0
+BothRefuse refuses replies disk old new why = PartsRefuse refuses replies disk old.source.now new.source.now old.backup.now new.backup.now old.names.now new.names.now why

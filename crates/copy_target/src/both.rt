@@ -1,6 +1,6 @@
 //! Two clusters: one that is only read, and the namesystem of another over its disk.
 ghost use Rattle.std.specs.Prelude.{◌≡◌};
-ghost use Rattle.copy_target.specs.Targets.{CanCopy, DiskFails, KnowsKey, VaultsFail, WorksOn, state_of};
+ghost use Rattle.copy_target.specs.Targets.{BothRefuse, CanCopy, DiskFails, KnowsKey, VaultsFail, WorksOn, state_of};
 
 use backup_names::{
     ask_file, ask_zone, finish_file, finish_zone, is_directory, keeps_rules, make_directory,
@@ -73,6 +73,8 @@ impl<'a, S: SourceRows, E: Disk, V: Vault, U: Vault> Clusters for BothClusters<'
     ghost store_fails = { λ old new. DiskFails E.state old new };
 
     ghost vault_fails = { λ old new. VaultsFail V.state U.state old new };
+
+    ghost refuses = { λ old new. BothRefuse S.refuses S.replies E.state old new };
 
     ghost knows = { λ old key new. KnowsKey S.replies old.source.now key new.source.now };
 

@@ -1,13 +1,14 @@
 -- What a whole copy comes to.
-use Rattle.std.proofs.Common.{◌≡◌, inl, inr, arith, ℕ, zero, suc, Bool, true, false, cond, List, [], ◌∷◌, ◌++◌, take, Option, Some, None, refl, sym, ap, ◌∙◌, subst}
+use Rattle.std.proofs.Common.{◌≡◌, inl, inr, arith, ℕ, zero, suc, Bool, true, false, cond, List, [], ◌∷◌, ◌++◌, length, take, ◌<◌, ◌≤◌, Option, Some, None, refl, sym, ap, ◌∙◌, subst}
 use Rattle.std.specs.Prelude.{count_by, is_some}
 use Rattle.std.specs.List.{AllByRecursion}
-use Rattle.std.proofs.lemmas.List.{append-nil}
+use Rattle.std.proofs.lemmas.List.{append-nil, length-take-le}
 use Rattle.body_stream.specs.Vaults.{KeepsBodies}
 use Rattle.name_calls.specs.Paths.{is_before, is_prefix, same_path}
 use Rattle.inode_tree.specs.declared.rows.Row.{Row}
 use Rattle.inode_tree.specs.Below.{rows_below}
 use Rattle.inode_tree.specs.Rows.{Entry, IsRows, entry_of, is_dir_at, is_marked, put, row_at}
+use Rattle.inode_tree.proofs.Seeks.{same-is}
 use Rattle.row_blocks.specs.Below.{below}
 use Rattle.row_blocks.proofs.Blocks.{both}
 use Rattle.row_copies.specs.Clusters.{CopyState, IsTree, KeepsBoth, KeepsCluster, MakesDirectory, directory_at}
@@ -33,6 +34,39 @@ absent-put e (x ∷ es) q h = go (is_before e.path x.path) h (absent-put e es q)
     go false h ih =
         let parts = later (same_path x.path q) x (put e es) h in
         ap (λ (b : Bool). cond b (Some x.row) (row_at es q)) parts.0 ∙ ih parts.1
+
+-- a row that is put in is not found at another path
+put-other : (e : Entry) (es : List Entry) (q : List (List ℕ)) → same_path e.path q ≡ false → row_at (put e es) q ≡ row_at es q
+put-other e [] q h = ap (λ (b : Bool). cond b (Some e.row) None) h
+put-other e (x ∷ es) q h = go (is_before e.path x.path) (put-other e es q h)
+  where
+    go : (b : Bool) → row_at (put e es) q ≡ row_at es q → row_at (cond b (e ∷ x ∷ es) (x ∷ put e es)) q ≡ row_at (x ∷ es) q
+    go true ih = ap (λ (b : Bool). cond b (Some e.row) (row_at (x ∷ es) q)) h
+    go false ih = ap (λ (o : Option Row). cond (same_path x.path q) (Some x.row) o) ih
+
+shorter-other : (p q : List (List ℕ)) → length p < length q → same_path p q ≡ false
+shorter-other p q h = go (same_path p q) refl
+  where
+    go : (b : Bool) → same_path p q ≡ b → b ≡ false
+    go true s = let e = ap length (same-is p q s) in absurd (omega (arith, h, e))
+    go false s = refl
+
+missing-other : (found : Option Row) (path to : List (List ℕ)) (a b : CopyState) → same_path path to ≡ false → MakesMissing found path a b → row_at b.target.rows to ≡ row_at a.target.rows to
+missing-other None path to a b h m = ap (λ (rows : List Entry). row_at rows to) m.rows ∙ put-other (directory_at m.id path None) a.target.rows to h
+missing-other (Some row) path to a b h k = ap (λ (rows : List Entry). row_at rows to) k.target.rows
+
+-- the directories above a path are not at it
+above-other : (n : ℕ) (to : List (List ℕ)) (a b : CopyState) → n ≤ above to → MakesAbove n to a b → row_at b.target.rows to ≡ row_at a.target.rows to
+above-other zero to a b h k = ap (λ (rows : List Entry). row_at rows to) k.target.rows
+above-other (suc n) to a b h m =
+    let short = length-take-le (suc n) to (omega (arith, h)) in
+    missing-other (row_at m.0.target.rows (take (suc n) to)) (take (suc n) to) to m.0 b (shorter-other (take (suc n) to) to (omega (arith, h, short))) m.2
+    ∙ above-other n to a m.0 (omega (arith, h)) m.1
+
+-- so a row at it was there before
+pub taken-before : (to : List (List ℕ)) (a b c : CopyState) → KeepsBoth a b → MakesAbove (above to) to b c → is_some (row_at c.target.rows to) ≡ true → is_some (row_at a.target.rows to) ≡ true
+taken-before to a b c k m some =
+    subst (λ (o : Option Row). is_some o ≡ true) (above-other (above to) to b c (omega arith) m ∙ ap (λ (rows : List Entry). row_at rows to) k.target.rows) some
 
 -- what stays when directories are made
 pub record Led (a b : CopyState) : Type 0 where

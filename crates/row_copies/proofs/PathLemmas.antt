@@ -1,5 +1,5 @@
 -- Paths made of two.
-use Rattle.std.proofs.Common.{◌≡◌, ℕ, zero, suc, ◌+◌, ◌<◌, ◌≤◌, true, ◌&&◌, List, [], ◌∷◌, ◌++◌, length, take, drop, get_or, refl, sym, ap, ◌∙◌, arith, append_assoc, length-append}
+use Rattle.std.proofs.Common.{◌≡◌, ℕ, zero, suc, ◌+◌, ◌<◌, ◌≤◌, Bool, true, false, ◌&&◌, List, [], ◌∷◌, ◌++◌, length, take, drop, get_or, refl, sym, ap, ◌∙◌, arith, append_assoc, length-append}
 use Rattle.std.specs.Prelude.{nat_le}
 use Rattle.std.specs.List.{list_all}
 use Rattle.std.proofs.lemmas.List.{append-nil, take_more}
@@ -29,6 +29,27 @@ pub may-join : (p q : List (List ℕ)) → is_relative p ≡ true → is_relativ
 may-join p q rp rq h =
     let parts = and_parts (nat_le (length (names_text p) + length (names_text q)) 8000) (nat_le (length p + length q) 100) h in
     relative-join p q rp rq (leb-true (length (names_text p) + length (names_text q)) 8000 parts.0) (leb-true (length p + length q) 100 parts.1)
+
+text-whole : (r : List (List ℕ)) → length (path_text r) ≤ 8000 → length (names_text r) ≤ 8000
+text-whole [] h = omega arith
+text-whole (c ∷ r) h = h
+
+fits : (p q : List (List ℕ)) → is_relative (p ++ q) ≡ true → (nat_le (length (names_text p) + length (names_text q)) 8000 && nat_le (length p + length q) 100) ≡ true
+fits p q r =
+    let short = and_parts (nat_le (length (path_text (p ++ q))) 8000) (nat_le (length (p ++ q)) 100) (and_parts (list_all is_component (p ++ q)) (is_short (p ++ q)) r).1 in
+    let text = text-whole (p ++ q) (leb-true (length (path_text (p ++ q))) 8000 short.0) in
+    let count = leb-true (length (p ++ q)) 100 short.1 in
+    and_from (nat_le (length (names_text p) + length (names_text q)) 8000) (nat_le (length p + length q) 100)
+    (le-leb _ _ (let e = ap length (names-append p q) in omega (arith, e, length-append (names_text p) (names_text q), text)))
+    (le-leb _ _ (omega (arith, length-append p q, count)))
+
+-- two paths that may not follow one another make no path
+pub too-long : (p q : List (List ℕ)) → (nat_le (length (names_text p) + length (names_text q)) 8000 && nat_le (length p + length q) 100) ≡ false → is_relative (p ++ q) ≡ false
+too-long p q h = go (is_relative (p ++ q)) (fits p q)
+  where
+    go : (b : Bool) → (b ≡ true → (nat_le (length (names_text p) + length (names_text q)) 8000 && nat_le (length p + length q) 100) ≡ true) → b ≡ false
+    go true then = let no : true ≡ false = sym (then refl) ∙ h in cc
+    go false then = refl
 
 pub relative-left : (p q : List (List ℕ)) → is_relative (p ++ q) ≡ true → is_relative p ≡ true
 relative-left p [] h = ap is_relative (sym (append-nil p)) ∙ h

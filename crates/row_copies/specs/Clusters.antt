@@ -1,5 +1,5 @@
 -- Two clusters, and what each call on them does.
-use Rattle.std.specs.Prelude.{◌≡◌, ℕ, true, List, [], Option, Some, None, is_some}
+use Rattle.std.specs.Prelude.{◌≡◌, ℕ, true, List, [], Option, Some, None, is_some, ⊤}
 use Rattle.std.specs.List.{All}
 use Rattle.hk_base.specs.declared.names.Edek.{Edek}
 use Rattle.hk_base.specs.declared.names.KeyName.{KeyName}
@@ -78,8 +78,9 @@ pub record KeepsRows (old new : CopyState) : Type 0 where
   pub tells : new.target.bodies.tells ≡ old.target.bodies.tells
   pub bodies : TellsBodies old.target.bodies → (id : ℕ) → is_some (entry_of old.target.rows id) ≡ true → new.target.bodies.bodies id ≡ old.target.bodies.bodies id
 
--- Why a call ends so. It was refused, or there was no memory; or a disk or a vault failed, and then there is this cause. No other end comes.
-abbrev pub EndsFor : (store vault : Type 0) → FsEnd → Type 0
-EndsFor store vault end.StoreFault = store
-EndsFor store vault end.VaultFault = vault
-EndsFor store vault why = IsFailure why
+-- Why a call ends so. A disk or a vault failed, or the call was refused, and then there is this cause; or there was no memory. No other end comes.
+abbrev pub EndsFor : (store vault : Type 0) (refused : FsEnd → Type 0) → FsEnd → Type 0
+EndsFor store vault refused end.StoreFault = store
+EndsFor store vault refused end.VaultFault = vault
+EndsFor store vault refused end.NoMemory = ⊤
+EndsFor store vault refused why = IsFailure why × refused why

@@ -2,6 +2,9 @@
 use Rattle.std.specs.Prelude.{◌≡◌, ◌⊎◌, ◌≤◌, ◌-◌, ℕ, zero, suc, Bool, true, false, not, ◌&&◌, ◌||◌, ◌==◌, List, [], ◌∷◌, ◌++◌, length, take, Option, Some, None, is_some, ⊤}
 use Rattle.body_stream.specs.Vaults.{TellsBodies}
 use Rattle.file_orders.specs.declared.ends.FsEnd.{FsEnd}
+use Rattle.file_orders.specs.declared.ends.FsEnd.TheVariants as end
+use Rattle.name_calls.specs.Paths.{is_relative}
+use Rattle.name_calls.specs.declared.calls.NameRefusal.TheVariants as refusal
 use Rattle.inode_tree.specs.declared.rows.Row.{Row}
 use Rattle.inode_tree.specs.declared.rows.Kind.TheVariants.{Dir}
 use Rattle.inode_tree.specs.Below.{rows_below}
@@ -127,6 +130,43 @@ pub record FailsLast {X : Type 0} (state : X → CopyState) (follows fails : X �
   pub kept : KeepsFree (state a) (state mid)
   pub last : fails mid b
 
--- why a copy ends so: if a disk or a vault failed, that was in the last step
-abbrev pub CopyEnds : {X : Type 0} → (X → CopyState) → (follows store vault : X → X → Type 0) → (a b : X) → FsEnd → Type 0
-CopyEnds state follows store vault a b why = EndsFor (FailsLast state follows store a b) (FailsLast state follows vault a b) why
+-- the last step was refused by this end; those before it were done
+abbrev pub RefusedLast : {X : Type 0} → (X → CopyState) → (follows : X → X → Type 0) (refuses : X → X → FsEnd → Type 0) (a b : X) → FsEnd → Type 0
+RefusedLast {X} state follows refuses a b why = FailsLast state follows (λ (x y : X). refuses x y why) a b
+
+-- why a copy ends so: if a disk or a vault failed, or the copy was refused, that was in the last step
+abbrev pub CopyEnds : {X : Type 0} → (X → CopyState) → (follows store vault : X → X → Type 0) (refuses : X → X → FsEnd → Type 0) (a b : X) → FsEnd → Type 0
+CopyEnds state follows store vault refuses a b why = EndsFor (FailsLast state follows store a b) (FailsLast state follows vault a b) (RefusedLast state follows refuses a b) why
+
+-- ---- the rules of a copy
+
+-- the row of the source at a path has no mark
+abbrev pub HasNoMark : List (List ℕ) → CopyState → FsEnd → Type 0
+HasNoMark path s why = (why ≡ end.NameRefused refusal.NotAZoneRoot) × ((row : Row) × (row_at s.source.rows path ≡ Some row) × (is_marked row ≡ false))
+
+-- there is a row of the target at the path of the copy
+abbrev pub IsTaken : List (List ℕ) → CopyState → FsEnd → Type 0
+IsTaken to s why = (why ≡ end.NameRefused refusal.Exists) × (is_some (row_at s.target.rows to) ≡ true)
+
+abbrev pub IsLong : List (List ℕ) → FsEnd → Type 0
+IsLong path why = (why ≡ end.NameRefused refusal.BadPath) × (is_relative path ≡ false)
+
+-- a row of the source would get a path that is too long
+abbrev pub IsTooLong : List (List ℕ) → CopyState → FsEnd → Type 0
+IsTooLong to s why = (from : List (List ℕ)) × (is_some (row_at s.source.rows from) ≡ true) × IsLong (to ++ from) why
+
+-- one of the rules refuses a copy to a path by this end
+abbrev pub RuleRefuses : List (List ℕ) → CopyState → FsEnd → Type 0
+RuleRefuses to s why = HasNoMark [] s why ⊎ (IsTaken to s why ⊎ IsTooLong to s why)
+
+-- the call was refused, or a rule refuses what stands before it
+abbrev pub StepRefuses : {X : Type 0} → (X → CopyState) → (refuses : X → X → FsEnd → Type 0) (rule : CopyState → FsEnd → Type 0) (a b : X) → FsEnd → Type 0
+StepRefuses state refuses rule a b why = refuses a b why ⊎ rule (state a) why
+
+-- The last step of a copy to a path was refused, or a rule refuses the copy by what was there in the beginning.
+abbrev pub CopyRefused : {X : Type 0} → (X → CopyState) → (follows : X → X → Type 0) (refuses : X → X → FsEnd → Type 0) (to : List (List ℕ)) (a b : X) → FsEnd → Type 0
+CopyRefused state follows refuses to a b why = RefusedLast state follows refuses a b why ⊎ RuleRefuses to (state a) why
+
+-- why a whole copy ends so
+abbrev pub WholeEnds : {X : Type 0} → (X → CopyState) → (follows store vault : X → X → Type 0) (refuses : X → X → FsEnd → Type 0) (to : List (List ℕ)) (a b : X) → FsEnd → Type 0
+WholeEnds state follows store vault refuses to a b why = EndsFor (FailsLast state follows store a b) (FailsLast state follows vault a b) (CopyRefused state follows refuses to a b) why

@@ -1,6 +1,7 @@
 //! Two clusters.
 ghost use Rattle.std.specs.Prelude.{◌≡◌, Some, IfErr, IfOk, OnOk, OnErr, true};
 ghost use Rattle.std.specs.Option.{option_map};
+ghost use Rattle.file_orders.specs.declared.ends.FsEnd.{FsEnd as End};
 ghost use Rattle.hk_base.specs.declared.names.KeyName.{KeyName as Key};
 ghost use Rattle.inode_tree.specs.Listing.{children};
 ghost use Rattle.inode_tree.specs.Rows.{IsRows, is_dir, is_dir_at, row_at};
@@ -31,6 +32,9 @@ pub trait Clusters {
     /// Why a call may end by a fault of a vault.
     ghost vault_fails: { Self → Self → Type 0 };
 
+    /// Why a call may end by a refusal: whom it comes from.
+    ghost refuses: { Self → Self → End → Type 0 };
+
     /// That a key of the source is known, by the reply of its key management service.
     ghost knows: { Self → Key → Self → Type 0 };
 
@@ -49,7 +53,8 @@ pub trait Clusters {
         ensures ready { ready self.new }
         ensures follows { follows self.old self.new }
         ensures ends { IfErr result
-            (EndsFor (store_fails self.old self.new) (vault_fails self.old self.new)) };
+            (EndsFor (store_fails self.old self.new) (vault_fails self.old self.new)
+            (refuses self.old self.new)) };
 
     /// Returns the entries of the directory of the source at a path.
     fn list(&mut self, path: &NPath) -> Result<ChildList, FsEnd>
@@ -62,7 +67,8 @@ pub trait Clusters {
         ensures ready { ready self.new }
         ensures follows { follows self.old self.new }
         ensures ends { IfErr result
-            (EndsFor (store_fails self.old self.new) (vault_fails self.old self.new)) };
+            (EndsFor (store_fails self.old self.new) (vault_fails self.old self.new)
+            (refuses self.old self.new)) };
 
     /// Returns whether the row of the target at a path is a directory, or `None` if there is none.
     fn is_directory(&mut self, path: &NPath) -> Result<Option<bool>, FsEnd>
@@ -74,7 +80,8 @@ pub trait Clusters {
         ensures ready { ready self.new }
         ensures follows { follows self.old self.new }
         ensures ends { IfErr result
-            (EndsFor (store_fails self.old self.new) (vault_fails self.old self.new)) };
+            (EndsFor (store_fails self.old self.new) (vault_fails self.old self.new)
+            (refuses self.old self.new)) };
 
     /// Makes a directory in the target.
     fn make_directory(&mut self, path: &NPath) -> Result<(), FsEnd>
@@ -84,7 +91,8 @@ pub trait Clusters {
         ensures ready { OnOk result (ready self.new) }
         ensures follows { follows self.old self.new }
         ensures ends { IfErr result
-            (EndsFor (store_fails self.old self.new) (vault_fails self.old self.new)) };
+            (EndsFor (store_fails self.old self.new) (vault_fails self.old self.new)
+            (refuses self.old self.new)) };
 
     /// Marks an empty directory of the target with a key, which the source must know.
     fn mark(&mut self, path: &NPath, key: KeyName) -> Result<(), FsEnd>
@@ -95,7 +103,8 @@ pub trait Clusters {
         ensures ready { OnOk result (ready self.new) }
         ensures follows { follows self.old self.new }
         ensures ends { IfErr result
-            (EndsFor (store_fails self.old self.new) (vault_fails self.old self.new)) };
+            (EndsFor (store_fails self.old self.new) (vault_fails self.old self.new)
+            (refuses self.old self.new)) };
 
     /// Makes a file in the target, with this encrypted key and the body of the file of the source that
     /// has the id `from`. A call that fails may have written a body under an id that no row has.
@@ -107,5 +116,6 @@ pub trait Clusters {
         ensures ready { OnOk result (ready self.new) }
         ensures follows { follows self.old self.new }
         ensures ends { IfErr result
-            (EndsFor (store_fails self.old self.new) (vault_fails self.old self.new)) };
+            (EndsFor (store_fails self.old self.new) (vault_fails self.old self.new)
+            (refuses self.old self.new)) };
 }

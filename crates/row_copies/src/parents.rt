@@ -2,7 +2,7 @@
 ghost use Rattle.std.specs.Prelude.{◌≡◌, ◌++◌, ◌∷◌, [], None, IfErr, OnOk, OnErr, take};
 ghost use Rattle.inode_tree.specs.Rows.{row_at};
 ghost use Rattle.row_copies.specs.Clusters.{EndsFor, KeepsBoth};
-ghost use Rattle.row_copies.specs.Copies.{CopyEnds, MakesAbove, MakesMissing, MakesParents, Steps, above};
+ghost use Rattle.row_copies.specs.Copies.{CopyEnds, IsTaken, MakesAbove, MakesMissing, MakesParents, StepRefuses, Steps, above};
 
 use crate::clusters::Clusters;
 use crate::paths::add_name;
@@ -20,7 +20,7 @@ fn make_missing<C: Clusters>(clusters: &mut C, path: &NPath) -> Result<(), FsEnd
     ensures ready { OnOk result (C.ready clusters.new) }
     ensures steps { Steps C.follows clusters.old clusters.new }
     ensures ends { IfErr result (CopyEnds C.state C.follows C.store_fails C.vault_fails
-        clusters.old clusters.new) }
+        C.refuses clusters.old clusters.new) }
 {
     match clusters.is_directory(path) {
         Ok(Some(_)) => Ok(()),
@@ -42,7 +42,7 @@ pub(crate) fn make_parents<C: Clusters>(
     ensures ready { OnOk result (C.ready clusters.new) }
     ensures steps { Steps C.follows clusters.old clusters.new }
     ensures ends { IfErr result (CopyEnds C.state C.follows C.store_fails C.vault_fails
-        clusters.old clusters.new) }
+        C.refuses clusters.old clusters.new) }
 {
     let mut path = NPath::root(alloc);
     for k in 0..to.len().saturating_sub(1) {
@@ -66,7 +66,8 @@ pub(crate) fn check_absent<C: Clusters>(clusters: &mut C, path: &NPath) -> Resul
     ensures ready { C.ready clusters.new }
     ensures follows { C.follows clusters.old clusters.new }
     ensures ends { IfErr result (EndsFor (C.store_fails clusters.old clusters.new)
-        (C.vault_fails clusters.old clusters.new)) }
+        (C.vault_fails clusters.old clusters.new)
+        (StepRefuses C.state C.refuses (IsTaken path.now) clusters.old clusters.new)) }
 {
     match clusters.is_directory(path) {
         Ok(Some(_)) => Err(FsEnd::NameRefused(NameRefusal::Exists)),

@@ -1,7 +1,7 @@
 //! Paths of the rows that are copied.
-ghost use Rattle.std.specs.Prelude.{◌≡◌, ◌≤◌, ◌+◌, ◌++◌, ◌∷◌, ◌&&◌, [], nat_le, length, true, IfErr, IfOk, OnOk};
+ghost use Rattle.std.specs.Prelude.{◌≡◌, ◌⊎◌, ◌≤◌, ◌+◌, ◌++◌, ◌∷◌, ◌&&◌, [], nat_le, length, true, IfErr, IfOk, OnOk};
 ghost use Rattle.name_calls.specs.Paths.{is_relative, names_text};
-ghost use Rattle.row_copies.specs.Clusters.{EndsFor};
+ghost use Rattle.row_copies.specs.Copies.{IsLong};
 
 use file_orders::FsEnd;
 use hk_base::{NoMemory, Text};
@@ -47,7 +47,8 @@ fn can_follow(path: &NPath, names: &NPath) -> bool
 /// long.
 pub(crate) fn join(alloc: Global, to: &NPath, from: &NPath) -> Result<NPath, FsEnd>
     ensures joined { IfOk result (λ path. path ≡ to.now ++ from.now) }
-    ensures ends { IfErr result (EndsFor ⊥ ⊥) }
+    ensures ends { IfErr result
+        (λ end. (end ≡ FsEnd.NoMemory) ⊎ IsLong (to.now ++ from.now) end) }
 {
     if !can_follow(to, from) {
         return Err(FsEnd::NameRefused(NameRefusal::BadPath));
@@ -74,7 +75,7 @@ fn join_short(alloc: Global, to: &NPath, from: &NPath) -> Result<NPath, NoMemory
 pub(crate) fn child_path(alloc: Global, path: &NPath, name: &Text) -> Result<NPath, FsEnd>
     requires { is_relative (path.now ++ name.now ∷ []) ≡ true }
     ensures child { IfOk result (λ child. child ≡ path.now ++ name.now ∷ []) }
-    ensures ends { IfErr result (EndsFor ⊥ ⊥) }
+    ensures ends { IfErr result (λ end. end ≡ FsEnd.NoMemory) }
 {
     match extended(alloc, path, name) {
         Ok(child) => Ok(child),

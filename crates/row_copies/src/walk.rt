@@ -4,7 +4,7 @@ ghost use Rattle.inode_tree.specs.declared.rows.Kind.TheVariants.{Dir};
 ghost use Rattle.inode_tree.specs.Rows.{is_marked, row_at};
 ghost use Rattle.row_blocks.specs.Below.{below};
 ghost use Rattle.row_copies.specs.Clusters.{EndsFor, KeepsBoth, KeepsRows, MakesDirectory};
-ghost use Rattle.row_copies.specs.Copies.{CopiesAll, CopyEnds, Steps, StopsEarly, is_file};
+ghost use Rattle.row_copies.specs.Copies.{CopiesAll, CopyEnds, HasNoMark, IsTooLong, StepRefuses, Steps, StopsEarly, WholeEnds, is_file};
 ghost use Rattle.row_copies.specs.Walks.{Adds, CopiesRow, Counts, CountsOne, IsNext, MakesCopy, MakesRow, Stops, is_directory};
 
 use crate::clusters::Clusters;
@@ -26,7 +26,7 @@ pub struct Copied {
 /// Returns the next number, or `NoMemory` if there is none.
 fn next(count: u64) -> Result<u64, FsEnd>
     ensures more { IfOk result (λ more. more ≡ count + 1) }
-    ensures ends { IfErr result (EndsFor ⊥ ⊥) }
+    ensures ends { IfErr result (λ end. end ≡ FsEnd.NoMemory) }
 {
     match count.checked_add(1) {
         Some(more) => Ok(more),
@@ -46,7 +46,7 @@ fn make<C: Clusters>(clusters: &mut C, path: &NPath, key: Option<KeyName>) -> Re
     ensures ready { OnOk result (C.ready clusters.new) }
     ensures steps { Steps C.follows clusters.old clusters.new }
     ensures ends { IfErr result (CopyEnds C.state C.follows C.store_fails C.vault_fails
-        clusters.old clusters.new) }
+        C.refuses clusters.old clusters.new) }
 {
     match clusters.make_directory(path) {
         Ok(()) => {}
@@ -72,7 +72,7 @@ fn make_row<C: Clusters>(clusters: &mut C, row: Row, path: &NPath) -> Result<boo
     ensures ready { OnOk result (C.ready clusters.new) }
     ensures steps { Steps C.follows clusters.old clusters.new }
     ensures ends { IfErr result (CopyEnds C.state C.follows C.store_fails C.vault_fails
-        clusters.old clusters.new) }
+        C.refuses clusters.old clusters.new) }
 {
     let Row { id, kind } = row;
     match kind {
@@ -105,7 +105,7 @@ fn copy_row<C: Clusters>(
     ensures ready { OnOk result (C.ready clusters.new) }
     ensures steps { Steps C.follows clusters.old clusters.new }
     ensures ends { IfErr result (CopyEnds C.state C.follows C.store_fails C.vault_fails
-        clusters.old clusters.new) }
+        (StepRefuses C.state C.refuses (IsTooLong to.now)) clusters.old clusters.new) }
 {
     clusters.facts();
     let row = match clusters.look(from) {
@@ -121,7 +121,7 @@ fn copy_row<C: Clusters>(
 /// Counts a row that was copied.
 fn count(counts: &mut Copied, directory: bool) -> Result<(), FsEnd>
     ensures counts { OnOk result (CountsOne directory counts.old counts.new) }
-    ensures ends { IfErr result (EndsFor ⊥ ⊥) }
+    ensures ends { IfErr result (λ end. end ≡ FsEnd.NoMemory) }
 {
     let before = *counts;
     if directory {
@@ -161,7 +161,7 @@ fn copy_block<C: Clusters>(
     ensures ready { OnOk result (C.ready clusters.new) }
     ensures steps { Steps C.follows clusters.old clusters.new }
     ensures ends { IfErr result (CopyEnds C.state C.follows C.store_fails C.vault_fails
-        clusters.old clusters.new) }
+        (StepRefuses C.state C.refuses (IsTooLong to.now)) clusters.old clusters.new) }
 {
     clusters.facts();
     let directory = match copy_row(alloc, clusters, from, to) {
@@ -202,7 +202,8 @@ fn check_zone<C: Clusters>(clusters: &mut C, root: &NPath) -> Result<(), FsEnd>
     ensures ready { C.ready clusters.new }
     ensures follows { C.follows clusters.old clusters.new }
     ensures ends { IfErr result (EndsFor (C.store_fails clusters.old clusters.new)
-        (C.vault_fails clusters.old clusters.new)) }
+        (C.vault_fails clusters.old clusters.new)
+        (StepRefuses C.state C.refuses (HasNoMark root.now) clusters.old clusters.new)) }
 {
     match clusters.look(root) {
         Ok(row) => match row.kind {
@@ -240,8 +241,8 @@ pub fn copy_rows<C: Clusters>(alloc: Global, clusters: &mut C, to: &NPath) -> Re
         (StopsEarly to.now (C.state clusters.old) (C.state clusters.new)) }
     ensures ready { OnOk result (C.ready clusters.new) }
     ensures steps { Steps C.follows clusters.old clusters.new }
-    ensures ends { IfErr result (CopyEnds C.state C.follows C.store_fails C.vault_fails
-        clusters.old clusters.new) }
+    ensures ends { IfErr result (WholeEnds C.state C.follows C.store_fails C.vault_fails
+        C.refuses to.now clusters.old clusters.new) }
 {
     let root = NPath::root(alloc);
     match check_zone(clusters, &root) {

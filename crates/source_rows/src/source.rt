@@ -1,5 +1,6 @@
 //! A cluster that is only read.
 ghost use Rattle.std.specs.Prelude.{◌≡◌, List, Ok, Some, true, IfErr, IfOk, OnOk};
+ghost use Rattle.file_orders.specs.declared.ends.FsEnd.{FsEnd as End};
 ghost use Rattle.hk_base.specs.declared.names.KeyName.{KeyName as Key};
 ghost use Rattle.inode_tree.specs.Listing.{children};
 ghost use Rattle.inode_tree.specs.Rows.{Entry, is_dir_at, row_at};
@@ -29,6 +30,9 @@ pub trait SourceRows {
     /// The reply of the key management service to the superuser's call for the metadata of a key.
     ghost replies: { Self → Key → Reply → Self → Type 0 };
 
+    /// Why a call may end by a refusal: whom it comes from.
+    ghost refuses: { Self → Self → End → Type 0 };
+
     /// Does nothing. It says what always holds of the rows.
     fn facts(&self)
         requires ready { ready self.now }
@@ -41,7 +45,7 @@ pub trait SourceRows {
         ensures same { rows self.new ≡ rows self.old }
         ensures ready { ready self.new }
         ensures follows { follows self.old self.new }
-        ensures ends { IfErr result (EndsFor ⊥ ⊥) };
+        ensures ends { IfErr result (EndsFor ⊥ ⊥ (refuses self.old self.new)) };
 
     /// Returns the entries of the directory at a path.
     fn list(&mut self, path: &NPath) -> Result<ChildList, FsEnd>
@@ -51,7 +55,7 @@ pub trait SourceRows {
         ensures same { rows self.new ≡ rows self.old }
         ensures ready { ready self.new }
         ensures follows { follows self.old self.new }
-        ensures ends { IfErr result (EndsFor ⊥ ⊥) };
+        ensures ends { IfErr result (EndsFor ⊥ ⊥ (refuses self.old self.new)) };
 
     /// Returns the reply of the key management service to a call for the metadata of a key. The call
     /// doesn't use the disk.
@@ -62,5 +66,5 @@ pub trait SourceRows {
         ensures same { rows self.new ≡ rows self.old }
         ensures ready { ready self.new }
         ensures follows { follows self.old self.new }
-        ensures ends { IfErr result (EndsFor ⊥ ⊥) };
+        ensures ends { IfErr result (EndsFor ⊥ ⊥ (refuses self.old self.new)) };
 }

@@ -6,6 +6,7 @@ use Rattle.hk_base.specs.Disk.{DiskState, Tells}
 use Rattle.hk_base.specs.Faults.{Rose}
 use Rattle.hk_base.specs.declared.names.KeyName.{KeyName}
 use Rattle.hk_base.specs.declared.texts.Text.{Text}
+use Rattle.hk_events.specs.declared.event.Event.{Event}
 use Rattle.hk_events.specs.declared.event.Event.TheVariants as event
 use Rattle.hk_events.specs.declared.event.Line.{Line}
 use Rattle.hk_events.specs.declared.event.Line.TheVariants as line
@@ -50,13 +51,14 @@ use Rattle.file_orders.proofs.EndLemmas.{names_fail}
 use Rattle.source_looks.specs.Looks.{AsksKey, Lists, Looks, children_by, children_in, reply_in, row_by, row_in}
 use Rattle.place_texts.specs.Places.{read_path_text}
 use Rattle.row_copies.specs.Clusters.{EndsFor}
-use Rattle.row_copies.proofs.CauseLemmas.{ends-failed}
+use Rattle.row_copies.proofs.CauseLemmas.{ends-failed, ends-so}
 use Rattle.world_run.specs.Acknowledged.{Acknowledged}
 use Rattle.world_run.specs.Drives.{Standing}
 use Rattle.world_run.specs.Step.{PathActs, Step}
 use Rattle.world_run.specs.World.{WorldState, world_of}
 use Rattle.world_desk.specs.Worlds.{IsReady}
 use Rattle.world_events.specs.Events.{LeadsAt}
+use Rattle.world_rows.specs.Rows.{OnlyReads, ReadRefused, ShowsRefused}
 
 -- ---- refusals of the namesystem
 
@@ -156,21 +158,20 @@ module _ (lines : List PropLine) (w : WorldState) (words : ℕ → ℕ) (now : �
   list_line : Step lines w words now (event.List user path) fault tells answer drawn logged w' → IsPlainLine answer
   list_line step = path_plain w user name_call.List (read_any_path path) fault answer drawn logged w' (λ p given ops s' serves own is. list_plain w.names user p fault given ops s' serves own is) step
 
-refused_ends : (why : NameRefusal) → IsPlain why → EndsFor ⊥ ⊥ (end_of_names why)
-refused_ends why plain = ends-failed ⊥ ⊥ (end_of_names why) (names_fail why) plain
+refused_ends : (own : NameRefusal) → IsPlain own → EndsFor ⊥ ⊥ (ShowsRefused (line.Name (reply.Refused own))) (end_of_names own)
+refused_ends own plain = ends-failed ⊥ ⊥ (ShowsRefused (line.Name (reply.Refused own))) (end_of_names own) (names_fail own) plain (inr (record { own = own; answer_is = refl; why_is = refl }))
 
-row_by_ends : (given : NameReply) → ((own : NameRefusal) → given ≡ reply.Refused own → IsPlain own) → IfErr (row_by given) (EndsFor ⊥ ⊥)
+row_by_ends : (given : NameReply) → IsPlainLine (line.Name given) → IfErr (row_by given) (EndsFor ⊥ ⊥ (ShowsRefused (line.Name given)))
 row_by_ends reply.Done plain = tt
 row_by_ends (reply.Dir id area key) plain = tt
 row_by_ends (reply.File id area edek) plain = tt
 row_by_ends (reply.List children) plain = tt
 row_by_ends (reply.Status status) plain = tt
 row_by_ends (reply.Zones zones) plain = tt
-row_by_ends (reply.Refused why) plain = refused_ends why (plain why refl)
+row_by_ends (reply.Refused own) plain = refused_ends own (plain own refl)
 
-row_ends : (answer : Line) → IsPlainLine answer → IfErr (row_in answer) (EndsFor ⊥ ⊥)
+row_ends : (answer : Line) → IsPlainLine answer → IfErr (row_in answer) (EndsFor ⊥ ⊥ (ShowsRefused answer))
 row_ends (line.Kms given) plain = tt
-row_ends (line.Name given) plain = row_by_ends given (λ own is. plain own (ap line.Name is))
 row_ends (line.Ticket number version wanted) plain = tt
 row_ends line.NoTicket plain = tt
 row_ends (line.Deposit deposit) plain = tt
@@ -183,19 +184,19 @@ row_ends line.Completed plain = tt
 row_ends (line.Delivered delivered) plain = tt
 row_ends (line.Refused why) plain = tt
 row_ends line.Unknown plain = tt
+row_ends (line.Name given) plain = row_by_ends given plain
 
-children_by_ends : (given : NameReply) → ((own : NameRefusal) → given ≡ reply.Refused own → IsPlain own) → IfErr (children_by given) (EndsFor ⊥ ⊥)
+children_by_ends : (given : NameReply) → IsPlainLine (line.Name given) → IfErr (children_by given) (EndsFor ⊥ ⊥ (ShowsRefused (line.Name given)))
 children_by_ends reply.Done plain = tt
 children_by_ends (reply.Dir id area key) plain = tt
 children_by_ends (reply.File id area edek) plain = tt
 children_by_ends (reply.List children) plain = tt
 children_by_ends (reply.Status status) plain = tt
 children_by_ends (reply.Zones zones) plain = tt
-children_by_ends (reply.Refused why) plain = refused_ends why (plain why refl)
+children_by_ends (reply.Refused own) plain = refused_ends own (plain own refl)
 
-children_ends : (answer : Line) → IsPlainLine answer → IfErr (children_in answer) (EndsFor ⊥ ⊥)
+children_ends : (answer : Line) → IsPlainLine answer → IfErr (children_in answer) (EndsFor ⊥ ⊥ (ShowsRefused answer))
 children_ends (line.Kms given) plain = tt
-children_ends (line.Name given) plain = children_by_ends given (λ own is. plain own (ap line.Name is))
 children_ends (line.Ticket number version wanted) plain = tt
 children_ends line.NoTicket plain = tt
 children_ends (line.Deposit deposit) plain = tt
@@ -208,6 +209,7 @@ children_ends line.Completed plain = tt
 children_ends (line.Delivered delivered) plain = tt
 children_ends (line.Refused why) plain = tt
 children_ends line.Unknown plain = tt
+children_ends (line.Name given) plain = children_by_ends given plain
 
 -- ---- the metadata of a key
 
@@ -248,21 +250,21 @@ metadata_line lines w words now user name fault tells answer drawn logged w' ste
     let own : step.reply ≡ key_reply.Refused key.StoreFault = cc in
     key_sound w.keys words now fault step.reply drawn step.commands step.keys (verdict lines user (call.Metadata name)) name step.serves own
 
-reply_ends : (answer : Line) → IfErr (reply_in answer) (EndsFor ⊥ ⊥)
-reply_ends (line.Kms given) = tt
-reply_ends (line.Name given) = tt
-reply_ends (line.Ticket number version wanted) = tt
-reply_ends line.NoTicket = tt
-reply_ends (line.Deposit deposit) = tt
-reply_ends (line.Opened opening) = tt
-reply_ends (line.Asked number note) = tt
-reply_ends (line.Replied number given) = tt
-reply_ends (line.Batch number files) = tt
-reply_ends (line.NoneLeft count) = tt
-reply_ends line.Completed = tt
-reply_ends (line.Delivered delivered) = tt
-reply_ends (line.Refused why) = tt
-reply_ends line.Unknown = tt
+reply_ends : (refused : FsEnd → Type 0) (answer : Line) → IfErr (reply_in answer) (EndsFor ⊥ ⊥ refused)
+reply_ends refused (line.Kms given) = tt
+reply_ends refused (line.Name given) = tt
+reply_ends refused (line.Ticket number version wanted) = tt
+reply_ends refused line.NoTicket = tt
+reply_ends refused (line.Deposit deposit) = tt
+reply_ends refused (line.Opened opening) = tt
+reply_ends refused (line.Asked number note) = tt
+reply_ends refused (line.Replied number given) = tt
+reply_ends refused (line.Batch number files) = tt
+reply_ends refused (line.NoneLeft count) = tt
+reply_ends refused line.Completed = tt
+reply_ends refused (line.Delivered delivered) = tt
+reply_ends refused (line.Refused why) = tt
+reply_ends refused line.Unknown = tt
 
 reply_is : (answer : Line) (given : KmsReply) → reply_in answer ≡ Ok given → answer ≡ line.Kms given
 reply_is (line.Kms given) own e = let same : given ≡ own = cc in ap line.Kms same
@@ -283,24 +285,35 @@ reply_is line.Unknown own e = absurd cc
 -- ---- over a disk
 
 module _ {D W : Type 0} (state : D → DiskState) (to_come : W → ℕ → ℕ) (now : ℕ) (a b : Standing D W) (ready : IsReady state a) (user : Text) where
-  pub look_ends : (place : ReadPath) (result : Result Row FsEnd) → Looks (LeadsAt state to_come now) user place a result b → IfErr result (EndsFor ⊥ ⊥)
-  look_ends place result (inr (none, same)) = subst (λ (r : Result Row FsEnd). IfErr r (EndsFor ⊥ ⊥)) (sym none) tt
-  look_ends place result (inl (answer, leads, is)) =
-      let s = leads ready.0 ready.1.lists in
-      subst (λ (r : Result Row FsEnd). IfErr r (EndsFor ⊥ ⊥)) (sym is)
-      (row_ends answer (info_line ready.0 (world_of a.world) (to_come a.words) now user (read_path_text place) (Rose (state a.disk).faults (state b.disk).faults) (Tells (state a.disk)) answer s.drawn s.logged (world_of b.world) s.step.step))
+  -- the refusal that an answer shows is the cause
+  read_ends : (e : Event) (answer : Line) (why : FsEnd) → OnlyReads e → LeadsAt state to_come now a e answer b → EndsFor ⊥ ⊥ (ShowsRefused answer) why → EndsFor ⊥ ⊥ (ReadRefused state to_come now a b) why
+  read_ends e answer why only leads h = ends-so ⊥ ⊥ ⊥ ⊥ (ShowsRefused answer) (ReadRefused state to_come now a b) why (λ x. x) (λ x. x) (λ shows. (e, answer, only, leads, shows)) h
 
-  pub list_ends : (place : ReadPath) (result : Result (List Child) FsEnd) → Lists (LeadsAt state to_come now) user place a result b → IfErr result (EndsFor ⊥ ⊥)
-  list_ends place result (inr (none, same)) = subst (λ (r : Result (List Child) FsEnd). IfErr r (EndsFor ⊥ ⊥)) (sym none) tt
-  list_ends place result (inl (answer, leads, is)) =
-      let s = leads ready.0 ready.1.lists in
-      subst (λ (r : Result (List Child) FsEnd). IfErr r (EndsFor ⊥ ⊥)) (sym is)
-      (children_ends answer (list_line ready.0 (world_of a.world) (to_come a.words) now user (read_path_text place) (Rose (state a.disk).faults (state b.disk).faults) (Tells (state a.disk)) answer s.drawn s.logged (world_of b.world) s.step.step))
+  err_ends : {T : Type 0} (e : Event) (answer : Line) (result : Result T FsEnd) → OnlyReads e → LeadsAt state to_come now a e answer b → IfErr result (EndsFor ⊥ ⊥ (ShowsRefused answer)) → IfErr result (EndsFor ⊥ ⊥ (ReadRefused state to_come now a b))
+  err_ends e answer (Ok done) only leads h = tt
+  err_ends e answer (Err why) only leads h = read_ends e answer why only leads h
+
+  module _ (is_user : user ≡ superuser) where
+    pub look_ends : (place : ReadPath) (result : Result Row FsEnd) → Looks (LeadsAt state to_come now) user place a result b → IfErr result (EndsFor ⊥ ⊥ (ReadRefused state to_come now a b))
+    look_ends place result (inr (none, same)) = subst (λ (r : Result Row FsEnd). IfErr r (EndsFor ⊥ ⊥ (ReadRefused state to_come now a b))) (sym none) tt
+    look_ends place result (inl (answer, leads, is)) =
+        let s = leads ready.0 ready.1.lists in
+        subst (λ (r : Result Row FsEnd). IfErr r (EndsFor ⊥ ⊥ (ReadRefused state to_come now a b))) (sym is)
+        (err_ends (event.Info user (read_path_text place)) answer (row_in answer) is_user leads
+        (row_ends answer (info_line ready.0 (world_of a.world) (to_come a.words) now user (read_path_text place) (Rose (state a.disk).faults (state b.disk).faults) (Tells (state a.disk)) answer s.drawn s.logged (world_of b.world) s.step.step)))
+
+    pub list_ends : (place : ReadPath) (result : Result (List Child) FsEnd) → Lists (LeadsAt state to_come now) user place a result b → IfErr result (EndsFor ⊥ ⊥ (ReadRefused state to_come now a b))
+    list_ends place result (inr (none, same)) = subst (λ (r : Result (List Child) FsEnd). IfErr r (EndsFor ⊥ ⊥ (ReadRefused state to_come now a b))) (sym none) tt
+    list_ends place result (inl (answer, leads, is)) =
+        let s = leads ready.0 ready.1.lists in
+        subst (λ (r : Result (List Child) FsEnd). IfErr r (EndsFor ⊥ ⊥ (ReadRefused state to_come now a b))) (sym is)
+        (err_ends (event.List user (read_path_text place)) answer (children_in answer) is_user leads
+        (children_ends answer (list_line ready.0 (world_of a.world) (to_come a.words) now user (read_path_text place) (Rose (state a.disk).faults (state b.disk).faults) (Tells (state a.disk)) answer s.drawn s.logged (world_of b.world) s.step.step)))
 
   module _ (name : KeyName) (result : Result KmsReply FsEnd) where
-    pub metadata_ends : AsksKey (LeadsAt state to_come now) user name a result b → IfErr result (EndsFor ⊥ ⊥)
-    metadata_ends (inr (none, same)) = subst (λ (r : Result KmsReply FsEnd). IfErr r (EndsFor ⊥ ⊥)) (sym none) tt
-    metadata_ends (inl (answer, leads, is)) = subst (λ (r : Result KmsReply FsEnd). IfErr r (EndsFor ⊥ ⊥)) (sym is) (reply_ends answer)
+    pub metadata_ends : (refused : FsEnd → Type 0) → AsksKey (LeadsAt state to_come now) user name a result b → IfErr result (EndsFor ⊥ ⊥ refused)
+    metadata_ends refused (inr (none, same)) = subst (λ (r : Result KmsReply FsEnd). IfErr r (EndsFor ⊥ ⊥ refused)) (sym none) tt
+    metadata_ends refused (inl (answer, leads, is)) = subst (λ (r : Result KmsReply FsEnd). IfErr r (EndsFor ⊥ ⊥ refused)) (sym is) (reply_ends refused answer)
 
     pub metadata_fault : AsksKey (LeadsAt state to_come now) user name a result b → result ≡ Ok (key_reply.Refused key.StoreFault) → ⊥
     metadata_fault (inr (none, same)) h = absurd cc

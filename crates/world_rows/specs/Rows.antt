@@ -6,11 +6,15 @@ use Rattle.hk_events.specs.declared.event.Event.{Event}
 use Rattle.hk_events.specs.declared.event.Event.TheVariants as event
 use Rattle.hk_events.specs.declared.event.Line.{Line}
 use Rattle.hk_events.specs.declared.event.Line.TheVariants as line
+use Rattle.file_orders.specs.Ends.{end_of_names}
+use Rattle.file_orders.specs.declared.ends.FsEnd.{FsEnd}
 use Rattle.inode_tree.specs.Below.{rows_below}
 use Rattle.inode_tree.specs.Rows.{Entry}
 use Rattle.kms_calls.specs.declared.calls.KmsCall.{KmsCall}
 use Rattle.kms_calls.specs.declared.calls.KmsCall.TheVariants as call
 use Rattle.kms_calls.specs.declared.calls.KmsReply.{KmsReply}
+use Rattle.name_calls.specs.declared.calls.NameRefusal.{NameRefusal}
+use Rattle.name_calls.specs.declared.calls.NameReply.TheVariants as reply
 use Rattle.name_calls.specs.declared.paths.NPath.{NPath}
 use Rattle.name_calls.specs.declared.read_paths.ReadPath.{ReadPath}
 use Rattle.name_calls.specs.declared.read_paths.SnapPart.{SnapPart}
@@ -78,3 +82,16 @@ pub record ReadsOn {D W : Type 0} (state : D → DiskState) (to_come : W → ℕ
 abbrev pub RepliesTo : {D W : Type 0} → (D → DiskState) → (W → ℕ → ℕ) → WorldRows D W → KeyName → KmsReply → WorldRows D W → Type 0
 RepliesTo state to_come old key given new =
     LeadsAt state to_come old.events.now (standing_of old.events) (event.Kms superuser (call.Metadata key)) (line.Kms given) (standing_of new.events)
+
+-- the answer is a refusal of the namesystem, and the end is that by it
+pub record ShowsRefused (answer : Line) (why : FsEnd) : Type 0 where
+  pub own : NameRefusal
+  pub answer_is : answer ≡ line.Name (reply.Refused own)
+  pub why_is : why ≡ end_of_names own
+
+-- An event that reads was answered by a refusal.
+abbrev pub ReadRefused : {D W : Type 0} → (D → DiskState) → (W → ℕ → ℕ) → ℕ → Standing D W → Standing D W → FsEnd → Type 0
+ReadRefused state to_come now a b why = (e : Event) × (answer : Line) × OnlyReads e × LeadsAt state to_come now a e answer b × ShowsRefused answer why
+
+abbrev pub RefusesTo : {D W : Type 0} → (D → DiskState) → (W → ℕ → ℕ) → WorldRows D W → WorldRows D W → FsEnd → Type 0
+RefusesTo state to_come old new why = ReadRefused state to_come old.events.now (standing_of old.events) (standing_of new.events) why

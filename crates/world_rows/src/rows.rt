@@ -1,6 +1,6 @@
 //! The rows at and below a place of a world, which are read by events.
 ghost use Rattle.std.specs.Prelude.{◌≡◌};
-ghost use Rattle.world_rows.specs.Rows.{CanRead, ReadsOn, RepliesTo, rows_seen};
+ghost use Rattle.world_rows.specs.Rows.{CanRead, ReadsOn, RefusesTo, RepliesTo, rows_seen};
 
 use file_orders::FsEnd;
 use hk_base::{Disk, KeyName, Text, Words};
@@ -51,6 +51,8 @@ impl<'a, D: Disk, W: Words> SourceRows for WorldRows<'a, D, W> {
     ghost follows = { λ old new. ReadsOn D.state W.to_come old new };
 
     ghost replies = { λ old key given new. RepliesTo D.state W.to_come old key given new };
+
+    ghost refuses = { λ old new. RefusesTo D.state W.to_come old new };
 
     fn facts(&self) {}
 

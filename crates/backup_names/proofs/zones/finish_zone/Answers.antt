@@ -7,6 +7,7 @@ use Rattle.backup_names.proofs.OrderLemmas.{orders_of_logs}
 use Rattle.std.specs.Prelude.{IfErr}
 use Rattle.file_orders.specs.Ends.{IsFailure}
 use Rattle.backup_names.proofs.LookLemmas.{finish_fails}
+use Rattle.backup_names.proofs.RefusalLemmas.{finish_caused}
 use Rattle.backup_names.proofs.zones.finish_zone.Goals as goal
 
 pub returns-clause-makes : goal.returns-clause-makes
@@ -29,3 +30,7 @@ returns-clause-fault g c = λ is.
 
 pub returns-clause-failure : goal.returns-clause-failure
 returns-clause-failure g c = subst (λ x. IfErr x IsFailure) (sym c.finish_end.ensures) (finish_fails c.finish.result)
+
+pub returns-clause-cause : goal.returns-clause-cause
+returns-clause-cause g c =
+    finish_caused (g.E.Disk.state c.args.disk.now) (g.E.Disk.state c.finish.new.disk) c.args.name.now c.finish.new.self c.args.id (answer_of (Some c.args.reply)) c.finish.result c.finish_end.result c.finish_end.ensures c.finish.ensures

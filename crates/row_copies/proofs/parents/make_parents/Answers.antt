@@ -42,4 +42,4 @@ loop-k-preserved g c =
 
 pub returns-in-Err-make_missing-clause-ends : goal.returns-in-Err-make_missing-clause-ends
 returns-in-Err-make_missing-clause-ends g c =
-    ends-then g.C.Clusters.state g.C.Clusters.follows g.C.Clusters.store_fails g.C.Clusters.vault_fails c.args.clusters.now c.loop-k.clusters c.make_missing.new.clusters c.in-Err-make_missing.end c.loop-k.invariant.steps (free-above c.loop-k.k c.args.to.now (g.C.Clusters.state c.args.clusters.now) (g.C.Clusters.state c.loop-k.clusters) c.loop-k.invariant.made) c.in-Err-make_missing.ensures.ends
+    ends-then g.C.Clusters.state g.C.Clusters.follows g.C.Clusters.store_fails g.C.Clusters.vault_fails g.C.Clusters.refuses c.args.clusters.now c.loop-k.clusters c.make_missing.new.clusters c.in-Err-make_missing.end c.loop-k.invariant.steps (free-above c.loop-k.k c.args.to.now (g.C.Clusters.state c.args.clusters.now) (g.C.Clusters.state c.loop-k.clusters) c.loop-k.invariant.made) c.in-Err-make_missing.ensures.ends

@@ -4,12 +4,13 @@ use Rattle.name_calls.proofs.PathLemmas.{relative-short}
 use Rattle.inode_tree.specs.Listing.{children}
 use Rattle.inode_tree.specs.Rows.{Entry}
 use Rattle.row_blocks.specs.Below.{below}
+use Rattle.row_copies.specs.Copies.{IsTooLong, StepRefuses}
 use Rattle.row_copies.specs.Walks.{Adds, Counts, IsNext, Stops}
 use Rattle.row_copies.proofs.AddLemmas.{keeps-rows, keeps-same}
 use Rattle.row_copies.proofs.NextLemmas.{kids-of}
 use Rattle.row_copies.proofs.StepLemmas.{one, steps-join}
 use Rattle.row_copies.proofs.WalkLemmas.{Walked, file-done, kid-path, kid-ruled, many-kids, no_entry, row-then-stops, walked-all, walked-early, walked-first, walked-kid, walked-next, walked-stops}
-use Rattle.row_copies.proofs.CauseLemmas.{ends-last, ends-plain, ends-then, free-adds}
+use Rattle.row_copies.proofs.CauseLemmas.{ends-call, ends-last, ends-memory, ends-then, free-adds}
 use Rattle.row_copies.proofs.walk.+copy_block.Goals as goal
 
 pub returns-in-Err-clause-err : goal.returns-in-Err-clause-err
@@ -125,16 +126,16 @@ returns-in-Err-clause-ends g t c =
 
 pub returns-in-Err-count-clause-ends : goal.returns-in-Err-count-clause-ends
 returns-in-Err-count-clause-ends g t c =
-    ends-plain _ _ c.in-Err-count.end c.in-Err-count.ensures.ends
+    ends-memory g.C.Clusters.state g.C.Clusters.follows g.C.Clusters.store_fails g.C.Clusters.vault_fails (StepRefuses g.C.Clusters.state g.C.Clusters.refuses (IsTooLong c.args.to.now)) c.args.clusters.now c.copy_row.new.clusters c.in-Err-count.end c.in-Err-count.ensures.ends
 
 pub returns-in-Err-list-clause-ends : goal.returns-in-Err-list-clause-ends
 returns-in-Err-list-clause-ends g t c =
-    ends-last g.C.Clusters.state g.C.Clusters.follows g.C.Clusters.store_fails g.C.Clusters.vault_fails c.args.clusters.now c.copy_row.new.clusters c.list.new.self c.in-Err-list.end c.copy_row.ensures.steps (free-adds c.args.to.now _ (g.C.Clusters.state c.args.clusters.now) (g.C.Clusters.state c.copy_row.new.clusters) c.in-Ok.ensures.ok.adds) c.in-Err-list.ensures.ends
+    ends-last g.C.Clusters.state g.C.Clusters.follows g.C.Clusters.store_fails g.C.Clusters.vault_fails (StepRefuses g.C.Clusters.state g.C.Clusters.refuses (IsTooLong c.args.to.now)) c.args.clusters.now c.copy_row.new.clusters c.list.new.self c.in-Err-list.end c.copy_row.ensures.steps (free-adds c.args.to.now _ (g.C.Clusters.state c.args.clusters.now) (g.C.Clusters.state c.copy_row.new.clusters) c.in-Ok.ensures.ok.adds) (ends-call g.C.Clusters.state g.C.Clusters.follows g.C.Clusters.store_fails g.C.Clusters.vault_fails g.C.Clusters.refuses (IsTooLong c.args.to.now) c.copy_row.new.clusters c.list.new.self c.in-Err-list.end c.in-Err-list.ensures.ends)
 
 pub returns-in-Err-child_path-clause-ends : goal.returns-in-Err-child_path-clause-ends
 returns-in-Err-child_path-clause-ends g t c =
-    ends-plain _ _ c.in-Err-child_path.end c.in-Err-child_path.ensures.ends
+    ends-memory g.C.Clusters.state g.C.Clusters.follows g.C.Clusters.store_fails g.C.Clusters.vault_fails (StepRefuses g.C.Clusters.state g.C.Clusters.refuses (IsTooLong c.args.to.now)) c.args.clusters.now c.loop-child.clusters c.in-Err-child_path.end c.in-Err-child_path.ensures.ends
 
 pub returns-in-Err-copy_block-clause-ends : goal.returns-in-Err-copy_block-clause-ends
 returns-in-Err-copy_block-clause-ends g t c =
-    ends-then g.C.Clusters.state g.C.Clusters.follows g.C.Clusters.store_fails g.C.Clusters.vault_fails c.args.clusters.now c.loop-child.clusters c.copy_block.new.clusters c.in-Err-copy_block.end c.loop-child.invariant.steps (free-adds c.args.to.now _ (g.C.Clusters.state c.args.clusters.now) (g.C.Clusters.state c.loop-child.clusters) c.loop-child.invariant.walked.adds) c.in-Err-copy_block.ensures.ends
+    ends-then g.C.Clusters.state g.C.Clusters.follows g.C.Clusters.store_fails g.C.Clusters.vault_fails (StepRefuses g.C.Clusters.state g.C.Clusters.refuses (IsTooLong c.args.to.now)) c.args.clusters.now c.loop-child.clusters c.copy_block.new.clusters c.in-Err-copy_block.end c.loop-child.invariant.steps (free-adds c.args.to.now _ (g.C.Clusters.state c.args.clusters.now) (g.C.Clusters.state c.loop-child.clusters) c.loop-child.invariant.walked.adds) c.in-Err-copy_block.ensures.ends

@@ -1,11 +1,12 @@
-use Rattle.std.proofs.Common.{◌≡◌, ◌⊎◌, ℕ, Bool, List, true, subst}
+use Rattle.std.proofs.Common.{◌≡◌, ◌⊎◌, inl, ℕ, Bool, List, true, subst}
 use Rattle.inode_tree.specs.Rows.{is_marked}
 use Rattle.row_blocks.specs.Below.{below}
 use Rattle.row_copies.specs.Clusters.{KeepsRows, MakesDirectory}
+use Rattle.row_copies.specs.Copies.{IsTooLong, StepRefuses}
 use Rattle.row_copies.specs.Walks.{CopiesRow, MakesCopy, Stops}
 use Rattle.row_copies.proofs.StepLemmas.{if-ok, on-err, one, steps-join}
 use Rattle.row_copies.proofs.WalkLemmas.{kept-stops, row-copied, row-stopped}
-use Rattle.row_copies.proofs.CauseLemmas.{ends-now, ends-plain, free-keeps, then-ends}
+use Rattle.row_copies.proofs.CauseLemmas.{ends-call, ends-long, ends-now, free-keeps, then-ends, wide-ends}
 use Rattle.row_copies.proofs.walk.copy_row.Goals as goal
 
 pub returns-in-Err-clause-err : goal.returns-in-Err-clause-err
@@ -46,12 +47,13 @@ returns-in-Err-join-clause-steps g c = one g.C.Clusters.follows c.args.clusters.
 
 pub returns-in-Err-clause-ends : goal.returns-in-Err-clause-ends
 returns-in-Err-clause-ends g c =
-    ends-now g.C.Clusters.state g.C.Clusters.follows g.C.Clusters.store_fails g.C.Clusters.vault_fails c.args.clusters.now c.look.new.self c.in-Err.end c.in-Err.ensures.ends
+    ends-now g.C.Clusters.state g.C.Clusters.follows g.C.Clusters.store_fails g.C.Clusters.vault_fails (StepRefuses g.C.Clusters.state g.C.Clusters.refuses (IsTooLong c.args.to.now)) c.args.clusters.now c.look.new.self c.in-Err.end (ends-call g.C.Clusters.state g.C.Clusters.follows g.C.Clusters.store_fails g.C.Clusters.vault_fails g.C.Clusters.refuses (IsTooLong c.args.to.now) c.args.clusters.now c.look.new.self c.in-Err.end c.in-Err.ensures.ends)
 
 pub returns-in-Ok-join-clause-ends : goal.returns-in-Ok-join-clause-ends
 returns-in-Ok-join-clause-ends g c =
-    then-ends g.C.Clusters.state g.C.Clusters.follows g.C.Clusters.store_fails g.C.Clusters.vault_fails c.args.clusters.now c.look.new.self c.make_row.new.clusters c.make_row.result (one g.C.Clusters.follows c.args.clusters.now c.look.new.self c.look.ensures.follows) (free-keeps (g.C.Clusters.state c.args.clusters.now) (g.C.Clusters.state c.look.new.self) c.look.ensures.keeps) c.make_row.ensures.ends
+    then-ends g.C.Clusters.state g.C.Clusters.follows g.C.Clusters.store_fails g.C.Clusters.vault_fails (StepRefuses g.C.Clusters.state g.C.Clusters.refuses (IsTooLong c.args.to.now)) c.args.clusters.now c.look.new.self c.make_row.new.clusters c.make_row.result (one g.C.Clusters.follows c.args.clusters.now c.look.new.self c.look.ensures.follows) (free-keeps (g.C.Clusters.state c.args.clusters.now) (g.C.Clusters.state c.look.new.self) c.look.ensures.keeps) (wide-ends g.C.Clusters.state g.C.Clusters.follows g.C.Clusters.store_fails g.C.Clusters.vault_fails g.C.Clusters.refuses (StepRefuses g.C.Clusters.state g.C.Clusters.refuses (IsTooLong c.args.to.now)) c.look.new.self c.make_row.new.clusters c.make_row.result (λ why x r. inl r) c.make_row.ensures.ends)
 
 pub returns-in-Err-join-clause-ends : goal.returns-in-Err-join-clause-ends
 returns-in-Err-join-clause-ends g c =
-    ends-plain _ _ c.in-Err-join.end c.in-Err-join.ensures.ends
+    ends-now g.C.Clusters.state g.C.Clusters.follows g.C.Clusters.store_fails g.C.Clusters.vault_fails (StepRefuses g.C.Clusters.state g.C.Clusters.refuses (IsTooLong c.args.to.now)) c.args.clusters.now c.look.new.self c.in-Err-join.end
+    (ends-long g.C.Clusters.state g.C.Clusters.refuses c.args.to.now c.args.from.now c.in-Ok.row _ _ c.args.clusters.now c.look.new.self c.in-Err-join.end c.in-Ok.ensures.row c.in-Err-join.ensures.ends)

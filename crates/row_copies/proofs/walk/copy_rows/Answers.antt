@@ -1,11 +1,11 @@
 use Rattle.std.proofs.Common.{◌≡◌, ℕ, List, Some, true, subst, arith}
 use Rattle.inode_tree.specs.declared.rows.Row.{Row}
 use Rattle.inode_tree.specs.Rows.{is_marked, row_at}
-use Rattle.row_copies.specs.Copies.{above, is_file}
+use Rattle.row_copies.specs.Copies.{IsTooLong, StepRefuses, above, is_file}
 use Rattle.row_copies.specs.Walks.{is_directory}
-use Rattle.row_copies.proofs.EndLemmas.{absent-stops, marked-not, parents-stop, whole-absent, whole-all, whole-count, whole-next, whole-part, zone-stops}
+use Rattle.row_copies.proofs.EndLemmas.{absent-stops, marked-not, parents-stop, taken-before, whole-absent, whole-all, whole-count, whole-next, whole-part, zone-stops}
 use Rattle.row_copies.proofs.StepLemmas.{one, steps-join}
-use Rattle.row_copies.proofs.CauseLemmas.{ends-last, ends-now, ends-then, free-above, free-join, free-keeps}
+use Rattle.row_copies.proofs.CauseLemmas.{ends-then, free-above, free-join, free-keeps, whole-long, whole-mark, whole-plain, whole-taken}
 use Rattle.row_copies.proofs.walk.copy_rows.Goals as goal
 
 pub returns-in-Err-clause-part : goal.returns-in-Err-clause-part
@@ -89,16 +89,19 @@ returns-clause-unmarked g c row at plain =
 
 pub returns-in-Err-clause-ends : goal.returns-in-Err-clause-ends
 returns-in-Err-clause-ends g c =
-    ends-now g.C.Clusters.state g.C.Clusters.follows g.C.Clusters.store_fails g.C.Clusters.vault_fails c.args.clusters.now c.check_zone.new.clusters c.in-Err.end c.in-Err.ensures.ends
+    whole-mark g.C.Clusters.state g.C.Clusters.follows g.C.Clusters.store_fails g.C.Clusters.vault_fails g.C.Clusters.refuses c.args.to.now c.args.clusters.now c.root-root.result c.check_zone.new.clusters c.in-Err.end c.root-root.ensures c.in-Err.ensures.ends
 
 pub returns-in-Err-make_parents-clause-ends : goal.returns-in-Err-make_parents-clause-ends
 returns-in-Err-make_parents-clause-ends g c =
-    ends-then g.C.Clusters.state g.C.Clusters.follows g.C.Clusters.store_fails g.C.Clusters.vault_fails c.args.clusters.now c.check_zone.new.clusters c.make_parents.new.clusters c.in-Err-make_parents.end (one g.C.Clusters.follows c.args.clusters.now c.check_zone.new.clusters c.check_zone.ensures.follows) (free-keeps (g.C.Clusters.state c.args.clusters.now) (g.C.Clusters.state c.check_zone.new.clusters) c.check_zone.ensures.keeps) c.in-Err-make_parents.ensures.ends
+    whole-plain g.C.Clusters.state g.C.Clusters.follows g.C.Clusters.store_fails g.C.Clusters.vault_fails g.C.Clusters.refuses c.args.to.now c.args.clusters.now c.make_parents.new.clusters c.in-Err-make_parents.end
+    (ends-then g.C.Clusters.state g.C.Clusters.follows g.C.Clusters.store_fails g.C.Clusters.vault_fails g.C.Clusters.refuses c.args.clusters.now c.check_zone.new.clusters c.make_parents.new.clusters c.in-Err-make_parents.end (one g.C.Clusters.follows c.args.clusters.now c.check_zone.new.clusters c.check_zone.ensures.follows) (free-keeps (g.C.Clusters.state c.args.clusters.now) (g.C.Clusters.state c.check_zone.new.clusters) c.check_zone.ensures.keeps) c.in-Err-make_parents.ensures.ends)
 
 pub returns-in-Err-check_absent-clause-ends : goal.returns-in-Err-check_absent-clause-ends
 returns-in-Err-check_absent-clause-ends g c =
-    ends-last g.C.Clusters.state g.C.Clusters.follows g.C.Clusters.store_fails g.C.Clusters.vault_fails c.args.clusters.now c.make_parents.new.clusters c.check_absent.new.clusters c.in-Err-check_absent.end (steps-join g.C.Clusters.follows c.args.clusters.now c.check_zone.new.clusters c.make_parents.new.clusters (one g.C.Clusters.follows c.args.clusters.now c.check_zone.new.clusters c.check_zone.ensures.follows) c.make_parents.ensures.steps) (free-join (g.C.Clusters.state c.args.clusters.now) (g.C.Clusters.state c.check_zone.new.clusters) (g.C.Clusters.state c.make_parents.new.clusters) (free-keeps (g.C.Clusters.state c.args.clusters.now) (g.C.Clusters.state c.check_zone.new.clusters) c.check_zone.ensures.keeps) (free-above (above c.args.to.now) c.args.to.now (g.C.Clusters.state c.check_zone.new.clusters) (g.C.Clusters.state c.make_parents.new.clusters) c.in-Ok-make_parents.ensures.ok)) c.in-Err-check_absent.ensures.ends
+    whole-taken g.C.Clusters.state g.C.Clusters.follows g.C.Clusters.store_fails g.C.Clusters.vault_fails g.C.Clusters.refuses c.args.to.now c.args.clusters.now c.make_parents.new.clusters c.check_absent.new.clusters c.in-Err-check_absent.end (steps-join g.C.Clusters.follows c.args.clusters.now c.check_zone.new.clusters c.make_parents.new.clusters (one g.C.Clusters.follows c.args.clusters.now c.check_zone.new.clusters c.check_zone.ensures.follows) c.make_parents.ensures.steps) (free-join (g.C.Clusters.state c.args.clusters.now) (g.C.Clusters.state c.check_zone.new.clusters) (g.C.Clusters.state c.make_parents.new.clusters) (free-keeps (g.C.Clusters.state c.args.clusters.now) (g.C.Clusters.state c.check_zone.new.clusters) c.check_zone.ensures.keeps) (free-above (above c.args.to.now) c.args.to.now (g.C.Clusters.state c.check_zone.new.clusters) (g.C.Clusters.state c.make_parents.new.clusters) c.in-Ok-make_parents.ensures.ok))
+    (taken-before c.args.to.now (g.C.Clusters.state c.args.clusters.now) (g.C.Clusters.state c.check_zone.new.clusters) (g.C.Clusters.state c.make_parents.new.clusters) c.check_zone.ensures.keeps c.in-Ok-make_parents.ensures.ok) c.in-Err-check_absent.ensures.ends
 
 pub returns-clause-ends : goal.returns-clause-ends
 returns-clause-ends g c =
-    ends-then g.C.Clusters.state g.C.Clusters.follows g.C.Clusters.store_fails g.C.Clusters.vault_fails c.args.clusters.now c.check_absent.new.clusters c.copy_block.new.clusters c.in-Err-copy_block.end (steps-join g.C.Clusters.follows c.args.clusters.now c.make_parents.new.clusters c.check_absent.new.clusters (steps-join g.C.Clusters.follows c.args.clusters.now c.check_zone.new.clusters c.make_parents.new.clusters (one g.C.Clusters.follows c.args.clusters.now c.check_zone.new.clusters c.check_zone.ensures.follows) c.make_parents.ensures.steps) (one g.C.Clusters.follows c.make_parents.new.clusters c.check_absent.new.clusters c.check_absent.ensures.follows)) (free-join (g.C.Clusters.state c.args.clusters.now) (g.C.Clusters.state c.make_parents.new.clusters) (g.C.Clusters.state c.check_absent.new.clusters) (free-join (g.C.Clusters.state c.args.clusters.now) (g.C.Clusters.state c.check_zone.new.clusters) (g.C.Clusters.state c.make_parents.new.clusters) (free-keeps (g.C.Clusters.state c.args.clusters.now) (g.C.Clusters.state c.check_zone.new.clusters) c.check_zone.ensures.keeps) (free-above (above c.args.to.now) c.args.to.now (g.C.Clusters.state c.check_zone.new.clusters) (g.C.Clusters.state c.make_parents.new.clusters) c.in-Ok-make_parents.ensures.ok)) (free-keeps (g.C.Clusters.state c.make_parents.new.clusters) (g.C.Clusters.state c.check_absent.new.clusters) c.check_absent.ensures.keeps)) c.in-Err-copy_block.ensures.ends
+    whole-long g.C.Clusters.state g.C.Clusters.follows g.C.Clusters.store_fails g.C.Clusters.vault_fails g.C.Clusters.refuses c.args.to.now c.args.clusters.now c.copy_block.new.clusters c.in-Err-copy_block.end
+    (ends-then g.C.Clusters.state g.C.Clusters.follows g.C.Clusters.store_fails g.C.Clusters.vault_fails (StepRefuses g.C.Clusters.state g.C.Clusters.refuses (IsTooLong c.args.to.now)) c.args.clusters.now c.check_absent.new.clusters c.copy_block.new.clusters c.in-Err-copy_block.end (steps-join g.C.Clusters.follows c.args.clusters.now c.make_parents.new.clusters c.check_absent.new.clusters (steps-join g.C.Clusters.follows c.args.clusters.now c.check_zone.new.clusters c.make_parents.new.clusters (one g.C.Clusters.follows c.args.clusters.now c.check_zone.new.clusters c.check_zone.ensures.follows) c.make_parents.ensures.steps) (one g.C.Clusters.follows c.make_parents.new.clusters c.check_absent.new.clusters c.check_absent.ensures.follows)) (free-join (g.C.Clusters.state c.args.clusters.now) (g.C.Clusters.state c.make_parents.new.clusters) (g.C.Clusters.state c.check_absent.new.clusters) (free-join (g.C.Clusters.state c.args.clusters.now) (g.C.Clusters.state c.check_zone.new.clusters) (g.C.Clusters.state c.make_parents.new.clusters) (free-keeps (g.C.Clusters.state c.args.clusters.now) (g.C.Clusters.state c.check_zone.new.clusters) c.check_zone.ensures.keeps) (free-above (above c.args.to.now) c.args.to.now (g.C.Clusters.state c.check_zone.new.clusters) (g.C.Clusters.state c.make_parents.new.clusters) c.in-Ok-make_parents.ensures.ok)) (free-keeps (g.C.Clusters.state c.make_parents.new.clusters) (g.C.Clusters.state c.check_absent.new.clusters) c.check_absent.ensures.keeps)) c.in-Err-copy_block.ensures.ends)

@@ -25,8 +25,8 @@ returns-in-None-clause-steps g c = one g.C.Clusters.follows c.args.clusters.now 
 
 pub returns-in-Err-clause-ends : goal.returns-in-Err-clause-ends
 returns-in-Err-clause-ends g c =
-    ends-now g.C.Clusters.state g.C.Clusters.follows g.C.Clusters.store_fails g.C.Clusters.vault_fails c.args.clusters.now c.make_directory.new.self c.in-Err.end c.in-Err.ensures.ends
+    ends-now g.C.Clusters.state g.C.Clusters.follows g.C.Clusters.store_fails g.C.Clusters.vault_fails g.C.Clusters.refuses c.args.clusters.now c.make_directory.new.self c.in-Err.end c.in-Err.ensures.ends
 
 pub returns-in-Some-clause-ends : goal.returns-in-Some-clause-ends
 returns-in-Some-clause-ends g c =
-    last-ends g.C.Clusters.state g.C.Clusters.follows g.C.Clusters.store_fails g.C.Clusters.vault_fails c.args.clusters.now c.make_directory.new.self c.mark.new.self c.mark.result (one g.C.Clusters.follows c.args.clusters.now c.make_directory.new.self c.make_directory.ensures.follows) (free-makes c.args.path.now (g.C.Clusters.state c.args.clusters.now) (g.C.Clusters.state c.make_directory.new.self) c.in-Ok.ensures.ok) c.mark.ensures.ends
+    last-ends g.C.Clusters.state g.C.Clusters.follows g.C.Clusters.store_fails g.C.Clusters.vault_fails g.C.Clusters.refuses c.args.clusters.now c.make_directory.new.self c.mark.new.self c.mark.result (one g.C.Clusters.follows c.args.clusters.now c.make_directory.new.self c.make_directory.ensures.follows) (free-makes c.args.path.now (g.C.Clusters.state c.args.clusters.now) (g.C.Clusters.state c.make_directory.new.self) c.in-Ok.ensures.ok) c.mark.ensures.ends

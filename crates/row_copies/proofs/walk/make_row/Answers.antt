@@ -10,4 +10,4 @@ returns-in-Err-copy_file-clause-steps g c = one g.C.Clusters.follows c.args.clus
 
 pub returns-in-Err-copy_file-clause-ends : goal.returns-in-Err-copy_file-clause-ends
 returns-in-Err-copy_file-clause-ends g c =
-    ends-now g.C.Clusters.state g.C.Clusters.follows g.C.Clusters.store_fails g.C.Clusters.vault_fails c.args.clusters.now c.copy_file.new.self c.in-Err-copy_file.end c.in-Err-copy_file.ensures.ends
+    ends-now g.C.Clusters.state g.C.Clusters.follows g.C.Clusters.store_fails g.C.Clusters.vault_fails g.C.Clusters.refuses c.args.clusters.now c.copy_file.new.self c.in-Err-copy_file.end c.in-Err-copy_file.ensures.ends

@@ -3,8 +3,7 @@ use Rattle.std.specs.Prelude.{Err}
 use Rattle.name_calls.specs.declared.calls.Ask.TheVariants as ask
 use Rattle.row_copies.specs.Copies.{Done}
 use Rattle.backup_names.proofs.OrderLemmas.{ask_orders, holds_after, orders_then}
-use Rattle.row_copies.proofs.CauseLemmas.{ends-plain}
-use Rattle.copy_target.proofs.TargetLemmas.{if_done, one_step, known_if, only_names, order_ends}
+use Rattle.copy_target.proofs.TargetLemmas.{ask_zone_ends, if_done, known_if, one_step, only_names, read_ends, zone_ends}
 use Rattle.copy_target.proofs.both.BothClustersClusters.mark.Goals as goal
 
 pub returns-in-Err-clause-follows : goal.returns-in-Err-clause-follows
@@ -31,14 +30,17 @@ pub returns-in-Err-metadata-clause-follows : goal.returns-in-Err-metadata-clause
 returns-in-Err-metadata-clause-follows g c = record { holds = record { source = refl; names = refl; backup = refl; vault = refl; copies = refl }; source = one_step g.S.SourceRows.follows _ _ c.metadata.ensures.follows; orders = ask_orders (g.E.Disk.state c.args.self.now.backup.now) c.args.self.now.user.now (ask.Zone c.args.path.now c.args.key) c.args.self.now.names.now c.ask_zone.new.name c.ask_zone.ensures.only; vault_later = omega arith; copies_later = omega arith }
 
 pub returns-in-Err-clause-ends : goal.returns-in-Err-clause-ends
-returns-in-Err-clause-ends g c = order_ends (Err c.in-Err.end) _ _ c.in-Err.ensures.failure (λ is. absurd (c.in-Err.ensures.fault is))
+returns-in-Err-clause-ends g c =
+    ask_zone_ends g.S.SourceRows.refuses g.S.SourceRows.replies g.E.Disk.state c.args.self.now.source.now c.args.self.now.source.now c.args.self.now.backup.now c.args.self.now.backup.now c.args.self.now.names.now c.ask_zone.new.name (Err c.in-Err.end) _ _ c.in-Err.ensures.failure (λ is. absurd (c.in-Err.ensures.fault is)) c.args.self.now.user.now c.args.path.now c.args.key c.in-Err.ensures.cause
 
 pub returns-in-Ok-metadata-clause-ends : goal.returns-in-Ok-metadata-clause-ends
 returns-in-Ok-metadata-clause-ends g c =
-    order_ends c.finish_zone.result _ _ c.finish_zone.ensures.failure (λ is. only_names c.in-Ok-metadata.reply c.metadata.result _ c.metadata.ensures.fault c.in-Ok-metadata.is (c.finish_zone.ensures.fault is))
+    zone_ends g.S.SourceRows.refuses g.S.SourceRows.replies g.E.Disk.state c.args.self.now.source.now c.metadata.new.self c.args.self.now.backup.now c.finish_zone.new.disk c.args.self.now.names.now c.finish_zone.new.name c.finish_zone.result _ _ c.finish_zone.ensures.failure (λ is. only_names c.in-Ok-metadata.reply c.metadata.result _ c.metadata.ensures.fault c.in-Ok-metadata.is (c.finish_zone.ensures.fault is))
+    c.ask_zone.new.name c.args.self.now.user.now (ask.Zone c.args.path.now c.args.key) c.in-Ok.id c.args.key c.in-Ok-metadata.reply c.ask_zone.ensures.only c.in-Ok-metadata.ensures.reply c.finish_zone.ensures.cause
 
 pub returns-in-Err-metadata-clause-ends : goal.returns-in-Err-metadata-clause-ends
-returns-in-Err-metadata-clause-ends g c = ends-plain _ _ c.in-Err-metadata.end c.in-Err-metadata.ensures.ends
+returns-in-Err-metadata-clause-ends g c =
+    read_ends g.S.SourceRows.refuses g.S.SourceRows.replies g.E.Disk.state c.args.self.now.source.now c.metadata.new.self c.args.self.now.backup.now c.args.self.now.backup.now c.args.self.now.names.now c.ask_zone.new.name {T = Unit {0}} (Err c.in-Err-metadata.end) _ _ c.in-Err-metadata.ensures.ends
 
 pub returns-in-Ok-metadata-clause-known : goal.returns-in-Ok-metadata-clause-known
 returns-in-Ok-metadata-clause-known g c =

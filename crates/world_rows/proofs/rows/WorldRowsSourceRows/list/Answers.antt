@@ -39,4 +39,4 @@ returns-clause-follows g c =
 pub returns-clause-ends : goal.returns-clause-ends
 returns-clause-ends g c =
     let w = lists_on g.D.Disk.state g.W.Words.to_come c.args.self.now.events c.list_at.new.events c.args.self.now.user.now (place_below c.args.self.now.place.now c.args.path.now) c.list_at.result c.list_at.ensures.lists in
-    list_ends g.D.Disk.state g.W.Words.to_come c.args.self.now.events.now (standing_of c.args.self.now.events) (standing_of c.list_at.new.events) c.requires.ready.events c.args.self.now.user.now (place_below c.args.self.now.place.now c.args.path.now) c.list_at.result w.1
+    list_ends g.D.Disk.state g.W.Words.to_come c.args.self.now.events.now (standing_of c.args.self.now.events) (standing_of c.list_at.new.events) c.requires.ready.events c.args.self.now.user.now c.requires.ready.user (place_below c.args.self.now.place.now c.args.path.now) c.list_at.result w.1

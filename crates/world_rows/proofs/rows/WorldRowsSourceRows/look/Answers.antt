@@ -34,4 +34,4 @@ returns-clause-follows g c =
 pub returns-clause-ends : goal.returns-clause-ends
 returns-clause-ends g c =
     let w = looks_on g.D.Disk.state g.W.Words.to_come c.args.self.now.events c.look_at.new.events c.args.self.now.user.now (place_below c.args.self.now.place.now c.args.path.now) c.look_at.result c.look_at.ensures.looks in
-    look_ends g.D.Disk.state g.W.Words.to_come c.args.self.now.events.now (standing_of c.args.self.now.events) (standing_of c.look_at.new.events) c.requires.ready.events c.args.self.now.user.now (place_below c.args.self.now.place.now c.args.path.now) c.look_at.result w.1
+    look_ends g.D.Disk.state g.W.Words.to_come c.args.self.now.events.now (standing_of c.args.self.now.events) (standing_of c.look_at.new.events) c.requires.ready.events c.args.self.now.user.now c.requires.ready.user (place_below c.args.self.now.place.now c.args.path.now) c.look_at.result w.1
