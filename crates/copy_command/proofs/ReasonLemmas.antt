@@ -35,7 +35,7 @@ shows_either line own written now status (inl (inr cut)) = inr (inr cut.0)
 shows_either line own written now status (inr (inl shown)) = inr (inl shown.0)
 shows_either line own written now status (inr (inr cut)) = inr (inr cut.0)
 
-module _ (s : Around) (from to : List ℕ) (written now : Option (List ℕ)) (status : ℕ) (disk : status ≡ 5 → s.disk_failed) (properties : status ≡ 7 → s.properties_failed) (output : status ≡ 8 → s.output_failed) (vault : status ≡ 12 → s.vault_failed)
+module _ {E : Type 0} (s : Around E) (from to : List ℕ) (written now : Option (List ℕ)) (status : ℕ) (disk : status ≡ 5 → s.disk_failed) (properties : status ≡ 7 → s.properties_failed) (output : status ≡ 8 → s.output_failed) (vault : status ≡ 12 → s.vault_failed)
     (long : status ≡ 13 → ⊥) where
   abbrev Good : Type 0
   Good = HasReasonFor s from to written now status
@@ -60,7 +60,7 @@ module _ (s : Around) (from to : List ℕ) (written now : Option (List ℕ)) (st
   start_good file start.NoMemory opens is = (NoMemory, is, tt)
   start_good file start.Spent opens is = (Spent, is, inl (file, opens))
 
-  backup_good : (fault : StartFault) → OpensNames s.backup s.backup' (IsErrOf (not_started fault)) → status ≡ start_status fault → Good
+  backup_good : (fault : StartFault) → OpensNames (s.backup_of s.backup) (s.backup_of s.backup') (IsErrOf (not_started fault)) → status ≡ start_status fault → Good
   backup_good (start.Damaged at) opens is = (Damaged, is, inr (at, opens))
   backup_good start.StoreFault opens is = (StoreFailed, is, disk is)
   backup_good start.NoMemory opens is = (NoMemory, is, tt)
@@ -73,11 +73,11 @@ module _ (s : Around) (from to : List ℕ) (written now : Option (List ℕ)) (st
   same_start ended a b e f = cc (e, f)
 
   module _ (props : Props) (read : ReadsProperties s.acls s.acls' props)
-      (c : CopiesOnDisks props from to s.disk s.disk' s.backup s.backup' s.words s.words' s.vault s.vault' s.copies s.copies' written now status) where
+      (c : CopiesOnDisks s.backup_of props from to s.disk s.disk' s.backup s.backup' s.words s.words' s.vault s.vault' s.copies s.copies' written now status) where
     -- a log that the copy could not open is that of the second cluster
     not_opened : (fault : StartFault) → c.ended ≡ Err (Start fault)
-        → CopiesOver props.sizes.batch from to c.ended (table_in (world_before c.worked)) (table_in (last_world c.worked)) s.vault s.vault' s.copies s.copies' s.backup s.backup' → OpensNames s.backup s.backup' (IsErrOf (not_started fault))
-    not_opened fault is (inl bad) = subst (λ (f : StartFault). OpensNames s.backup s.backup' (IsErrOf (not_started f))) (same_start c.ended bad.fault fault bad.result_is is) bad.opens
+        → CopiesOver props.sizes.batch from to c.ended (table_in (world_before c.worked)) (table_in (last_world c.worked)) s.vault s.vault' s.copies s.copies' (s.backup_of s.backup) (s.backup_of s.backup') → OpensNames (s.backup_of s.backup) (s.backup_of s.backup') (IsErrOf (not_started fault))
+    not_opened fault is (inl bad) = subst (λ (f : StartFault). OpensNames (s.backup_of s.backup) (s.backup_of s.backup') (IsErrOf (not_started f))) (same_start c.ended bad.fault fault bad.result_is is) bad.opens
     not_opened fault is (inr opened) = absurd (opened.begun fault is)
 
     end_good : (how : FsEnd) → c.ended ≡ Err (End how) → status ≡ status_of how → Good
@@ -100,13 +100,13 @@ module _ (s : Around) (from to : List ℕ) (written now : Option (List ℕ)) (st
     on (Err (End how)) is closes = by_either (status_of how) (closes_either how written now status closes) (end_good how is)
 
   under : (props : Props) (same : Type 0) → ReadsProperties s.acls s.acls' props
-      → CopiesUnder props same from to s.disk s.disk' s.backup s.backup' s.words s.words' s.vault s.vault' s.copies s.copies' written now status → Good
+      → CopiesUnder s.backup_of props same from to s.disk s.disk' s.backup s.backup' s.words s.words' s.vault s.vault' s.copies s.copies' written now status → Good
   under props same read (inl bad) =
       by_either (replay_status (ended_by bad.file bad.fault)) (reports_either (ended_by bad.file bad.fault) written now status bad.reports) (start_good bad.file bad.fault bad.not_opened)
   under props same read (inr c) = on props read c c.ended refl c.closes
 
   -- the exit status of a copy that did this has a good reason
-  pub copies_end : (same_disk same : Type 0) → CopiesByFile same_disk same from to s.disk s.disk' s.backup s.backup' s.acls s.acls' s.words s.words' s.vault s.vault' s.copies s.copies' written now status → Good
+  pub copies_end : (same_disk same : Type 0) → CopiesByFile s.backup_of same_disk same from to s.disk s.disk' s.backup s.backup' s.acls s.acls' s.words s.words' s.vault s.vault' s.copies s.copies' written now status → Good
   copies_end same_disk same (inl bad) = by_either (replay_status (ended_by_props bad.fault)) (reports_either (ended_by_props bad.fault) written now status bad.reports) (props_good bad.fault bad.has_fault)
   copies_end same_disk same (inr with) = under with.props same with.read with.copy
 

@@ -57,11 +57,11 @@ closes_is_no_usage (Ok counts) written now status closes = line_is_no_usage (cop
 closes_is_no_usage (Err (Start fault)) written now status closes = line_is_no_usage (start_line fault) (start_status fault) written now status (start_is_no_usage fault) closes
 closes_is_no_usage (Err (End how)) written now status closes = close_is_no_usage how written now status closes
 
-module _ (source target : List ℕ) (old new backup backup' : DiskState) (acls acls' : Option (List ℕ)) (words words' : ℕ → ℕ) (vault vault' copies copies' : VaultState) (written now : Option (List ℕ)) (status : ℕ) where
-  pub copy_is_no_usage : (same_disk same : Type 0) → CopiesByFile same_disk same source target old new backup backup' acls acls' words words' vault vault' copies copies' written now status → status ≢ 2
+module _ {E : Type 0} (disk : E → DiskState) (source target : List ℕ) (old new : DiskState) (backup backup' : E) (acls acls' : Option (List ℕ)) (words words' : ℕ → ℕ) (vault vault' copies copies' : VaultState) (written now : Option (List ℕ)) (status : ℕ) where
+  pub copy_is_no_usage : (same_disk same : Type 0) → CopiesByFile disk same_disk same source target old new backup backup' acls acls' words words' vault vault' copies copies' written now status → status ≢ 2
   copy_is_no_usage same_disk same (inl bad) = report_is_no_usage (ended_by_props bad.fault) written now status bad.reports
   copy_is_no_usage same_disk same (inr with) = under with.copy
     where
-      under : CopiesUnder with.props same source target old new backup backup' words words' vault vault' copies copies' written now status → status ≢ 2
+      under : CopiesUnder disk with.props same source target old new backup backup' words words' vault vault' copies copies' written now status → status ≢ 2
       under (inl not) = report_is_no_usage (ended_by not.file not.fault) written now status not.reports
       under (inr o) = closes_is_no_usage o.ended written now status o.closes

@@ -29,15 +29,17 @@ use Rattle.data_stream.specs.Statuses.{IsRefusal, Reason, status_by}
 use Rattle.data_stream.specs.Statuses.{BadProperties, BadWords, Damaged, Done, NoMemory, ReadFailed, Refused, Spent, StoreFailed, TooLong, VaultFailed, WriteFailed}
 
 -- What surrounds a copy, before and after it. The first four are propositions: a disk, the properties, the output and a vault failed in it.
-pub record Around : Type 1 where
+pub record Around (E : Type 0) : Type 1 where
   pub disk_failed : Type 0
   pub properties_failed : Type 0
   pub output_failed : Type 0
   pub vault_failed : Type 0
   pub disk : DiskState
   pub disk' : DiskState
-  pub backup : DiskState
-  pub backup' : DiskState
+  -- what is read of the other disk
+  pub backup_of : E → DiskState
+  pub backup : E
+  pub backup' : E
   pub acls : Option (List ℕ)
   pub acls' : Option (List ℕ)
   pub words : ℕ → ℕ
@@ -47,33 +49,33 @@ pub record Around : Type 1 where
   pub copies : VaultState
   pub copies' : VaultState
 
--- Under properties that were read, all logs were opened, and the copy ended with a refusal.
-pub record CopyRefused (s : Around) (from to : List ℕ) (written now : Option (List ℕ)) (status : ℕ) : Type 0 where
+-- Under properties that were read, all logs were opened, and the copy ended with a refusal. `refused` of the copy says by whom.
+pub record EndsRefused {E : Type 0} (s : Around E) (from to : List ℕ) (written now : Option (List ℕ)) (status : ℕ) : Type 0 where
   pub props : Props
   pub read : ReadsProperties s.acls s.acls' props
-  pub copy : CopiesOnDisks props from to s.disk s.disk' s.backup s.backup' s.words s.words' s.vault s.vault' s.copies s.copies' written now status
+  pub copy : CopiesOnDisks s.backup_of props from to s.disk s.disk' s.backup s.backup' s.words s.words' s.vault s.vault' s.copies s.copies' written now status
   pub why : FsEnd
   pub ended_is : copy.ended ≡ Err (End why)
   pub refusal : IsRefusal why
 
 -- A reason is good. Of a lack of memory nothing is said, and the words of a copy have no mistake.
-abbrev pub IsGoodFor : Around → (from to : List ℕ) (written now : Option (List ℕ)) → ℕ → Reason → Type 0
+abbrev pub IsGoodFor : {E : Type 0} → Around E → (from to : List ℕ) (written now : Option (List ℕ)) → ℕ → Reason → Type 0
 IsGoodFor s from to written now status Done = Unit {0}
 IsGoodFor s from to written now status BadWords = ⊥
 IsGoodFor s from to written now status BadProperties = (fault : PropFault) × (fault ≢ prop.NoMemory) × HasPropsFault s.acls (TextFault fault)
 IsGoodFor s from to written now status Damaged =
-    ((file at : ℕ) × OpensBoth s.disk s.disk' (FailsAt file (start.Damaged at))) ⊎ ((at : ℕ) × OpensNames s.backup s.backup' (IsErrOf (not_started (start.Damaged at))))
+    ((file at : ℕ) × OpensBoth s.disk s.disk' (FailsAt file (start.Damaged at))) ⊎ ((at : ℕ) × OpensNames (s.backup_of s.backup) (s.backup_of s.backup') (IsErrOf (not_started (start.Damaged at))))
 IsGoodFor s from to written now status StoreFailed = s.disk_failed
 IsGoodFor s from to written now status NoMemory = Unit {0}
 IsGoodFor s from to written now status ReadFailed = s.properties_failed
 IsGoodFor s from to written now status WriteFailed = s.output_failed
 IsGoodFor s from to written now status Spent =
-    ((file : ℕ) × OpensBoth s.disk s.disk' (FailsAt file start.Spent)) ⊎ OpensNames s.backup s.backup' (IsErrOf (not_started start.Spent))
-IsGoodFor s from to written now status Refused = CopyRefused s from to written now status
+    ((file : ℕ) × OpensBoth s.disk s.disk' (FailsAt file start.Spent)) ⊎ OpensNames (s.backup_of s.backup) (s.backup_of s.backup') (IsErrOf (not_started start.Spent))
+IsGoodFor s from to written now status Refused = EndsRefused s from to written now status
 IsGoodFor s from to written now status VaultFailed = s.vault_failed
 IsGoodFor s from to written now status TooLong = ⊥
 
-abbrev pub HasReasonFor : Around → (from to : List ℕ) (written now : Option (List ℕ)) → ℕ → Type 0
+abbrev pub HasReasonFor : {E : Type 0} → Around E → (from to : List ℕ) (written now : Option (List ℕ)) → ℕ → Type 0
 HasReasonFor s from to written now status = (reason : Reason) × (status ≡ status_by reason) × IsGoodFor s from to written now status reason
 
 -- if the order is a copy, this holds of its texts
@@ -83,7 +85,7 @@ OfCopy _ Holds = ⊤
 
 module _ {D V E U K W C A : Type 0} (of_disk : disks.Ghosts D) (of_vault : vaults.Ghosts V) (of_backup : disks.Ghosts E) (of_copies : vaults.Ghosts U) (of_out : sinks.Ghosts K) (of_rand : random.Ghosts W) (of_acls : sources.Ghosts A)
     (old new : Clusters D V E U K W C) (acls acls' : A) where
-  abbrev pub around : Around
+  abbrev pub around : Around E
   around = record {
     disk_failed = Rose (of_disk.state old.disk).faults (of_disk.state new.disk).faults ⊎ Rose (of_backup.state old.backup).faults (of_backup.state new.backup).faults;
     properties_failed = Rose (of_acls.faults acls) (of_acls.faults acls');
@@ -91,8 +93,9 @@ module _ {D V E U K W C A : Type 0} (of_disk : disks.Ghosts D) (of_vault : vault
     vault_failed = VaultsFailed (of_vault.state old.vault) (of_vault.state new.vault) (of_copies.state old.copies) (of_copies.state new.copies);
     disk = of_disk.state old.disk;
     disk' = of_disk.state new.disk;
-    backup = of_backup.state old.backup;
-    backup' = of_backup.state new.backup;
+    backup_of = of_backup.state;
+    backup = old.backup;
+    backup' = new.backup;
     acls = of_acls.left acls;
     acls' = of_acls.left acls';
     words = of_rand.to_come old.rand;

@@ -1,14 +1,14 @@
 -- Which end of a copy its exit status tells of.
 use Rattle.std.proofs.Common.{◌≡◌, ◌⊎◌, inl, inr, ℕ, List, refl, ap, sym, subst}
-use Rattle.std.specs.Prelude.{Option, Result, Ok, Err, ⊤}
+use Rattle.std.specs.Prelude.{Option, Result, Ok, Err}
 use Rattle.frame_log.specs.declared.fault.StartFault.{StartFault}
 use Rattle.frame_log.specs.declared.fault.StartFault.TheVariants as start
 use Rattle.file_orders.specs.declared.ends.FsEnd.{FsEnd}
 use Rattle.file_orders.specs.declared.ends.FsEnd.TheVariants as end
-use Rattle.row_copies.specs.Clusters.{EndsFor}
 use Rattle.row_copies.specs.declared.walk.Copied.{Copied}
 use Rattle.raw_copy.specs.declared.backup.CopyFault.{CopyFault}
 use Rattle.raw_copy.specs.declared.backup.CopyFault.TheVariants.{End, Start}
+use Rattle.raw_copy.specs.Copies.{IsCopyEnd}
 use Rattle.data_stream.specs.Ends.{status_of}
 use Rattle.data_stream.proofs.CauseLemmas.{closed_long, closed_read, closed_vault}
 use Rattle.data_stream.proofs.EndLemmas.{close_is_no_usage}
@@ -84,20 +84,20 @@ ended_is_no_usage (Err (End how)) written now status closes is = close_is_no_usa
 
 -- and only one that was whole ends with the status 0
 
-end_not_done : (how : FsEnd) → EndsFor ⊤ ⊤ how → status_of how ≡ 0 → ⊥
-end_not_done (end.Put count) own is = own
-end_not_done (end.Read count) own is = own
+end_not_done : (how : FsEnd) → IsCopyEnd how → status_of how ≡ 0 → ⊥
+end_not_done (end.Put count) own is = own.0
+end_not_done (end.Read count) own is = own.0
 end_not_done (end.NameRefused why) own is = cc
 end_not_done (end.KeyRefused why) own is = cc
 end_not_done end.Directory own is = cc
 end_not_done end.StoreFault own is = cc
 end_not_done end.NoMemory own is = cc
-end_not_done end.ReadFault own is = own
-end_not_done end.WriteFault own is = own
+end_not_done end.ReadFault own is = own.0
+end_not_done end.WriteFault own is = own.0
 end_not_done end.VaultFault own is = cc
-end_not_done end.TooLong own is = own
+end_not_done end.TooLong own is = own.0
 
-pub ended_done : (written now : Option (List ℕ)) (status : ℕ) (ended : Ended) → ((why : FsEnd) → ended ≡ Err (End why) → EndsFor ⊤ ⊤ why) → ClosesCopy ended written now status → status ≡ 0 → (counts : Copied) × (ended ≡ Ok counts)
+pub ended_done : (written now : Option (List ℕ)) (status : ℕ) (ended : Ended) → ((why : FsEnd) → ended ≡ Err (End why) → IsCopyEnd why) → ClosesCopy ended written now status → status ≡ 0 → (counts : Copied) × (ended ≡ Ok counts)
 ended_done written now status (Ok counts) own closes is = (counts, refl)
 ended_done written now status (Err (Start fault)) own closes is = absurd (start_not 0 (λ h. cc) (λ h. cc) (λ h. cc) (λ h. cc) fault (start_is written now status 0 (λ h. cc) (λ h. cc) is fault closes))
 ended_done written now status (Err (End how)) own closes is = absurd (end_not_done how (own how refl) (by_either (status_of how) 0 status (λ h. cc) (λ h. cc) (closes_either how written now status closes) is))

@@ -32,14 +32,14 @@ module _ {D V E U K W C : Type 0} (of_disk : disks.Ghosts D) (of_vault : vaults.
   -- under these properties a zone is copied
   abbrev pub CopiesZoneUnder : Props → List ℕ → List ℕ → ℕ → Type 0
   CopiesZoneUnder props from to status =
-      CopiesUnder props (Unused old new) from to (of_disk.state old.disk) (of_disk.state new.disk) (of_backup.state old.backup) (of_backup.state new.backup) (of_rand.to_come old.rand) (of_rand.to_come new.rand)
+      CopiesUnder of_backup.state props (Unused old new) from to (of_disk.state old.disk) (of_disk.state new.disk) old.backup new.backup (of_rand.to_come old.rand) (of_rand.to_come new.rand)
       (of_vault.state old.vault) (of_vault.state new.vault) (of_copies.state old.copies) (of_copies.state new.copies) (of_out.written old.out) (of_out.written new.out) status
 
   module _ {A : Type 0} (of_acls : sources.Ghosts A) (acls acls' : A) where
     -- a zone is copied
     abbrev pub RunsCopy : List ℕ → List ℕ → ℕ → Type 0
     RunsCopy from to status =
-        CopiesByFile (new.disk ≡ old.disk) (Unused old new) from to (of_disk.state old.disk) (of_disk.state new.disk) (of_backup.state old.backup) (of_backup.state new.backup)
+        CopiesByFile of_backup.state (new.disk ≡ old.disk) (Unused old new) from to (of_disk.state old.disk) (of_disk.state new.disk) old.backup new.backup
         (of_acls.left acls) (of_acls.left acls') (of_rand.to_come old.rand) (of_rand.to_come new.rand)
         (of_vault.state old.vault) (of_vault.state new.vault) (of_copies.state old.copies) (of_copies.state new.copies) (of_out.written old.out) (of_out.written new.out) status
 
@@ -47,7 +47,7 @@ module _ {D V E U K W C : Type 0} (of_disk : disks.Ghosts D) (of_vault : vaults.
     abbrev pub RunsCopyKept : List ℕ → List ℕ → Past → ℕ → Type 0
     RunsCopyKept from to past status =
         NothingHappened (Unused old new) past (of_disk.state old.disk) (of_disk.state new.disk)
-        ⊎ CopyKept past from to (of_disk.state old.disk) (of_disk.state new.disk) (of_backup.state old.backup) (of_backup.state new.backup)
+        ⊎ CopyKept of_backup.state past from to (of_disk.state old.disk) (of_disk.state new.disk) old.backup new.backup
         (of_acls.left acls) (of_acls.left acls') (of_rand.to_come old.rand) (of_rand.to_come new.rand)
         (of_vault.state old.vault) (of_vault.state new.vault) (of_copies.state old.copies) (of_copies.state new.copies) (of_out.written old.out) (of_out.written new.out) status
 

@@ -1,10 +1,9 @@
 //! Copying a zone over the disks of both clusters.
-ghost use Rattle.std.specs.Prelude.{◌≡◌, ◌⊎◌, ◌≤◌, Err, ⊤};
+ghost use Rattle.std.specs.Prelude.{◌≡◌, ◌⊎◌, ◌≤◌, Err};
 ghost use Rattle.hk_base.specs.Faults.{Rose};
-ghost use Rattle.row_copies.specs.Clusters.{EndsFor};
 ghost use Rattle.world_run.specs.World.{RunningWorld};
 ghost use Rattle.world_desk.specs.Worlds.{IsReady, standing};
-ghost use Rattle.raw_copy.specs.Copies.{VaultsFailed};
+ghost use Rattle.raw_copy.specs.Copies.{IsCopyEnd, VaultsFailed};
 ghost use Rattle.copy_runs.specs.Commands.{CopiesFromWorld};
 ghost use Rattle.copy_runs.specs.Runs.{CopiesZoneUnder, KeepsCopy, RunsCopy, clusters};
 
@@ -38,9 +37,9 @@ fn copy_in<D: Disk, E: Disk, V: Vault, U: Vault, W: Words, C: Clock>(
     requires ready { IsReady D.state (standing disk.old world rand.old) }
     requires some { 1 ≤ batch }
     requires most { batch ≤ 1000 }
-    ensures copies { (then : RunningWorld) × CopiesFromWorld D.state W.to_come
+    ensures copies { (then : RunningWorld) × CopiesFromWorld D.state W.to_come E.state
         (standing disk.old world rand.old) (standing disk.new then rand.new)
-        batch from.now to.now result (E.state backup.old) (E.state backup.new)
+        batch from.now to.now result backup.old backup.new
         (V.state vault.old) (V.state vault.new) (U.state copies.old) (U.state copies.new) }
     ensures start { result ≡ Err (CopyFault.Start StartFault.StoreFault) →
         Rose (E.state backup.old).faults (E.state backup.new).faults }
@@ -49,7 +48,7 @@ fn copy_in<D: Disk, E: Disk, V: Vault, U: Vault, W: Words, C: Clock>(
     ensures vault { result ≡ Err (CopyFault.End FsEnd.VaultFault) →
         VaultsFailed (V.state vault.old) (V.state vault.new)
         (U.state copies.old) (U.state copies.new) }
-    ensures own { (why : _) → result ≡ Err (CopyFault.End why) → EndsFor ⊤ ⊤ why }
+    ensures own { (why : _) → result ≡ Err (CopyFault.End why) → IsCopyEnd why }
 {
     let mut world = world;
     let ended = copy_opened_over(

@@ -1,10 +1,11 @@
 //! Copying a zone of a world that was opened.
-ghost use Rattle.std.specs.Prelude.{◌≡◌, ◌≤◌, Err, ⊤};
+ghost use Rattle.std.specs.Prelude.{◌≡◌, ◌≤◌, Err};
 ghost use Rattle.hk_base.specs.Faults.{Rose};
-ghost use Rattle.row_copies.specs.Clusters.{EndsFor};
 ghost use Rattle.world_desk.specs.Worlds.{IsReady, standing};
+ghost use Rattle.world_events.specs.Events.{LeadsAt};
 ghost use Rattle.world_rows.specs.Rows.{table_of};
-ghost use Rattle.raw_copy.specs.Copies.{CopiesOver, OnlyRead, VaultsFailed};
+ghost use Rattle.raw_copy.specs.Copies.{CopiesOver, IsCopyEnd, OnlyRead, VaultsFailed};
+ghost use Rattle.raw_copy.specs.Refusals.{OverRefused, RefusedFor};
 
 use body_stream::Vault;
 use file_orders::FsEnd;
@@ -45,7 +46,12 @@ pub fn copy_opened_over<D: Disk, E: Disk, V: Vault, U: Vault, W: Words>(
     ensures vault { result ≡ Err (CopyFault.End FsEnd.VaultFault) →
         VaultsFailed (V.state vault.old) (V.state vault.new)
         (U.state copies.old) (U.state copies.new) }
-    ensures own { (why : _) → result ≡ Err (CopyFault.End why) → EndsFor ⊤ ⊤ why }
+    ensures own { (why : _) → result ≡ Err (CopyFault.End why) → IsCopyEnd why }
+    ensures refused { (why : _) → result ≡ Err (CopyFault.End why) →
+        RefusedFor (OverRefused (LeadsAt D.state W.to_come now) E.state batch from.now to.now
+        (table_of world.old) (V.state vault.old) (U.state copies.old)
+        (standing disk.old world.old rand.old) (standing disk.new world.new rand.new)
+        backup.old backup.new) why }
     ensures read { OnlyRead D.state W.to_come now
         (standing disk.old world.old rand.old) (standing disk.new world.new rand.new) }
 {

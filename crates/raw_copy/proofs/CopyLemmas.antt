@@ -4,6 +4,8 @@ use Rattle.std.specs.Prelude.{Result, Ok, Err, IfErr, IfOk, OnErr, OnOk, count_b
 use Rattle.std.specs.Str.{bytes_eq}
 use Rattle.hk_base.specs.Disk.{DiskState, RunOn, Tells}
 use Rattle.hk_base.specs.Faults.{Rose}
+use Rattle.hk_base.specs.declared.names.KeyName.{KeyName}
+use Rattle.kms_calls.specs.declared.calls.KmsReply.{KmsReply}
 use Rattle.frame_log.specs.declared.fault.StartFault.{StartFault}
 use Rattle.hk_base.specs.declared.texts.Text.{Text}
 use Rattle.body_stream.specs.Vaults.{VaultState}
@@ -28,10 +30,10 @@ use Rattle.kms_acls.specs.Agreement.{AreListsOf}
 use Rattle.kms_acls.specs.Lists.{Lists}
 use Rattle.backup_names.specs.Orders.{OrdersNames}
 use Rattle.backup_names.proofs.OrderLemmas.{no_orders, orders_then}
-use Rattle.copy_target.specs.Targets.{DiskFails, VaultsFail, WorksOn, state_of}
+use Rattle.copy_target.specs.Targets.{BothRefuse, DiskFails, PartsRefuse, VaultsFail, WorksOn, state_of}
 use Rattle.copy_target.specs.declared.both.BothClusters.{BothClusters}
 use Rattle.row_copies.specs.Clusters.{EndsFor}
-use Rattle.row_copies.specs.Copies.{CopiesAll, CopyEnds, FailsLast, Steps, StopsEarly, Done, Then, is_file}
+use Rattle.row_copies.specs.Copies.{CopiesAll, CopyRefused, FailsLast, Steps, WholeEnds, StopsEarly, Done, Then, is_file}
 use Rattle.row_copies.specs.Walks.{is_directory}
 use Rattle.row_copies.specs.declared.walk.Copied.{Copied}
 use Rattle.row_copies.proofs.CauseLemmas.{ends-so}
@@ -41,15 +43,16 @@ use Rattle.world_run.specs.Acknowledged.{also}
 use Rattle.world_run.specs.Drives.{Standing}
 use Rattle.world_events.specs.declared.events.WorldEvents.{WorldEvents}
 use Rattle.world_run.specs.World.{WorldState, world_of}
-use Rattle.world_rows.specs.Rows.{CanRead, IsPlace, ReadsOn, ReadsOnce, place_rows, table_of}
+use Rattle.world_rows.specs.Rows.{CanRead, IsPlace, ReadRefused, ReadsOn, ReadsOnce, place_rows, table_of}
 use Rattle.world_rows.specs.declared.rows.WorldRows.{WorldRows}
 use Rattle.world_rows.proofs.FaultLemmas.{look_ends}
 use Rattle.world_rows.proofs.ReadLemmas.{look_once, looks_on, once_same, quiet, row_found}
 use Rattle.raw_copy.specs.declared.backup.CopyFault.{CopyFault}
 use Rattle.raw_copy.specs.declared.backup.CopyFault.TheVariants.{End, Start}
-use Rattle.raw_copy.specs.Copies.{AreTexts, CopiesFrom, CopiesOpened, CopiesPlace, CopiesZone, Copying, EndsByCause, OnlyRead, ReadsOnceIn, StopsPlace, StopsZone, VaultsFailed, copied_or, copying, state_at}
+use Rattle.raw_copy.specs.Refusals.{CheckRefused, IntoRefused, RefusedFor}
+use Rattle.raw_copy.specs.Copies.{AreTexts, CopiesFrom, CopiesOpened, CopiesPlace, CopiesZone, Copying, EndsByCause, IsCopyEnd, OnlyRead, ReadsOnceIn, StopsPlace, StopsZone, VaultsFailed, copied_or, copying, state_at}
 
-steps_join : {X : Type 0} (follows : X → X → Type 0) (a b c : X) → Steps follows a b → Steps follows b c → Steps follows a c
+pub steps_join : {X : Type 0} (follows : X → X → Type 0) (a b c : X) → Steps follows a b → Steps follows b c → Steps follows a c
 steps_join follows a b c s Done = s
 steps_join follows a b c s (Then m n t f) = Then m n (steps_join follows a b m s t) f
 
@@ -98,16 +101,48 @@ module _ {S E V U : Type 0} (follows : S → S → Type 0) (disk : E → DiskSta
             let body = had (subst (λ (t : Bool). IsTrue t) (sym kept.source.bodies.tells) tells) (subst (λ (t : Bool). IsTrue t) (sym kept.tells) tells') in
             (body.0, λ none. body.2 (kept.bodies tells' body.0 body.1 ∙ none))))
 
-    both_end : (why : FsEnd) → CopyEnds (state_of rows vault copies) (WorksOn follows disk vault copies) (DiskFails disk) (VaultsFail vault copies) a b why
-        → EndsByCause (disk a.backup.now) (disk b.backup.now) (vault a.vault.now) (vault b.vault.now) (copies a.copies.now) (copies b.copies.now) why
-    both_end why e =
-        ends-so (FailsLast (state_of rows vault copies) (WorksOn follows disk vault copies) (DiskFails disk) a b) (FailsLast (state_of rows vault copies) (WorksOn follows disk vault copies) (VaultsFail vault copies) a b)
-        (Rose (disk a.backup.now).faults (disk b.backup.now).faults) (VaultsFailed (vault a.vault.now) (vault b.vault.now) (copies a.copies.now) (copies b.copies.now)) why disk_cause vault_cause e
+    -- the steps before the last one are those of the source and of the namesystem
+    module _ (refuses : S → S → FsEnd → Type 0) (replies : S → KeyName → KmsReply → S → Type 0) (to : List (List ℕ)) where
+      refused_cause : (why : FsEnd) → CopyRefused (state_of rows vault copies) (WorksOn follows disk vault copies) (BothRefuse refuses replies disk) to a b why
+          → IntoRefused follows refuses replies disk to (state_of rows vault copies a) a.source.now b.source.now a.backup.now b.backup.now a.names.now b.names.now why
+      refused_cause why (inr rule) = inl rule
+      refused_cause why (inl f) = inr (go f.last)
+        where
+          w : WorksOn follows disk vault copies a f.mid
+          w = worked a f.mid f.before
 
-    pub both_ends : (result : Result Copied FsEnd) → IfErr result (CopyEnds (state_of rows vault copies) (WorksOn follows disk vault copies) (DiskFails disk) (VaultsFail vault copies) a b)
-        → IfErr result (EndsByCause (disk a.backup.now) (disk b.backup.now) (vault a.vault.now) (vault b.vault.now) (copies a.copies.now) (copies b.copies.now))
-    both_ends (Ok counts) e = e
-    both_ends (Err why) e = both_end why e
+          go : PartsRefuse refuses replies disk f.mid.source.now b.source.now f.mid.backup.now b.backup.now f.mid.names.now b.names.now why
+              → (mid : S) × Steps follows a.source.now mid × PartsRefuse refuses replies disk mid b.source.now a.backup.now b.backup.now a.names.now b.names.now why
+          go (inl r) = (f.mid.source.now, w.source, inl r)
+          go (inr t) = (
+            f.mid.source.now,
+            w.source,
+            inr (record {
+              mid = t.mid;
+              names = t.names;
+              orders = orders_then (disk a.backup.now) (disk f.mid.backup.now) (disk t.mid) a.names.now f.mid.names.now t.names w.orders t.orders;
+              refused = t.refused;
+            }),
+          )
+
+      both_end : (why : FsEnd) → WholeEnds (state_of rows vault copies) (WorksOn follows disk vault copies) (DiskFails disk) (VaultsFail vault copies) (BothRefuse refuses replies disk) to a b why
+          → EndsFor (Rose (disk a.backup.now).faults (disk b.backup.now).faults) (VaultsFailed (vault a.vault.now) (vault b.vault.now) (copies a.copies.now) (copies b.copies.now))
+          (IntoRefused follows refuses replies disk to (state_of rows vault copies a) a.source.now b.source.now a.backup.now b.backup.now a.names.now b.names.now) why
+      both_end why e =
+          ends-so (FailsLast (state_of rows vault copies) (WorksOn follows disk vault copies) (DiskFails disk) a b) (FailsLast (state_of rows vault copies) (WorksOn follows disk vault copies) (VaultsFail vault copies) a b)
+          (Rose (disk a.backup.now).faults (disk b.backup.now).faults) (VaultsFailed (vault a.vault.now) (vault b.vault.now) (copies a.copies.now) (copies b.copies.now))
+          (CopyRefused (state_of rows vault copies) (WorksOn follows disk vault copies) (BothRefuse refuses replies disk) to a b)
+          (IntoRefused follows refuses replies disk to (state_of rows vault copies a) a.source.now b.source.now a.backup.now b.backup.now a.names.now b.names.now) why disk_cause vault_cause (refused_cause why) e
+
+      pub both_ends : (result : Result Copied FsEnd) → IfErr result (WholeEnds (state_of rows vault copies) (WorksOn follows disk vault copies) (DiskFails disk) (VaultsFail vault copies) (BothRefuse refuses replies disk) to a b)
+          → IfErr result (EndsByCause (disk a.backup.now) (disk b.backup.now) (vault a.vault.now) (vault b.vault.now) (copies a.copies.now) (copies b.copies.now))
+      both_ends (Ok counts) e = e
+      both_ends (Err why) e = ends-so (Rose (disk a.backup.now).faults (disk b.backup.now).faults) (VaultsFailed (vault a.vault.now) (vault b.vault.now) (copies a.copies.now) (copies b.copies.now)) (Rose (disk a.backup.now).faults (disk b.backup.now).faults) (VaultsFailed (vault a.vault.now) (vault b.vault.now) (copies a.copies.now) (copies b.copies.now)) (IntoRefused follows refuses replies disk to (state_of rows vault copies a) a.source.now b.source.now a.backup.now b.backup.now a.names.now b.names.now) (λ (w : FsEnd). ⊤) why (λ h. h) (λ h. h) (λ h. tt) (both_end why e)
+
+      pub both_refused : (result : Result Copied FsEnd) → IfErr result (WholeEnds (state_of rows vault copies) (WorksOn follows disk vault copies) (DiskFails disk) (VaultsFail vault copies) (BothRefuse refuses replies disk) to a b)
+          → IfErr result (RefusedFor (IntoRefused follows refuses replies disk to (state_of rows vault copies a) a.source.now b.source.now a.backup.now b.backup.now a.names.now b.names.now))
+      both_refused (Ok counts) e = e
+      both_refused (Err why) e = ends-so (Rose (disk a.backup.now).faults (disk b.backup.now).faults) (VaultsFailed (vault a.vault.now) (vault b.vault.now) (copies a.copies.now) (copies b.copies.now)) ⊤ ⊤ (IntoRefused follows refuses replies disk to (state_of rows vault copies a) a.source.now b.source.now a.backup.now b.backup.now a.names.now b.names.now) (IntoRefused follows refuses replies disk to (state_of rows vault copies a) a.source.now b.source.now a.backup.now b.backup.now a.names.now b.names.now) why (λ h. tt) (λ h. tt) (λ h. h) (both_end why e)
 
 none_before : (k : ℕ) → 0 + k ≡ k
 none_before k = omega arith
@@ -199,10 +234,14 @@ module _ {D W : Type 0} (state : D → DiskState) (to_come : W → ℕ → ℕ) 
       let w = looks_on state to_come a b user (place_below place root) result looks in
       (w.0, read_once state to_come a.now (standing_of a) (standing_of b) ready (look_once state to_come a.now (standing_of a) (standing_of b) user is_user (place_below place root) result w.1))
 
-  pub looked_ends : IfErr result (EndsFor ⊥ ⊥)
-  looked_ends =
+  pub looked_ends : (rows : List Entry) → IfErr result (EndsFor ⊥ ⊥ (CheckRefused (LeadsAt state to_come a.now) rows (standing_of a) (standing_of b)))
+  looked_ends rows =
       let w = looks_on state to_come a b user (place_below place root) result looks in
-      look_ends state to_come a.now (standing_of a) (standing_of b) ready user (place_below place root) result w.1
+      go result (look_ends state to_come a.now (standing_of a) (standing_of b) ready user is_user (place_below place root) result w.1)
+    where
+      go : (r : Result Row FsEnd) → IfErr r (EndsFor ⊥ ⊥ (ReadRefused state to_come a.now (standing_of a) (standing_of b))) → IfErr r (EndsFor ⊥ ⊥ (CheckRefused (LeadsAt state to_come a.now) rows (standing_of a) (standing_of b)))
+      go (Ok row) e = tt
+      go (Err why) e = ends-so ⊥ ⊥ ⊥ ⊥ (ReadRefused state to_come a.now (standing_of a) (standing_of b)) (CheckRefused (LeadsAt state to_come a.now) rows (standing_of a) (standing_of b)) why (λ h. h) (λ h. h) (λ h. inr h) e
 
   pub root_found : IsPlace place → root ≡ [] → (row : Row) → result ≡ Ok row → row_at (place_rows (table_of a.world.now) place) [] ≡ Some row
   root_found is_place e row is =
@@ -298,8 +337,8 @@ over_ends cause (Err own) result why is e fault =
     let same : own ≡ why = cc in
     subst cause same e
 
-pub own_ends : (store vault : Type 0) (why : FsEnd) → EndsFor store vault why → EndsFor ⊤ ⊤ why
-own_ends store vault why e = ends-so store vault ⊤ ⊤ why (λ h. tt) (λ h. tt) e
+pub own_ends : (store vault : Type 0) (refused : FsEnd → Type 0) (why : FsEnd) → EndsFor store vault refused why → IsCopyEnd why
+own_ends store vault refused why e = ends-so store vault ⊤ ⊤ refused (λ (w : FsEnd). ⊤) why (λ h. tt) (λ h. tt) (λ h. tt) e
 
 -- a copy that was begun doesn't end as a start that failed
 pub never_started : (ended : Result Copied FsEnd) (result : Result Copied CopyFault) (fault : StartFault) → result ≡ copied_or ended → result ≡ Err (Start fault) → ⊥

@@ -1,5 +1,5 @@
 -- A place of one world that is copied into the namesystem of another cluster.
-use Rattle.std.specs.Prelude.{◌≡◌, ◌⊎◌, ◌≤◌, ℕ, List, [], ◌∷◌, ◌++◌, Some, true, count_by, Result, Ok, Err, IfOk, IsErrOf, OnErr}
+use Rattle.std.specs.Prelude.{◌≡◌, ◌⊎◌, ◌≤◌, ℕ, List, [], ◌∷◌, ◌++◌, Some, true, count_by, Result, Ok, Err, IfOk, IsErrOf, OnErr, ⊤}
 use Rattle.hk_base.specs.Disk.{DiskState, Tells}
 use Rattle.hk_base.specs.Faults.{Rose}
 use Rattle.frame_log.specs.declared.fault.StartFault.{StartFault}
@@ -56,9 +56,13 @@ ReadsOnceIn others y z = (z ≡ y) ⊎ ((e : Event) × (answer : Line) × OnlyRe
 abbrev pub VaultsFailed : (vault vault' copies copies' : VaultState) → Type 0
 VaultsFailed vault vault' copies copies' = Rose vault.faults vault'.faults ⊎ (Rose copies.faults copies'.faults ⊎ (TellsBodies vault → TellsBodies copies → HadBody copies))
 
+-- how a copy may end that fails
+abbrev pub IsCopyEnd : FsEnd → Type 0
+IsCopyEnd why = EndsFor ⊤ ⊤ (λ (w : FsEnd). ⊤) why
+
 -- Why a copy ends so. It was refused, or there was no memory; or the disk that gets the copy failed, or the vaults did. No other end comes.
 abbrev pub EndsByCause : (disk disk' : DiskState) → (vault vault' copies copies' : VaultState) → FsEnd → Type 0
-EndsByCause disk disk' vault vault' copies copies' why = EndsFor (Rose disk.faults disk'.faults) (VaultsFailed vault vault' copies copies') why
+EndsByCause disk disk' vault vault' copies copies' why = EndsFor (Rose disk.faults disk'.faults) (VaultsFailed vault vault' copies copies') (λ (w : FsEnd). ⊤) why
 
 -- ---- a zone by its texts
 

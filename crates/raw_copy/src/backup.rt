@@ -1,11 +1,12 @@
 //! Copying a zone over the disk of the other cluster.
-ghost use Rattle.std.specs.Prelude.{◌≤◌, ◌≡◌, Err, ⊤};
+ghost use Rattle.std.specs.Prelude.{◌≤◌, ◌≡◌, Err};
 ghost use Rattle.hk_base.specs.Faults.{Rose};
 ghost use Rattle.backup_names.specs.Orders.{HoldsNames, IsSettled};
-ghost use Rattle.row_copies.specs.Clusters.{EndsFor};
 ghost use Rattle.world_desk.specs.Worlds.{IsReady, standing};
+ghost use Rattle.world_events.specs.Events.{LeadsAt};
 ghost use Rattle.world_rows.specs.Rows.{table_of};
-ghost use Rattle.raw_copy.specs.Copies.{CopiesFrom, CopiesOver, EndsByCause, OnlyRead, PlacesAreTrees, VaultsFailed, copied_or};
+ghost use Rattle.raw_copy.specs.Copies.{CopiesFrom, CopiesOver, EndsByCause, IsCopyEnd, OnlyRead, PlacesAreTrees, VaultsFailed, copied_or, copying};
+ghost use Rattle.raw_copy.specs.Refusals.{FromRefused, OverRefused, RefusedFor};
 
 use crate::zone::copy_zone;
 use body_stream::Vault;
@@ -61,6 +62,11 @@ fn copy_from<D: Disk, E: Disk, V: Vault, U: Vault, W: Words>(
     ensures ends { (why : _) → result ≡ Err (CopyFault.End why) →
         EndsByCause (E.state backup.old) (E.state backup.new) (V.state vault.old)
         (V.state vault.new) (U.state copies.old) (U.state copies.new) why }
+    ensures refused { (why : _) → result ≡ Err (CopyFault.End why) →
+        RefusedFor (FromRefused (LeadsAt D.state W.to_come now) E.state from.now to.now
+        (copying (table_of world.old) (V.state vault.old) name (U.state copies.old))
+        (standing disk.old world.old rand.old) (standing disk.new world.new rand.new)
+        backup.old backup.new) why }
     ensures read { OnlyRead D.state W.to_come now
         (standing disk.old world.old rand.old) (standing disk.new world.new rand.new) }
 {
@@ -102,7 +108,12 @@ pub fn copy_over<D: Disk, E: Disk, V: Vault, U: Vault, W: Words>(
     ensures vault { result ≡ Err (CopyFault.End FsEnd.VaultFault) →
         VaultsFailed (V.state vault.old) (V.state vault.new)
         (U.state copies.old) (U.state copies.new) }
-    ensures own { (why : _) → result ≡ Err (CopyFault.End why) → EndsFor ⊤ ⊤ why }
+    ensures own { (why : _) → result ≡ Err (CopyFault.End why) → IsCopyEnd why }
+    ensures refused { (why : _) → result ≡ Err (CopyFault.End why) →
+        RefusedFor (OverRefused (LeadsAt D.state W.to_come now) E.state batch from.now to.now
+        (table_of world.old) (V.state vault.old) (U.state copies.old)
+        (standing disk.old world.old rand.old) (standing disk.new world.new rand.new)
+        backup.old backup.new) why }
     ensures read { OnlyRead D.state W.to_come now
         (standing disk.old world.old rand.old) (standing disk.new world.new rand.new) }
 {

@@ -6,6 +6,7 @@ ghost use Rattle.inode_tree.specs.Rows.{is_marked, row_at};
 ghost use Rattle.row_copies.specs.Copies.{CopiesAll, Steps, StopsEarly, is_file};
 ghost use Rattle.row_copies.specs.Walks.{is_directory};
 ghost use Rattle.raw_copy.specs.Copies.{EndsByCause, copy_state};
+ghost use Rattle.raw_copy.specs.Refusals.{IntoRefused, RefusedFor};
 
 use body_stream::Vault;
 use copy_target::BothClusters;
@@ -39,6 +40,10 @@ fn copy_both<'a, S: SourceRows, E: Disk, V: Vault, U: Vault>(
         (E.state both.old.backup.now) (E.state both.new.backup.now)
         (V.state both.old.vault.now) (V.state both.new.vault.now)
         (U.state both.old.copies.now) (U.state both.new.copies.now)) }
+    ensures refused { IfErr result (RefusedFor (IntoRefused S.follows S.refuses S.replies E.state
+        to.now (state_of S.rows V.state U.state both.old) both.old.source.now
+        both.new.source.now both.old.backup.now both.new.backup.now both.old.names.now
+        both.new.names.now)) }
     ensures works { WorksOn S.follows E.state V.state U.state both.old both.new }
     ensures ready { OnOk result (CanCopy S.ready E.state both.new) }
     ensures source { both.new.source.ghost_name ≡ both.old.source.ghost_name }
@@ -82,6 +87,9 @@ pub fn copy_into<S: SourceRows, E: Disk, V: Vault, U: Vault>(
         (copy_state (S.rows source.new) (V.state vault.new) names.new (U.state copies.new))) }
     ensures ends { IfErr result (EndsByCause (E.state backup.old) (E.state backup.new)
         (V.state vault.old) (V.state vault.new) (U.state copies.old) (U.state copies.new)) }
+    ensures refused { IfErr result (RefusedFor (IntoRefused S.follows S.refuses S.replies E.state
+        to.now (copy_state (S.rows source.old) (V.state vault.old) names.old (U.state copies.old))
+        source.old source.new backup.old backup.new names.old names.new)) }
     ensures source { Steps S.follows source.old source.new }
     ensures orders { OrdersNames (E.state backup.old) (E.state backup.new) names.old names.new }
     ensures settled { OnOk result (IsSettled names.new) }

@@ -7,9 +7,10 @@ ghost use Rattle.row_copies.specs.Clusters.{IsTree};
 ghost use Rattle.row_copies.specs.Copies.{CopiesAll, StopsEarly, is_file};
 ghost use Rattle.row_copies.specs.Walks.{is_directory};
 ghost use Rattle.world_desk.specs.Worlds.{IsReady, standing};
-ghost use Rattle.world_events.specs.Events.{standing_of};
+ghost use Rattle.world_events.specs.Events.{LeadsAt, standing_of};
 ghost use Rattle.world_rows.specs.Rows.{CanRead, IsPlace, place_rows, rows_seen, table_of};
-ghost use Rattle.raw_copy.specs.Copies.{EndsByCause, OnlyRead, copy_state};
+ghost use Rattle.raw_copy.specs.Copies.{EndsByCause, OnlyRead, copy_state, copying};
+ghost use Rattle.raw_copy.specs.Refusals.{RefusedFor, RowsRefused, SeenRefused};
 
 use crate::into::copy_into;
 use body_stream::Vault;
@@ -51,6 +52,9 @@ fn copy_seen<'a, D: Disk, W: Words, E: Disk, V: Vault, U: Vault>(
         (copy_state (rows_seen source.new) (V.state vault.new) names.new (U.state copies.new))) }
     ensures ends { IfErr result (EndsByCause (E.state backup.old) (E.state backup.new)
         (V.state vault.old) (V.state vault.new) (U.state copies.old) (U.state copies.new)) }
+    ensures refused { IfErr result (RefusedFor (SeenRefused D.state W.to_come E.state to.now
+        (copy_state (rows_seen source.old) (V.state vault.old) names.old (U.state copies.old))
+        source.old source.new backup.old backup.new names.old names.new)) }
     ensures read { OnlyRead D.state W.to_come source.old.events.now
         (standing_of source.old.events) (standing_of source.new.events) }
     ensures place { source.new.place.now ≡ source.old.place.now }
@@ -108,6 +112,11 @@ pub fn copy_place<D: Disk, E: Disk, V: Vault, U: Vault, W: Words>(
         (U.state copies.new))) }
     ensures ends { IfErr result (EndsByCause (E.state backup.old) (E.state backup.new)
         (V.state vault.old) (V.state vault.new) (U.state copies.old) (U.state copies.new)) }
+    ensures refused { IfErr result (RefusedFor (RowsRefused (LeadsAt D.state W.to_come now) E.state
+        place.now to.now
+        (copying (table_of world.old) (V.state vault.old) names.old (U.state copies.old))
+        (standing disk.old world.old rand.old) (standing disk.new world.new rand.new)
+        backup.old backup.new names.new)) }
     ensures read { OnlyRead D.state W.to_come now
         (standing disk.old world.old rand.old) (standing disk.new world.new rand.new) }
     ensures orders { OrdersNames (E.state backup.old) (E.state backup.new) names.old names.new }

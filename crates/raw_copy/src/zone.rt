@@ -1,5 +1,5 @@
 //! Copying a zone by the texts of its place and of a path.
-ghost use Rattle.std.specs.Prelude.{◌≡◌, Some, [], true, IfErr, IfOk, OnErr, OnOk};
+ghost use Rattle.std.specs.Prelude.{◌≡◌, None, Some, [], true, IfErr, IfOk, OnErr, OnOk};
 ghost use Rattle.backup_names.specs.Orders.{HoldsNames, IsSettled, OrdersNames};
 ghost use Rattle.inode_tree.specs.Rows.{is_dir_at, row_at};
 ghost use Rattle.name_calls.specs.Paths.{read_path};
@@ -7,9 +7,10 @@ ghost use Rattle.name_core.specs.Calls.{superuser};
 ghost use Rattle.place_texts.specs.Places.{read_raw_place};
 ghost use Rattle.row_copies.specs.Clusters.{EndsFor};
 ghost use Rattle.world_desk.specs.Worlds.{IsReady, standing};
-ghost use Rattle.world_events.specs.Events.{standing_of};
+ghost use Rattle.world_events.specs.Events.{LeadsAt, standing_of};
 ghost use Rattle.world_rows.specs.Rows.{IsPlace, place_rows, table_of};
 ghost use Rattle.raw_copy.specs.Copies.{AreTexts, CopiesPlace, CopiesZone, EndsByCause, OnlyRead, PlacesAreTrees, StopsPlace, StopsZone, copying};
+ghost use Rattle.raw_copy.specs.Refusals.{AreNoTexts, CheckRefused, IsNoZoneRow, NotRead, PlaceRefused, RefusedFor, ZoneRefused, end_of_path};
 
 use crate::place::copy_place;
 use body_stream::Vault;
@@ -27,7 +28,7 @@ use world_run::World;
 
 /// Returns how a command ends at a path that could not be read.
 fn end_of_path(fault: PathFault) -> FsEnd
-    ensures { EndsFor ⊥ ⊥ result }
+    ensures { result ≡ end_of_path fault }
 {
     match fault {
         PathFault::BadPath => FsEnd::NameRefused(NameRefusal::BadPath),
@@ -38,7 +39,7 @@ fn end_of_path(fault: PathFault) -> FsEnd
 /// Reads the place to copy.
 fn read_from(alloc: Global, from: &Text) -> Result<ReadPath, FsEnd>
     ensures place { IfOk result (λ place. read_raw_place from.now ≡ Some place) }
-    ensures ends { IfErr result (EndsFor ⊥ ⊥) }
+    ensures ends { IfErr result (NotRead (read_raw_place from.now ≡ None)) }
 {
     match read_raw_place(alloc, from.as_str().as_bytes()) {
         Ok(place) => Ok(place),
@@ -49,7 +50,7 @@ fn read_from(alloc: Global, from: &Text) -> Result<ReadPath, FsEnd>
 /// Reads the path of the copy.
 fn read_to(alloc: Global, to: &Text) -> Result<NPath, FsEnd>
     ensures path { IfOk result (λ path. read_path to.now ≡ Some path) }
-    ensures ends { IfErr result (EndsFor ⊥ ⊥) }
+    ensures ends { IfErr result (NotRead (read_path to.now ≡ None)) }
 {
     match NPath::read(alloc, to.as_str().as_bytes()) {
         Ok(path) => Ok(path),
@@ -60,7 +61,7 @@ fn read_to(alloc: Global, to: &Text) -> Result<NPath, FsEnd>
 /// Reads both.
 fn read_texts(alloc: Global, from: &Text, to: &Text) -> Result<(ReadPath, NPath), FsEnd>
     ensures texts { IfOk result (λ read. AreTexts from.now to.now read.0 read.1) }
-    ensures ends { IfErr result (EndsFor ⊥ ⊥) }
+    ensures ends { IfErr result (NotRead (AreNoTexts from.now to.now)) }
 {
     let place = match read_from(alloc, from) {
         Ok(place) => place,
@@ -79,7 +80,7 @@ fn read_texts(alloc: Global, from: &Text, to: &Text) -> Result<(ReadPath, NPath)
 /// without a key.
 fn zone_only(row: Row) -> Result<(), FsEnd>
     ensures directory { OnOk result (is_dir_at (Some row) ≡ true) }
-    ensures ends { IfErr result (EndsFor ⊥ ⊥) }
+    ensures rule { IfErr result (IsNoZoneRow row) }
 {
     match row.kind {
         Kind::Dir { key: Some(_) } => Ok(()),
@@ -100,7 +101,10 @@ fn check_seen<'a, D: Disk, W: Words>(
     requires place { IsPlace place.now }
     ensures directory { OnOk result
         (is_dir_at (row_at (place_rows (table_of events.old.world.now) place.now) []) ≡ true) }
-    ensures ends { IfErr result (EndsFor ⊥ ⊥) }
+    ensures ends { IfErr result (EndsFor ⊥ ⊥ (CheckRefused
+        (LeadsAt D.state W.to_come events.old.now)
+        (place_rows (table_of events.old.world.now) place.now)
+        (standing_of events.old) (standing_of events.new))) }
     ensures read { OnlyRead D.state W.to_come events.old.now
         (standing_of events.old) (standing_of events.new) }
     ensures world { events.new.world.ghost_name ≡ events.old.world.ghost_name }
@@ -129,7 +133,9 @@ fn check_zone<D: Disk, W: Words>(
     requires place { IsPlace place.now }
     ensures directory { OnOk result
         (is_dir_at (row_at (place_rows (table_of world.old) place.now) []) ≡ true) }
-    ensures ends { IfErr result (EndsFor ⊥ ⊥) }
+    ensures ends { IfErr result (EndsFor ⊥ ⊥ (CheckRefused (LeadsAt D.state W.to_come now)
+        (place_rows (table_of world.old) place.now)
+        (standing disk.old world.old rand.old) (standing disk.new world.new rand.new))) }
     ensures read { OnlyRead D.state W.to_come now
         (standing disk.old world.old rand.old) (standing disk.new world.new rand.new) }
 {
@@ -166,6 +172,11 @@ fn copy_named<D: Disk, E: Disk, V: Vault, U: Vault, W: Words>(
         (copying (table_of world.new) (V.state vault.new) names.new (U.state copies.new))) }
     ensures ends { IfErr result (EndsByCause (E.state backup.old) (E.state backup.new)
         (V.state vault.old) (V.state vault.new) (U.state copies.old) (U.state copies.new)) }
+    ensures refused { IfErr result (RefusedFor (PlaceRefused (LeadsAt D.state W.to_come now) E.state
+        place.now path.now
+        (copying (table_of world.old) (V.state vault.old) names.old (U.state copies.old))
+        (standing disk.old world.old rand.old) (standing disk.new world.new rand.new)
+        backup.old backup.new names.new)) }
     ensures read { OnlyRead D.state W.to_come now
         (standing disk.old world.old rand.old) (standing disk.new world.new rand.new) }
     ensures orders { OrdersNames (E.state backup.old) (E.state backup.new) names.old names.new }
@@ -214,6 +225,11 @@ pub fn copy_zone<D: Disk, E: Disk, V: Vault, U: Vault, W: Words>(
         (copying (table_of world.new) (V.state vault.new) names.new (U.state copies.new))) }
     ensures ends { IfErr result (EndsByCause (E.state backup.old) (E.state backup.new)
         (V.state vault.old) (V.state vault.new) (U.state copies.old) (U.state copies.new)) }
+    ensures refused { IfErr result (RefusedFor (ZoneRefused (LeadsAt D.state W.to_come now) E.state
+        from.now to.now
+        (copying (table_of world.old) (V.state vault.old) names.old (U.state copies.old))
+        (standing disk.old world.old rand.old) (standing disk.new world.new rand.new)
+        backup.old backup.new names.new)) }
     ensures read { OnlyRead D.state W.to_come now
         (standing disk.old world.old rand.old) (standing disk.new world.new rand.new) }
     ensures orders { OrdersNames (E.state backup.old) (E.state backup.new) names.old names.new }

@@ -5,7 +5,7 @@ use Rattle.copy_command.proofs.StatusLemmas.{copy_is_no_usage, read_is_no_usage}
 use Rattle.copy_command.proofs.command.obey.Goals as goal
 
 pub returns-in-Ok-Copy-clause-own : goal.returns-in-Ok-Copy-clause-own
-returns-in-Ok-Copy-clause-own g c is = absurd (copy_is_no_usage _ _ _ _ _ _ _ _ _ _ _ _ _ _ _ _ c.run_copy.result _ _ c.run_copy.ensures.copy is)
+returns-in-Ok-Copy-clause-own g c is = absurd (copy_is_no_usage g.E.Disk.state _ _ _ _ _ _ _ _ _ _ _ _ _ _ _ _ c.run_copy.result _ _ c.run_copy.ensures.copy is)
 
 pub returns-in-Ok-Read-clause-own : goal.returns-in-Ok-Read-clause-own
 returns-in-Ok-Read-clause-own g c is = absurd (read_is_no_usage _ _ _ _ _ _ _ _ _ _ _ _ _ _ c.run_read_copy.result _ _ _ _ _ c.run_read_copy.ensures.read is)

@@ -22,7 +22,7 @@ returns-in-Ok-clause-copy g c =
     let did = c.copy_in-ended.ensures.copies in
     inr (zone_ran g.D.Disk.state g.W.Words.to_come c.args.props.now (g.D.Disk.state c.args.disk.now) (record { disk = c.start.new.disk; world = c.in-Ok.world; words = c.args.rand.now })
     (record { disk = c.copy_in-ended.new.disk; world = did.0; words = c.copy_in-ended.new.rand }) c.in-Ok.ensures.began c.start.ensures.opens.any_moment c.start.ensures.opens.run c.in-Ok.ensures.lists
-    c.batch_size-batch.result c.batch_size-batch.ensures.size c.args.from.now c.args.to.now c.copy_in-ended.result _ _ _ _ _ _ _ _ _ did.1 c.close_copy.ensures.closes c.copy_in-ended.ensures.own)
+    g.E.Disk.state c.batch_size-batch.result c.batch_size-batch.ensures.size c.args.from.now c.args.to.now _ _ _ _ _ _ c.copy_in-ended.result _ _ _ did.1 c.close_copy.ensures.closes c.copy_in-ended.ensures.own)
 
 pub returns-in-Err-clause-store_fault : goal.returns-in-Err-clause-store_fault
 returns-in-Err-clause-store_fault g c is =
@@ -36,13 +36,13 @@ pub returns-in-Err-clause-read_fault : goal.returns-in-Err-clause-read_fault
 returns-in-Err-clause-read_fault g c is = absurd (opening_read c.in-Err.why.file c.in-Err.why.fault (reported_read _ _ _ _ (reported _ _ _ _ _ c.ended_by.ensures c.report.ensures.reports) is))
 
 pub returns-in-Ok-clause-read_fault : goal.returns-in-Ok-clause-read_fault
-returns-in-Ok-clause-read_fault g c is = c.copy_in-ended.ensures.own end.ReadFault (ended_read _ _ _ c.copy_in-ended.result c.close_copy.ensures.closes is)
+returns-in-Ok-clause-read_fault g c is = let never = c.copy_in-ended.ensures.own end.ReadFault (ended_read _ _ _ c.copy_in-ended.result c.close_copy.ensures.closes is) in never.0
 
 pub returns-in-Err-clause-write_fault : goal.returns-in-Err-clause-write_fault
 returns-in-Err-clause-write_fault g c is = ⊎_elim (λ same. absurd (opening_write c.in-Err.why.file c.in-Err.why.fault (sym c.ended_by.ensures ∙ same))) (λ rose. rose) (c.report.ensures.write is)
 
 pub returns-in-Ok-clause-write_fault : goal.returns-in-Ok-clause-write_fault
-returns-in-Ok-clause-write_fault g c is = ⊎_elim (λ same. absurd (c.copy_in-ended.ensures.own end.WriteFault same)) (λ rose. rose) (c.close_copy.ensures.write is)
+returns-in-Ok-clause-write_fault g c is = ⊎_elim (λ same. let never = c.copy_in-ended.ensures.own end.WriteFault same in absurd never.0) (λ rose. rose) (c.close_copy.ensures.write is)
 
 pub returns-in-Err-clause-vault_fault : goal.returns-in-Err-clause-vault_fault
 returns-in-Err-clause-vault_fault g c is = absurd (reported_vault _ _ _ _ (reported _ _ _ _ _ c.ended_by.ensures c.report.ensures.reports) is)
@@ -54,4 +54,4 @@ pub returns-in-Err-clause-long : goal.returns-in-Err-clause-long
 returns-in-Err-clause-long g c is = absurd (reported_long _ _ _ _ (reported _ _ _ _ _ c.ended_by.ensures c.report.ensures.reports) is)
 
 pub returns-in-Ok-clause-long : goal.returns-in-Ok-clause-long
-returns-in-Ok-clause-long g c is = c.copy_in-ended.ensures.own end.TooLong (ended_long _ _ _ c.copy_in-ended.result c.close_copy.ensures.closes is)
+returns-in-Ok-clause-long g c is = let never = c.copy_in-ended.ensures.own end.TooLong (ended_long _ _ _ c.copy_in-ended.result c.close_copy.ensures.closes is) in never.0

@@ -14,7 +14,7 @@ returns-in-Err-clause-kept g c tells past sound =
 
 pub returns-clause-kept : goal.returns-clause-kept
 returns-clause-kept g c tells past sound =
-    zone_keeps past (g.D.Disk.state c.args.disk.now) (g.D.Disk.state c.copy_under-status.new.disk) tells sound
+    zone_keeps g.E.Disk.state past (g.D.Disk.state c.args.disk.now) (g.D.Disk.state c.copy_under-status.new.disk) tells sound
     (record { reads = λ tells file lt. g.met.D.Disk.is_one c.args.disk.now file tells lt; only = g.met.D.Disk.only_now c.args.disk.now; counts = g.met.D.Disk.counts_now c.copy_under-status.new.disk })
     (c.copy_under-status.new.disk ≡ c.args.disk.now) _ c.args.from.now c.args.to.now _ _ _ _ _ _ _ _ _ _ _ _ _
     (unmoved g.D.Disk.state c.args.disk.now c.copy_under-status.new.disk (g.met.D.Disk.only_now c.args.disk.now)) (inr (record { props = c.in-Ok.props; read = c.in-Ok.ensures.read; copy = c.copy_under-status.ensures.copy }))

@@ -1,10 +1,11 @@
 use Rattle.std.proofs.Common.{inr, refl, subst, sym}
 use Rattle.backup_names.proofs.OrderLemmas.{no_orders}
 use Rattle.row_copies.specs.Clusters.{IsTree}
-use Rattle.row_copies.proofs.CauseLemmas.{ends-plain}
 use Rattle.name_store.specs.Table.{NameTable}
 use Rattle.world_rows.specs.Rows.{place_rows, table_of}
 use Rattle.raw_copy.specs.Copies.{copying}
+use Rattle.world_events.specs.Events.{LeadsAt}
+use Rattle.raw_copy.proofs.RefusalLemmas.{check_cause, check_refused, place_refused}
 use Rattle.raw_copy.proofs.CopyLemmas.{from_kept, place_copied, read_then, stopped_kept, table_kept}
 use Rattle.raw_copy.proofs.zone.copy_named.Goals as goal
 
@@ -33,4 +34,12 @@ pub returns-in-Err-clause-orders : goal.returns-in-Err-clause-orders
 returns-in-Err-clause-orders g c = no_orders (g.E.Disk.state c.args.backup.now) c.args.names.now
 
 pub returns-in-Err-clause-ends : goal.returns-in-Err-clause-ends
-returns-in-Err-clause-ends g c = ends-plain _ _ c.in-Err.end c.in-Err.ensures.ends
+returns-in-Err-clause-ends g c = check_cause (LeadsAt g.D.Disk.state g.W.Words.to_come c.args.now) (place_rows (table_of c.args.world.now) c.args.place.now) (record { disk = c.args.disk.now; world = c.args.world.now; words = c.args.rand.now }) (record { disk = c.check_zone.new.disk; world = c.check_zone.new.world; words = c.check_zone.new.rand }) _ _ c.in-Err.end c.in-Err.ensures.ends
+
+pub returns-in-Err-clause-refused : goal.returns-in-Err-clause-refused
+returns-in-Err-clause-refused g c =
+    check_refused (LeadsAt g.D.Disk.state g.W.Words.to_come c.args.now) g.E.Disk.state c.args.place.now c.args.path.now (copying (table_of c.args.world.now) (g.V.Vault.state c.args.vault.now) c.args.names.now (g.U.Vault.state c.args.copies.now)) (record { disk = c.args.disk.now; world = c.args.world.now; words = c.args.rand.now }) (record { disk = c.check_zone.new.disk; world = c.check_zone.new.world; words = c.check_zone.new.rand }) c.args.backup.now c.args.backup.now c.args.names.now c.in-Err.end c.in-Err.ensures.ends
+
+pub returns-in-Ok-clause-refused : goal.returns-in-Ok-clause-refused
+returns-in-Ok-clause-refused g c =
+    place_refused g.D.Disk.state g.W.Words.to_come c.args.now g.E.Disk.state c.args.place.now c.args.path.now (record { disk = c.args.disk.now; world = c.args.world.now; words = c.args.rand.now }) (record { disk = c.check_zone.new.disk; world = c.check_zone.new.world; words = c.check_zone.new.rand }) (record { disk = c.copy_place.new.disk; world = c.copy_place.new.world; words = c.copy_place.new.rand }) (g.V.Vault.state c.args.vault.now) (g.U.Vault.state c.args.copies.now) c.args.names.now c.args.backup.now c.copy_place.new.backup c.copy_place.new.names c.check_zone.ensures.read c.copy_place.result c.copy_place.ensures.refused
