@@ -1,5 +1,5 @@
 -- By whom an order was refused that failed.
-use Rattle.std.proofs.Common.{◌≡◌, inl, inr, ℕ, refl, subst, sym}
+use Rattle.std.proofs.Common.{◌≡◌, ◌⊎◌, inl, inr, ℕ, refl, subst, sym}
 use Rattle.std.specs.Prelude.{IfErr, Result, Ok, Err}
 use Rattle.hk_base.specs.Disk.{DiskState}
 use Rattle.hk_base.specs.declared.texts.Text.{Text}
@@ -12,6 +12,8 @@ use Rattle.name_calls.specs.declared.calls.NameReply.TheVariants as reply
 use Rattle.inode_tree.specs.declared.rows.Row.{Row}
 use Rattle.file_orders.specs.Ends.{end_of_names}
 use Rattle.file_orders.specs.declared.ends.FsEnd.{FsEnd}
+use Rattle.file_orders.specs.declared.ends.FsEnd.TheVariants as end
+use Rattle.file_orders.specs.declared.open.ShownFile.{ShownFile}
 use Rattle.name_core.specs.Asks.{Asks}
 use Rattle.name_core.specs.Service.{FinishActs, NameActsOnDisk}
 use Rattle.name_core.specs.State.{RunningNames, names_of}
@@ -53,6 +55,15 @@ module _ (disk disk' : DiskState) (r r' : RunningNames) where
 
   pub finish_caused : (id : ℕ) (given : KeyAnswer) (finished : Result (Unit {0}) NameRefusal) (result : Result (Unit {0}) FsEnd) → result ≡ finish_end finished → FinishActs disk disk' r id given finished r' → IfErr result (FinishRefused disk disk' r r' id given)
   finish_caused id given finished result e acts = subst (λ (x : Result (Unit {0}) FsEnd). IfErr x (FinishRefused disk disk' r r' id given)) (sym e) (finish_cause id given finished acts)
+
+-- an error of a look at a file is one of a look at its row, or it is a directory
+
+pub row_looked : (P : FsEnd → Type 0) (result : Result Row FsEnd) (why : FsEnd) → result ≡ Err why → IfErr result P → (why ≡ end.Directory) ⊎ P why
+row_looked P result why is cause = inr (subst (λ (x : Result Row FsEnd). IfErr x P) is cause)
+
+pub file_looked : (P Q : FsEnd → Type 0) (result : Result ShownFile FsEnd) → IfErr result (λ why. (why ≡ end.Directory) × Q why) → IfErr result (λ why. (why ≡ end.Directory) ⊎ P why)
+file_looked P Q (Ok file) directory = tt
+file_looked P Q (Err why) directory = inl directory.0
 
 pub ask_caused : (r r' : RunningNames) (user : Text) (a a' : Ask) (w : NameRefusal) (why : FsEnd) → a ≡ a' → why ≡ end_of_names w → Asks (names_of r) user a (Err w) (names_of r') → NoMemoryOr (AskRefused r r' user a') why
 ask_caused r r' user a a' w why is e asks = inr (w, subst (λ (x : Ask). Asks (names_of r) user x (Err w) (names_of r')) is asks, e)

@@ -1,5 +1,5 @@
 //! Entries of a copy.
-ghost use Rattle.std.specs.Prelude.{◌≡◌, Err, IfErr, IfOk, IsErrOf, None, Some, true};
+ghost use Rattle.std.specs.Prelude.{◌≡◌, ◌⊎◌, Err, IfErr, IfOk, IsErrOf, None, Some, true};
 ghost use Rattle.std.specs.Option.{option_map};
 ghost use Rattle.backup_names.specs.Ends.{row_end, row_shown};
 ghost use Rattle.backup_names.specs.Orders.{HoldsNames, IsSettled, OrdersNames};
@@ -137,6 +137,9 @@ pub fn look_file<E: Disk>(
     ensures same { service_of name.new ≡ service_of name.old }
     ensures fault { IsErrOf result FsEnd.StoreFault → ⊥ }
     ensures failure { IfErr result IsFailure }
+    ensures cause { IfErr result (λ end. (end ≡ FsEnd.Directory) ⊎
+        NoMemoryOr (CallRefused (E.state disk.old) (E.state disk.new) name.old name.new user.now
+        (info_at path.now)) end) }
     ensures orders { OrdersNames (E.state disk.old) (E.state disk.new) name.old name.new }
 {
     match look(alloc, name, disk, user, path) {

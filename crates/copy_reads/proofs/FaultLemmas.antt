@@ -16,7 +16,7 @@ reports_shown fault own same text written now status is shows =
 pub reports_unmade : (fault : StartFault) (written now : Option (List ℕ)) (status : ℕ) → Shows (codes "no memory\n") 6 written now status → ReportsCopies fault written now status
 reports_unmade fault written now status shows = record { last = start.NoMemory; last_is = inr refl; shows = shows }
 
-copies_either : (fault : StartFault) (written now : Option (List ℕ)) (status : ℕ) → ReportsCopies fault written now status → Either (copies_status fault) status
+pub copies_either : (fault : StartFault) (written now : Option (List ℕ)) (status : ℕ) → ReportsCopies fault written now status → Either (copies_status fault) status
 copies_either fault written now status r =
     ⊎_elim
     (λ shown. ⊎_elim

@@ -13,6 +13,7 @@ use Rattle.file_orders.specs.declared.open.OpenFile.{OpenFile}
 use Rattle.file_orders.specs.declared.open.ShownFile.{ShownFile}
 use Rattle.backup_names.specs.Ends.{row_shown}
 use Rattle.copy_reads.specs.Copies.{FindsCopy}
+use Rattle.copy_reads.proofs.CauseLemmas.{IsNoKey}
 
 abbrev pub err : {T E : Type 0} → E → Result T E
 err why = Err why
@@ -24,10 +25,12 @@ path_is_none : (place : List (List ℕ)) → Some place ≡ None → ⊥
 path_is_none place is = cc
 
 pub looked : (rows : List Entry) (path : List ℕ) (place : List (List ℕ)) (result : Result ShownFile FsEnd) → read_path path ≡ Some place → IfOk result (λ shown. row_at rows place ≡ Some (row_shown shown))
-    → (IsErrOf result end.Directory → is_dir_at (row_at rows place) ≡ true) → (IsErrOf result end.StoreFault → ⊥) → IfErr result IsFailure → FindsCopy rows path result
-looked rows path place (Ok file) is at directory fault failure = record { place = place; is_place = is; at = at }
-looked rows path place (Err why) is at directory fault failure = record {
+    → (IsErrOf result end.Directory → is_dir_at (row_at rows place) ≡ true) → (IsErrOf result end.StoreFault → ⊥) → IfErr result IsFailure → IfErr result IsNoKey
+    → FindsCopy rows path result
+looked rows path place (Ok file) is at directory fault failure no_key = record { place = place; is_place = is; at = at }
+looked rows path place (Err why) is at directory fault failure no_key = record {
   failure = failure;
+  no_key = no_key;
   no_fault = λ same. fault (ap (λ (w : FsEnd). err {T = ShownFile} w) same);
   bad = λ none. absurd (path_is_none place (sym is ∙ none));
   directory = λ same. record { place = place; is_place = is; at = directory (ap (λ (w : FsEnd). err {T = ShownFile} w) same) };

@@ -1,3 +1,4 @@
+mod CauseLemmas
 pub mod FaultLemmas
 pub mod FindLemmas
 pub mod ReadLemmas

@@ -125,6 +125,7 @@ module _ {D W : Type 0} (state : D → DiskState) (to_come : W → ℕ → ℕ) 
             holds = r.holds;
             run = r.run;
             how = r.how;
+            cause = r.cause;
             body = r.body;
             moment = r.moment;
             reads = f.did;

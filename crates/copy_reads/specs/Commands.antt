@@ -22,7 +22,7 @@ use Rattle.data_stream.specs.Commands.{CannotOpen, RefusesProperties}
 use Rattle.data_stream.specs.Ends.{Closes}
 use Rattle.data_stream.specs.Runs.{Adds, Worked, last_world, world_before}
 use Rattle.copy_reads.specs.Bodies.{HasReadCopy}
-use Rattle.copy_reads.specs.Copies.{ReadsCopy}
+use Rattle.copy_reads.specs.Copies.{CauseOfRead, ReadsCopy}
 
 -- ---- the log of the second namesystem could not be opened
 
@@ -64,7 +64,7 @@ pub record HoldsCopies (backup backup' : DiskState) (found : NameTable) (after :
   pub stands : IsNamesystemOf backup' after ((ops ++ next_opening found ∷ []) ++ later)
 
 -- The second namesystem was started with the table found in its log, and is the same in the end. A range was read: `how` says how that
--- ended, and `body` is what was written by then. Events led from a to b.
+-- ended, `cause` by what it was refused if it was, and `body` is what was written by then. Events led from a to b.
 pub record ReadsOpened {X : Type 0} (leads : ℕ → Leading X) (batch : ℕ) (user path : List ℕ) (from count : ℕ) (backup backup' : DiskState) (a b : X) (copies copies' : VaultState) (written now : Option (List ℕ)) (status : ℕ) : Type 0 where
   pub found : NameTable
   pub names : RunningNames
@@ -74,6 +74,7 @@ pub record ReadsOpened {X : Type 0} (leads : ℕ → Leading X) (batch : ℕ) (u
   pub holds : Tells backup → HoldsCopies backup backup' found after
   pub run : RunOn 1 backup backup'
   pub how : FsEnd
+  pub cause : CauseOfRead names user path how
   pub body : Option (List ℕ)
   -- the time of the event
   pub moment : ℕ

@@ -7,7 +7,7 @@ ghost use Rattle.world_desk.specs.Worlds.{IsReady, standing};
 ghost use Rattle.world_events.specs.Events.{LeadsAt, standing_of};
 ghost use Rattle.hk_runs.specs.Headline.{FromSoundFiles};
 ghost use Rattle.backup_names.specs.Orders.{HoldsNames, IsSettled, OrdersNames};
-ghost use Rattle.copy_reads.specs.Copies.{ReadsCopy};
+ghost use Rattle.copy_reads.specs.Copies.{CauseOfRead, ReadsCopy};
 ghost use Rattle.copy_reads.specs.Runs.{CopiesUnder, ReadsCopies, ReadsCopiesKept, RestFrom, files};
 
 use crate::ends::report_copies;
@@ -43,6 +43,7 @@ fn read_over<'a, D: Disk, E: Disk, W: Words, U: Vault, K: Sink>(
         name.old.store.table.rows user.now path.now from count (standing_of events.old) result
         (standing_of events.new) (U.state copies.old) (U.state copies.new) (K.written out.old)
         (K.written out.new) }
+    ensures cause { CauseOfRead name.old user.now path.now result }
     ensures world { events.new.world.ghost_name ≡ events.old.world.ghost_name }
     ensures disk { events.new.disk.ghost_name ≡ events.old.disk.ghost_name }
     ensures words { events.new.words.ghost_name ≡ events.old.words.ghost_name }
@@ -83,6 +84,7 @@ fn read_from<D: Disk, E: Disk, W: Words, C: Clock, U: Vault, K: Sink>(
         count (standing disk.old world.old rand.old) result
         (standing disk.new world.new rand.new) (U.state copies.old) (U.state copies.new)
         (K.written out.old) (K.written out.new) }
+    ensures cause { CauseOfRead name.old user.now path.now result }
     ensures same { service_of name.new ≡ service_of name.old }
     ensures orders { OrdersNames (E.state backup.old) (E.state backup.new) name.old name.new }
     ensures write { result ≡ FsEnd.WriteFault → Rose (K.faults out.old) (K.faults out.new) }
@@ -130,6 +132,7 @@ fn read_in<D: Disk, E: Disk, W: Words, C: Clock, U: Vault, K: Sink>(
         ReadsCopy (LeadsAt D.state W.to_come now) name.store.table.rows user.now path.now from
         count (standing disk.old world rand.old) result (standing disk.new w rand.new)
         (U.state copies.old) (U.state copies.new) (K.written out.old) (K.written out.new) }
+    ensures cause { CauseOfRead name user.now path.now result }
     ensures names { (after : RunningNames) × (service_of after ≡ service_of name) ×
         OrdersNames (E.state backup.old) (E.state backup.new) name after }
     ensures write { result ≡ FsEnd.WriteFault → Rose (K.faults out.old) (K.faults out.new) }

@@ -1,9 +1,9 @@
 //! Reading a range of a copy over events.
-ghost use Rattle.std.specs.Prelude.{◌≡◌, ◌≤◌};
+ghost use Rattle.std.specs.Prelude.{◌≡◌, ◌≤◌, IfErr};
 ghost use Rattle.hk_base.specs.Faults.{Rose};
 ghost use Rattle.name_core.specs.State.{service_of};
 ghost use Rattle.backup_names.specs.Orders.{HoldsNames, IsSettled, OrdersNames};
-ghost use Rattle.copy_reads.specs.Copies.{FindsCopy, ReadsCopy};
+ghost use Rattle.copy_reads.specs.Copies.{CauseOfRead, FindsCopy, ReadsCopy};
 
 use backup_names::look_file;
 use body_stream::Vault;
@@ -24,6 +24,7 @@ fn find_copy<E: Disk>(
     requires holds { HoldsNames (E.state backup.old) name.old }
     requires settled { IsSettled name.old }
     ensures finds { FindsCopy name.old.store.table.rows path.now result }
+    ensures cause { IfErr result (CauseOfRead name.old user.now path.now) }
     ensures same { service_of name.new ≡ service_of name.old }
     ensures orders { OrdersNames (E.state backup.old) (E.state backup.new) name.old name.new }
 {
@@ -36,7 +37,8 @@ fn find_copy<E: Disk>(
 
 /// Writes a range of the copy at a path for a user, decrypted if it has an encrypted key. A range past
 /// the end is cut. The file is that of the second namesystem, which is not changed, and only the live
-/// files are read. The events decrypt the key, and nothing else happens to them.
+/// files are read. The events decrypt the key, and nothing else happens to them. If the read is refused
+/// before that, the clause `cause` says by what.
 pub fn read_copy<T: Events, E: Disk, U: Vault, K: Sink>(
     alloc: Global,
     events: &mut T,
@@ -55,6 +57,7 @@ pub fn read_copy<T: Events, E: Disk, U: Vault, K: Sink>(
     ensures reads { ReadsCopy T.leads name.old.store.table.rows user.now path.now from count
         events.old result events.new (U.state copies.old) (U.state copies.new)
         (K.written out.old) (K.written out.new) }
+    ensures cause { CauseOfRead name.old user.now path.now result }
     ensures ready { T.ready events.new }
     ensures same { service_of name.new ≡ service_of name.old }
     ensures orders { OrdersNames (E.state backup.old) (E.state backup.new) name.old name.new }

@@ -43,6 +43,7 @@ returns-in-Ok-clause-read g c =
         holds = copies_held _ _ _ _ _ names.0 started c.start.ensures.opens.run names.2;
         run = runs_on _ _ _ c.start.ensures.opens.run names.2.run;
         how = c.read_in-how.result;
+        cause = c.read_in-how.ensures.cause;
         body = _;
         moment = did.0;
         reads = did.2;
