@@ -5,7 +5,7 @@ ghost use Rattle.world_desk.specs.Worlds.{IsReady, standing};
 ghost use Rattle.world_events.specs.Events.{LeadsAt};
 ghost use Rattle.world_rows.specs.Rows.{table_of};
 ghost use Rattle.raw_copy.specs.Copies.{CopiesOver, IsCopyEnd, OnlyRead, VaultsFailed};
-ghost use Rattle.raw_copy.specs.Refusals.{OverRefused, RefusedFor};
+ghost use Rattle.raw_copy.specs.Refusals.{CopyEndsBy, OverRefused};
 
 use body_stream::Vault;
 use file_orders::FsEnd;
@@ -47,11 +47,10 @@ pub fn copy_opened_over<D: Disk, E: Disk, V: Vault, U: Vault, W: Words>(
         VaultsFailed (V.state vault.old) (V.state vault.new)
         (U.state copies.old) (U.state copies.new) }
     ensures own { (why : _) → result ≡ Err (CopyFault.End why) → IsCopyEnd why }
-    ensures refused { (why : _) → result ≡ Err (CopyFault.End why) →
-        RefusedFor (OverRefused (LeadsAt D.state W.to_come now) E.state batch from.now to.now
-        (table_of world.old) (V.state vault.old) (U.state copies.old)
+    ensures refused { CopyEndsBy result (OverRefused (LeadsAt D.state W.to_come now) E.state batch
+        from.now to.now (table_of world.old) (V.state vault.old) (U.state copies.old)
         (standing disk.old world.old rand.old) (standing disk.new world.new rand.new)
-        backup.old backup.new) why }
+        backup.old backup.new) }
     ensures read { OnlyRead D.state W.to_come now
         (standing disk.old world.old rand.old) (standing disk.new world.new rand.new) }
 {

@@ -1,5 +1,5 @@
 -- Why a copy of a place is refused.
-use Rattle.std.specs.Prelude.{◌≡◌, ◌⊎◌, ℕ, false, List, [], Some, None, ⊤}
+use Rattle.std.specs.Prelude.{◌≡◌, ◌⊎◌, ℕ, false, List, [], Some, None, Result, Err, IfErr, ⊤}
 use Rattle.hk_base.specs.Disk.{DiskState}
 use Rattle.hk_base.specs.declared.names.KeyName.{KeyName}
 use Rattle.hk_base.specs.declared.texts.Text.{Text}
@@ -29,6 +29,9 @@ use Rattle.name_store.specs.Table.{NameTable}
 use Rattle.place_texts.specs.Places.{read_raw_place}
 use Rattle.row_copies.specs.Clusters.{CopyState, EndsFor}
 use Rattle.row_copies.specs.Copies.{RuleRefuses, Steps}
+use Rattle.row_copies.specs.declared.walk.Copied.{Copied}
+use Rattle.raw_copy.specs.declared.backup.CopyFault.{CopyFault}
+use Rattle.raw_copy.specs.declared.backup.CopyFault.TheVariants.{End}
 use Rattle.world_events.specs.Events.{LeadsAt, standing_of}
 use Rattle.world_rows.specs.Rows.{OnlyReads, ShowsRefused, place_rows}
 use Rattle.world_rows.specs.declared.rows.WorldRows.{WorldRows}
@@ -37,6 +40,14 @@ use Rattle.raw_copy.specs.Copies.{AreTexts, Copying, ReadsOnceIn, copying, state
 -- if a copy that ends so was refused, there is this cause
 abbrev pub RefusedFor : (FsEnd → Type 0) → FsEnd → Type 0
 RefusedFor refused why = EndsFor ⊤ ⊤ refused why
+
+-- if this failed with a refusal, there is this cause
+abbrev pub EndsBy : {T : Type 0} → Result T FsEnd → (FsEnd → Type 0) → Type 0
+EndsBy result refused = IfErr result (RefusedFor refused)
+
+-- if the copy failed with one
+abbrev pub CopyEndsBy : Result Copied CopyFault → (FsEnd → Type 0) → Type 0
+CopyEndsBy result refused = (why : FsEnd) → result ≡ Err (End why) → RefusedFor refused why
 
 -- ---- the last step
 

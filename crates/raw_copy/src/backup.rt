@@ -6,7 +6,7 @@ ghost use Rattle.world_desk.specs.Worlds.{IsReady, standing};
 ghost use Rattle.world_events.specs.Events.{LeadsAt};
 ghost use Rattle.world_rows.specs.Rows.{table_of};
 ghost use Rattle.raw_copy.specs.Copies.{CopiesFrom, CopiesOver, EndsByCause, IsCopyEnd, OnlyRead, PlacesAreTrees, VaultsFailed, copied_or, copying};
-ghost use Rattle.raw_copy.specs.Refusals.{FromRefused, OverRefused, RefusedFor};
+ghost use Rattle.raw_copy.specs.Refusals.{CopyEndsBy, FromRefused, OverRefused};
 
 use crate::zone::copy_zone;
 use body_stream::Vault;
@@ -62,11 +62,10 @@ fn copy_from<D: Disk, E: Disk, V: Vault, U: Vault, W: Words>(
     ensures ends { (why : _) → result ≡ Err (CopyFault.End why) →
         EndsByCause (E.state backup.old) (E.state backup.new) (V.state vault.old)
         (V.state vault.new) (U.state copies.old) (U.state copies.new) why }
-    ensures refused { (why : _) → result ≡ Err (CopyFault.End why) →
-        RefusedFor (FromRefused (LeadsAt D.state W.to_come now) E.state from.now to.now
-        (copying (table_of world.old) (V.state vault.old) name (U.state copies.old))
+    ensures refused { CopyEndsBy result (FromRefused (LeadsAt D.state W.to_come now) E.state
+        from.now to.now (copying (table_of world.old) (V.state vault.old) name (U.state copies.old))
         (standing disk.old world.old rand.old) (standing disk.new world.new rand.new)
-        backup.old backup.new) why }
+        backup.old backup.new) }
     ensures read { OnlyRead D.state W.to_come now
         (standing disk.old world.old rand.old) (standing disk.new world.new rand.new) }
 {
@@ -109,11 +108,10 @@ pub fn copy_over<D: Disk, E: Disk, V: Vault, U: Vault, W: Words>(
         VaultsFailed (V.state vault.old) (V.state vault.new)
         (U.state copies.old) (U.state copies.new) }
     ensures own { (why : _) → result ≡ Err (CopyFault.End why) → IsCopyEnd why }
-    ensures refused { (why : _) → result ≡ Err (CopyFault.End why) →
-        RefusedFor (OverRefused (LeadsAt D.state W.to_come now) E.state batch from.now to.now
-        (table_of world.old) (V.state vault.old) (U.state copies.old)
+    ensures refused { CopyEndsBy result (OverRefused (LeadsAt D.state W.to_come now) E.state batch
+        from.now to.now (table_of world.old) (V.state vault.old) (U.state copies.old)
         (standing disk.old world.old rand.old) (standing disk.new world.new rand.new)
-        backup.old backup.new) why }
+        backup.old backup.new) }
     ensures read { OnlyRead D.state W.to_come now
         (standing disk.old world.old rand.old) (standing disk.new world.new rand.new) }
 {

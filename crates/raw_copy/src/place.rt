@@ -10,7 +10,7 @@ ghost use Rattle.world_desk.specs.Worlds.{IsReady, standing};
 ghost use Rattle.world_events.specs.Events.{LeadsAt, standing_of};
 ghost use Rattle.world_rows.specs.Rows.{CanRead, IsPlace, place_rows, rows_seen, table_of};
 ghost use Rattle.raw_copy.specs.Copies.{EndsByCause, OnlyRead, copy_state, copying};
-ghost use Rattle.raw_copy.specs.Refusals.{RefusedFor, RowsRefused, SeenRefused};
+ghost use Rattle.raw_copy.specs.Refusals.{EndsBy, RefusedFor, RowsRefused, SeenRefused};
 
 use crate::into::copy_into;
 use body_stream::Vault;
@@ -112,11 +112,11 @@ pub fn copy_place<D: Disk, E: Disk, V: Vault, U: Vault, W: Words>(
         (U.state copies.new))) }
     ensures ends { IfErr result (EndsByCause (E.state backup.old) (E.state backup.new)
         (V.state vault.old) (V.state vault.new) (U.state copies.old) (U.state copies.new)) }
-    ensures refused { IfErr result (RefusedFor (RowsRefused (LeadsAt D.state W.to_come now) E.state
+    ensures refused { EndsBy result (RowsRefused (LeadsAt D.state W.to_come now) E.state
         place.now to.now
         (copying (table_of world.old) (V.state vault.old) names.old (U.state copies.old))
         (standing disk.old world.old rand.old) (standing disk.new world.new rand.new)
-        backup.old backup.new names.new)) }
+        backup.old backup.new names.new) }
     ensures read { OnlyRead D.state W.to_come now
         (standing disk.old world.old rand.old) (standing disk.new world.new rand.new) }
     ensures orders { OrdersNames (E.state backup.old) (E.state backup.new) names.old names.new }

@@ -10,7 +10,7 @@ ghost use Rattle.world_desk.specs.Worlds.{IsReady, standing};
 ghost use Rattle.world_events.specs.Events.{LeadsAt, standing_of};
 ghost use Rattle.world_rows.specs.Rows.{IsPlace, place_rows, table_of};
 ghost use Rattle.raw_copy.specs.Copies.{AreTexts, CopiesPlace, CopiesZone, EndsByCause, OnlyRead, PlacesAreTrees, StopsPlace, StopsZone, copying};
-ghost use Rattle.raw_copy.specs.Refusals.{AreNoTexts, CheckRefused, IsNoZoneRow, NotRead, PlaceRefused, RefusedFor, ZoneRefused, end_of_path};
+ghost use Rattle.raw_copy.specs.Refusals.{AreNoTexts, CheckRefused, EndsBy, IsNoZoneRow, NotRead, PlaceRefused, ZoneRefused, end_of_path};
 
 use crate::place::copy_place;
 use body_stream::Vault;
@@ -172,11 +172,11 @@ fn copy_named<D: Disk, E: Disk, V: Vault, U: Vault, W: Words>(
         (copying (table_of world.new) (V.state vault.new) names.new (U.state copies.new))) }
     ensures ends { IfErr result (EndsByCause (E.state backup.old) (E.state backup.new)
         (V.state vault.old) (V.state vault.new) (U.state copies.old) (U.state copies.new)) }
-    ensures refused { IfErr result (RefusedFor (PlaceRefused (LeadsAt D.state W.to_come now) E.state
+    ensures refused { EndsBy result (PlaceRefused (LeadsAt D.state W.to_come now) E.state
         place.now path.now
         (copying (table_of world.old) (V.state vault.old) names.old (U.state copies.old))
         (standing disk.old world.old rand.old) (standing disk.new world.new rand.new)
-        backup.old backup.new names.new)) }
+        backup.old backup.new names.new) }
     ensures read { OnlyRead D.state W.to_come now
         (standing disk.old world.old rand.old) (standing disk.new world.new rand.new) }
     ensures orders { OrdersNames (E.state backup.old) (E.state backup.new) names.old names.new }
@@ -225,11 +225,11 @@ pub fn copy_zone<D: Disk, E: Disk, V: Vault, U: Vault, W: Words>(
         (copying (table_of world.new) (V.state vault.new) names.new (U.state copies.new))) }
     ensures ends { IfErr result (EndsByCause (E.state backup.old) (E.state backup.new)
         (V.state vault.old) (V.state vault.new) (U.state copies.old) (U.state copies.new)) }
-    ensures refused { IfErr result (RefusedFor (ZoneRefused (LeadsAt D.state W.to_come now) E.state
+    ensures refused { EndsBy result (ZoneRefused (LeadsAt D.state W.to_come now) E.state
         from.now to.now
         (copying (table_of world.old) (V.state vault.old) names.old (U.state copies.old))
         (standing disk.old world.old rand.old) (standing disk.new world.new rand.new)
-        backup.old backup.new names.new)) }
+        backup.old backup.new names.new) }
     ensures read { OnlyRead D.state W.to_come now
         (standing disk.old world.old rand.old) (standing disk.new world.new rand.new) }
     ensures orders { OrdersNames (E.state backup.old) (E.state backup.new) names.old names.new }
