@@ -1,5 +1,5 @@
--- Why a copy ends with its exit status.
-use Rattle.std.specs.Prelude.{◌≡◌, ◌≢◌, ◌⊎◌, ℕ, ⊤, List, Option, Result, Ok, Err, IsErrOf}
+-- Why a copy, or a read of one, ends with its exit status.
+use Rattle.std.specs.Prelude.{◌≡◌, ◌≢◌, ◌⊎◌, ℕ, ⊤, List, [], Option, Result, Ok, Err, IsErrOf}
 use Rattle.hk_base.specs.Disk.{DiskState}
 use Rattle.hk_base.specs.Faults.{Rose}
 use Rattle.hk_base.specs.declared.disk.Disk as disks
@@ -21,10 +21,12 @@ use Rattle.raw_copy.specs.declared.backup.CopyFault.TheVariants.{End}
 use Rattle.raw_copy.specs.Copies.{VaultsFailed, not_started}
 use Rattle.clap_lines.specs.declared.told.OrderFault.{OrderFault}
 use Rattle.copy_command_line.specs.declared.order.CopyOrder.{CopyOrder}
-use Rattle.copy_command_line.specs.declared.order.CopyOrder.TheVariants.{Copy}
+use Rattle.copy_command_line.specs.declared.order.CopyOrder.TheVariants.{Copy, Read}
+use Rattle.copy_reads.specs.Commands.{ReadsOpened}
 use Rattle.copy_runs.specs.Commands.{CopiesOnDisks}
 use Rattle.copy_runs.specs.Runs.{Clusters}
 use Rattle.copy_command.specs.Files.{LacksMemory}
+use Rattle.data_stream.specs.Runs.{Adds, Worked}
 use Rattle.data_stream.specs.Statuses.{IsRefusal, Reason, status_by}
 use Rattle.data_stream.specs.Statuses.{BadProperties, BadWords, Damaged, Done, NoMemory, ReadFailed, Refused, Spent, StoreFailed, TooLong, VaultFailed, WriteFailed}
 
@@ -58,30 +60,43 @@ pub record EndsRefused {E : Type 0} (s : Around E) (from to : List ℕ) (written
   pub ended_is : copy.ended ≡ Err (End why)
   pub refusal : IsRefusal why
 
--- A reason is good. Of a lack of memory nothing is said, and the words of a copy have no mistake.
-abbrev pub IsGoodFor : {E : Type 0} → Around E → (from to : List ℕ) (written now : Option (List ℕ)) → ℕ → Reason → Type 0
-IsGoodFor s from to written now status Done = Unit {0}
-IsGoodFor s from to written now status BadWords = ⊥
-IsGoodFor s from to written now status BadProperties = (fault : PropFault) × (fault ≢ prop.NoMemory) × HasPropsFault s.acls (TextFault fault)
-IsGoodFor s from to written now status Damaged =
-    ((file at : ℕ) × OpensBoth s.disk s.disk' (FailsAt file (start.Damaged at))) ⊎ ((at : ℕ) × OpensNames (s.backup_of s.backup) (s.backup_of s.backup') (IsErrOf (not_started (start.Damaged at))))
-IsGoodFor s from to written now status StoreFailed = s.disk_failed
-IsGoodFor s from to written now status NoMemory = Unit {0}
-IsGoodFor s from to written now status ReadFailed = s.properties_failed
-IsGoodFor s from to written now status WriteFailed = s.output_failed
-IsGoodFor s from to written now status Spent =
-    ((file : ℕ) × OpensBoth s.disk s.disk' (FailsAt file start.Spent)) ⊎ OpensNames (s.backup_of s.backup) (s.backup_of s.backup') (IsErrOf (not_started start.Spent))
-IsGoodFor s from to written now status Refused = EndsRefused s from to written now status
-IsGoodFor s from to written now status VaultFailed = s.vault_failed
-IsGoodFor s from to written now status TooLong = ⊥
+-- Under properties that were read, all logs were opened, and the read ended with a refusal. What is known of the read says by what.
+pub record ReadRefused {E : Type 0} (s : Around E) (user path : List ℕ) (from count : ℕ) (written now : Option (List ℕ)) (status : ℕ) : Type 0 where
+  pub props : Props
+  pub read : ReadsProperties s.acls s.acls' props
+  pub worked : Worked props s.disk s.disk' s.words s.words'
+  pub range : ReadsOpened Adds props.sizes.batch user path from count (s.backup_of s.backup) (s.backup_of s.backup') [] worked.history s.copies s.copies' written now status
+  pub refusal : IsRefusal range.how
 
-abbrev pub HasReasonFor : {E : Type 0} → Around E → (from to : List ℕ) (written now : Option (List ℕ)) → ℕ → Type 0
-HasReasonFor s from to written now status = (reason : Reason) × (status ≡ status_by reason) × IsGoodFor s from to written now status reason
+-- A reason is good; `refused` says that there was a refusal. Of a lack of memory nothing is said, and the words have no mistake.
+abbrev pub IsGoodFor : {E : Type 0} → Around E → (refused : Type 0) → Reason → Type 0
+IsGoodFor s refused Done = Unit {0}
+IsGoodFor s refused BadWords = ⊥
+IsGoodFor s refused BadProperties = (fault : PropFault) × (fault ≢ prop.NoMemory) × HasPropsFault s.acls (TextFault fault)
+IsGoodFor s refused Damaged =
+    ((file at : ℕ) × OpensBoth s.disk s.disk' (FailsAt file (start.Damaged at))) ⊎ ((at : ℕ) × OpensNames (s.backup_of s.backup) (s.backup_of s.backup') (IsErrOf (not_started (start.Damaged at))))
+IsGoodFor s refused StoreFailed = s.disk_failed
+IsGoodFor s refused NoMemory = Unit {0}
+IsGoodFor s refused ReadFailed = s.properties_failed
+IsGoodFor s refused WriteFailed = s.output_failed
+IsGoodFor s refused Spent =
+    ((file : ℕ) × OpensBoth s.disk s.disk' (FailsAt file start.Spent)) ⊎ OpensNames (s.backup_of s.backup) (s.backup_of s.backup') (IsErrOf (not_started start.Spent))
+IsGoodFor s refused Refused = refused
+IsGoodFor s refused VaultFailed = s.vault_failed
+IsGoodFor s refused TooLong = ⊥
+
+abbrev pub HasReasonFor : {E : Type 0} → Around E → (refused : Type 0) → ℕ → Type 0
+HasReasonFor s refused status = (reason : Reason) × (status ≡ status_by reason) × IsGoodFor s refused reason
 
 -- if the order is a copy, this holds of its texts
 abbrev pub OfCopy : Result CopyOrder OrderFault → (List ℕ → List ℕ → Type 0) → Type 0
 OfCopy (Ok (Copy source target)) Holds = Holds source target
 OfCopy _ Holds = ⊤
+
+-- if it is a read, this holds of its user, its path and its range
+abbrev pub OfRead : Result CopyOrder OrderFault → (List ℕ → List ℕ → ℕ → ℕ → Type 0) → Type 0
+OfRead (Ok (Read user path from count)) Holds = Holds user path from count
+OfRead _ Holds = ⊤
 
 module _ {D V E U K W C A : Type 0} (of_disk : disks.Ghosts D) (of_vault : vaults.Ghosts V) (of_backup : disks.Ghosts E) (of_copies : vaults.Ghosts U) (of_out : sinks.Ghosts K) (of_rand : random.Ghosts W) (of_acls : sources.Ghosts A)
     (old new : Clusters D V E U K W C) (acls acls' : A) where
@@ -108,7 +123,7 @@ module _ {D V E U K W C A : Type 0} (of_disk : disks.Ghosts D) (of_vault : vault
 
   -- the status of a copy has a good reason
   abbrev pub CopyHasReason : List ℕ → List ℕ → ℕ → Type 0
-  CopyHasReason source target status = HasReasonFor around source target (of_out.written old.out) (of_out.written new.out) status
+  CopyHasReason source target status = HasReasonFor around (EndsRefused around source target (of_out.written old.out) (of_out.written new.out) status) status
 
   -- that of an order has one if it is a copy
   abbrev pub OrderHasReason : Result CopyOrder OrderFault → ℕ → Type 0
@@ -117,3 +132,15 @@ module _ {D V E U K W C A : Type 0} (of_disk : disks.Ghosts D) (of_vault : vault
   -- or there is no memory to read the words
   abbrev pub ReasonByWords : List ℕ → List ℕ → ℕ → Type 0
   ReasonByWords source target status = CopyHasReason source target status ⊎ LacksMemory of_out old new acls acls' status
+
+  -- the status of a read has a good reason
+  abbrev pub ReadHasReason : List ℕ → List ℕ → ℕ → ℕ → ℕ → Type 0
+  ReadHasReason user path from count status = HasReasonFor around (ReadRefused around user path from count (of_out.written old.out) (of_out.written new.out) status) status
+
+  -- that of an order has one if it is a read
+  abbrev pub OrderReadHasReason : Result CopyOrder OrderFault → ℕ → Type 0
+  OrderReadHasReason order status = OfRead order (λ user path from count. ReadHasReason user path from count status)
+
+  -- or there is no memory to read the words
+  abbrev pub ReadReasonByWords : List ℕ → List ℕ → ℕ → ℕ → ℕ → Type 0
+  ReadReasonByWords user path from count status = ReadHasReason user path from count status ⊎ LacksMemory of_out old new acls acls' status

@@ -8,7 +8,7 @@ ghost use Rattle.raw_copy.specs.Copies.{VaultsFailed};
 ghost use Rattle.copy_runs.specs.Runs.{clusters};
 ghost use Rattle.copy_command.specs.Orders.{ForCopy, ForRead};
 ghost use Rattle.copy_command.specs.Files.{CarriesOut, CopiesByWords, CopyKeepsByWords, Keeps, ReadKeepsByWords, ReadsByWords, RefusesWords, ShowsOwnText};
-ghost use Rattle.copy_command.specs.Reasons.{OrderHasReason, ReasonByWords};
+ghost use Rattle.copy_command.specs.Reasons.{OrderHasReason, OrderReadHasReason, ReadReasonByWords, ReasonByWords};
 
 use body_stream::Vault;
 use command_io::show;
@@ -50,6 +50,10 @@ fn obey<A: Source, K: Sink, D: Disk, E: Disk, V: Vault, U: Vault, W: Words, C: C
         (clusters disk.new vault.new backup.new copies.new out.new rand.new clock.new)
         acls.old acls.new order result }
     ensures reason { OrderHasReason D.Disk V.Vault E.Disk U.Vault K.Sink W.Words A.Source
+        (clusters disk.old vault.old backup.old copies.old out.old rand.old clock.old)
+        (clusters disk.new vault.new backup.new copies.new out.new rand.new clock.new)
+        acls.old acls.new order result }
+    ensures read_reason { OrderReadHasReason D.Disk V.Vault E.Disk U.Vault K.Sink W.Words A.Source
         (clusters disk.old vault.old backup.old copies.old out.old rand.old clock.old)
         (clusters disk.new vault.new backup.new copies.new out.new rand.new clock.new)
         acls.old acls.new order result }
@@ -98,8 +102,9 @@ fn obey<A: Source, K: Sink, D: Disk, E: Disk, V: Vault, U: Vault, W: Words, C: C
 /// and the properties of `acls`. The second is the edit log on file 1 of `backup` and the bodies of
 /// `copies`.
 ///
-/// The clause `reason` says why a copy ends with its status, and the clauses `copy_kept` and `read_kept`
-/// what is kept: the promise of `hkms` on files holds in every world of the run and after every crash.
+/// The clauses `reason` and `read_reason` say why a copy and a read end with their status, and the clauses
+/// `copy_kept` and `read_kept` what is kept: the promise of `hkms` on files holds in every world of the run
+/// and after every crash.
 ///
 /// Help and version are printed with status 0, whatever other words there are. A mistake in the words
 /// gives status 2 and the line `usage refused`. If allocation fails while the words are read, the status
@@ -161,6 +166,11 @@ pub fn hkcopy<A: Source, K: Sink, D: Disk, E: Disk, V: Vault, U: Vault, W: Words
         acls.old acls.new) result }
     ensures read_kept { ForRead words.now
         (ReadKeepsByWords D.Disk V.Vault E.Disk U.Vault K.Sink W.Words A.Source
+        (clusters disk.old vault.old backup.old copies.old out.old rand.old clock.old)
+        (clusters disk.new vault.new backup.new copies.new out.new rand.new clock.new)
+        acls.old acls.new) result }
+    ensures read_reason { ForRead words.now
+        (ReadReasonByWords D.Disk V.Vault E.Disk U.Vault K.Sink W.Words A.Source
         (clusters disk.old vault.old backup.old copies.old out.old rand.old clock.old)
         (clusters disk.new vault.new backup.new copies.new out.new rand.new clock.new)
         acls.old acls.new) result }

@@ -1,7 +1,7 @@
 use Rattle.std.proofs.Common.{⊎_elim}
 use Rattle.copy_command_line.specs.declared.order.CopyOrder.TheVariants.{Copy, Read}
 use Rattle.copy_command.proofs.OrderLemmas.{helps_so, lacks_so, named_so, obeyed, versions_so}
-use Rattle.copy_command.proofs.ReasonLemmas.{copy_so}
+use Rattle.copy_command.proofs.ReasonLemmas.{copy_so, read_so}
 use Rattle.copy_command.proofs.command.hkcopy.Goals as goal
 
 pub returns-clause-help : goal.returns-clause-help
@@ -33,3 +33,9 @@ returns-clause-reason g c source target names =
     copy_so _ _ c.read_order-order.result source target
     (named_so c.read_order-order.result c.args.words.now c.read_order-order.ensures.ok c.read_order-order.ensures.usage (Copy source target) names)
     c.obey.ensures.reason (λ none. lacks_so _ _ _ _ _ c.obey.result c.read_order-order.result none c.obey.ensures.obeys)
+
+pub returns-clause-read_reason : goal.returns-clause-read_reason
+returns-clause-read_reason g c user path from count names =
+    read_so _ _ c.read_order-order.result user path from count
+    (named_so c.read_order-order.result c.args.words.now c.read_order-order.ensures.ok c.read_order-order.ensures.usage (Read user path from count) names)
+    c.obey.ensures.read_reason (λ none. lacks_so _ _ _ _ _ c.obey.result c.read_order-order.result none c.obey.ensures.obeys)
