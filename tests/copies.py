@@ -198,7 +198,8 @@ def copy_zones(put):
     snapshot = copy_whole("/z/.snapshot/s", "/w/old/snapshot", "/z", "s")
     need(live != snapshot, "the snapshot is as the live zone")
     wanted = keys_of(".", live)
-    need(None not in wanted.values() and keys_of(".", rows_at(table_in("backup"), path_of("/w/live"))) == wanted, "a copy opens to another key")
+    copied = rows_at(table_in("backup"), path_of("/w/live"))
+    need(None not in wanted.values() and keys_of(".", copied) == wanted, "a copy opens to another key")
     copy_whole("/z/d07/inner", "/inner", "/z/d07/inner")
     for path, bytes_put in put.items():
         same_range("/w/live" + path[2:], bytes_put, 0, LONGEST)
@@ -210,8 +211,9 @@ def copy_zones(put):
         for start, count in [(0, LONGEST), (3, 5), (65530, 11), (len(bytes_put), 4)]:
             same_range("/w/live" + path[2:], bytes_put, start, count)
             same_range("/w/old/snapshot" + path[2:], bytes_put, start, count)
-    need(rows_at(table_in("backup"), path_of("/w/live")) == rows_at(table_in("backup"), path_of("/w/live")), "the copy changed")
-    need(keys_of(".", rows_at(table_in("backup"), path_of("/w/live"))) == wanted, "a copy opens to another key since its source is gone")
+    left = rows_at(table_in("backup"), path_of("/w/live"))
+    need(left == copied, "a copy changed with its source")
+    need(keys_of(".", left) == wanted, "a copy opens to another key since its source is gone")
 
 
 def open_backup():
