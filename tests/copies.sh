@@ -28,6 +28,19 @@ expect_bytes() {
     expect "$name" 0 "$wanted"
 }
 
+# the backup of docs/hkcopy.md, in a folder with a zone and a file
+fresh
+printf '%s\n' 'kms a create k 128 -' 'nn a mkdir /z' 'ask hdfs zone /z k' 'draw 1' 'finish 1' | lines >"$folder/made"
+head -c 6000 /dev/urandom >"$folder/bytes"
+(cd "$room" && "$hkfs" put alice /z/b <"$folder/bytes" >"$folder/made" 2>"$folder/errors")
+sed -n '/^## A backup in/,/^## What/p' docs/hkcopy.md | sed -n '/^```$/,/^```$/{/^```$/d;p}' |
+    sed "s#\./hk#$PWD/hk#g; s#| ssh .*#> monday.tar#" >"$folder/backup"
+[ "$(wc -l <"$folder/backup")" = 5 ] || { echo 'FAILED: the page has no five commands'; failures=$((failures + 1)); }
+output=$(cd "$room" && bash -e -o pipefail "$folder/backup" 2>"$folder/errors")
+status=$?
+expect 'the backup of the page' 0 $'1 done\n2 done\ncopied 1 1\n1 done'
+tar -tf "$room/monday.tar" | grep -q '^backup/names.log$' || { echo 'FAILED: the archive has no log'; failures=$((failures + 1)); }
+
 # in an empty folder
 fresh
 copies_do copy /.reserved/raw/z /w
