@@ -6,8 +6,8 @@ use Rattle.clap.specs.Simple.{built}
 use Rattle.clap.specs.Words.{App, fault_of, subcommand_of, Row, Text, IsAmong}
 use Rattle.clap.specs.declared.error.ErrorKind.{ErrorKind}
 use Rattle.clap.specs.declared.error.ErrorKind.TheVariants.{DisplayHelp, DisplayVersion, OutOfMemory, ValueValidation}
-use Rattle.clap_lines.specs.Orders.{Answers, HasMistake, HasOrder, IsMistake, IsShown, ShownAs, line_fault, order_at, order_fault, values_refused}
-use Rattle.clap_lines.specs.Shown.{IsSingle}
+use Rattle.clap_lines.specs.Orders.{AnswersWords, HasMistake, HasOrder, IsMistake, IsShown, ShownAs, line_fault, order_at, order_fault, values_refused}
+use Rattle.clap_lines.specs.Shown.{IsOneKind}
 use Rattle.clap_lines.specs.declared.told.OrderFault.{OrderFault}
 use Rattle.clap_lines.specs.declared.told.OrderFault.TheVariants.{Usage, NoMemory}
 use Rattle.clap_lines.proofs.EnteredLemmas.{a_value_is_refused, no_value_is_refused}
@@ -28,16 +28,16 @@ one_mistake kinds kind is no_help no_version = (
     of (inl e) = ((λ h. no_help (sym e ∙ h)), (λ v. no_version (sym e ∙ v)))
     of (inr none) = absurd none
 
-order-single : {O : Type 0} (order : Option O) → IsSingle (order_fault order)
+order-single : {O : Type 0} (order : Option O) → IsOneKind (order_fault order)
 order-single (Some order) = tt
 order-single None = tt
 
 module _ {O : Type 0} (a : App) (named : Text → List Row → Option O) where
-  values-single : (entered : Option (Text × List Row)) → IsSingle (values_refused named entered)
+  values-single : (entered : Option (Text × List Row)) → IsOneKind (values_refused named entered)
   values-single None = tt
   values-single (Some command) = order-single (named command.0 command.1)
 
-  line-single : (words : List Text) → IsPlainApp a → IsSingle (line_fault a named words)
+  line-single : (words : List Text) → IsPlainApp a → IsOneKind (line_fault a named words)
   line-single words plain =
       single-or (fault_of a words) (values_refused named (subcommand_of a words)) (fault-single a words plain.quiet) (values-single (subcommand_of a words))
 
@@ -90,11 +90,11 @@ module _ {O : Type 0} (a : App) (named : Text → List Row → Option O) where
       )
 
   module _ (IsHelp IsVersion : O → Type 0) where
-    pub order_from : (r : Result O OrderFault) (words : List Text) → fault_of a words ≡ [] → Ordered words r → IfOk r (λ order. Answers a named IsHelp IsVersion order words)
+    pub order_from : (r : Result O OrderFault) (words : List Text) → fault_of a words ≡ [] → Ordered words r → IfOk r (λ order. AnswersWords a named IsHelp IsVersion order words)
     order_from (Ok order) words e is = inl (no_value_is_refused a named words order e is, is)
     order_from (Err fault) words e is = tt
 
-    pub named_from : (r : Result O OrderFault) (words : List Text) → IfOk r (λ o. Answers a named IsHelp IsVersion o words)
+    pub named_from : (r : Result O OrderFault) (words : List Text) → IfOk r (λ o. AnswersWords a named IsHelp IsVersion o words)
         → IfErr r (λ f. f ≡ Usage → HasMistake (line_fault a named words)) → (o : O) → HasOrder a named o words → (r ≡ Ok o) ⊎ (r ≡ Err NoMemory)
     named_from (Err NoMemory) words h g o n = inr refl
     named_from (Err Usage) words h g o n = absurd (subst (IsAmong (g refl).0) n.no_fault (g refl).1)
@@ -105,7 +105,7 @@ module _ {O : Type 0} (a : App) (named : Text → List Row → Option O) where
     named_from (Ok x) words (inr (inl q)) g o n = absurd (subst (IsAmong DisplayHelp) n.no_fault q.1)
     named_from (Ok x) words (inr (inr q)) g o n = absurd (subst (IsAmong DisplayVersion) n.no_fault q.1)
 
-    pub mistake_from : (r : Result O OrderFault) (words : List Text) → IfOk r (λ o. Answers a named IsHelp IsVersion o words) → IsMistake (line_fault a named words)
+    pub mistake_from : (r : Result O OrderFault) (words : List Text) → IfOk r (λ o. AnswersWords a named IsHelp IsVersion o words) → IsMistake (line_fault a named words)
         → (r ≡ Err Usage) ⊎ (r ≡ Err NoMemory)
     mistake_from (Err NoMemory) words h m = inr refl
     mistake_from (Err Usage) words h m = inl refl
@@ -114,7 +114,7 @@ module _ {O : Type 0} (a : App) (named : Text → List Row → Option O) where
     mistake_from (Ok x) words (inr (inr q)) m = absurd ((m.1 DisplayVersion q.1).1 refl)
 
     -- help and the version are not asked for at once, nor beside a mistake
-    pub help_from : (r : Result O OrderFault) (words : List Text) → IsPlainApp a → IfOk r (λ o. Answers a named IsHelp IsVersion o words)
+    pub help_from : (r : Result O OrderFault) (words : List Text) → IsPlainApp a → IfOk r (λ o. AnswersWords a named IsHelp IsVersion o words)
         → IfErr r (λ f. f ≡ Usage → HasMistake (line_fault a named words)) → IsAmong DisplayHelp (line_fault a named words) → ShownAs IsHelp r
     help_from (Err NoMemory) words plain h g x = refl
     help_from (Err Usage) words plain h g x = let m = g refl in absurd (m.2 (shown_alone words m.0 DisplayHelp plain m.1 x (inl refl)))
@@ -122,7 +122,7 @@ module _ {O : Type 0} (a : App) (named : Text → List Row → Option O) where
     help_from (Ok o) words plain (inr (inl q)) g x = q.0
     help_from (Ok o) words plain (inr (inr q)) g x = let bad : DisplayVersion ≡ DisplayHelp = shown_alone words DisplayVersion DisplayHelp plain q.1 x (inl refl) in cc
 
-    pub version_from : (r : Result O OrderFault) (words : List Text) → IsPlainApp a → IfOk r (λ o. Answers a named IsHelp IsVersion o words)
+    pub version_from : (r : Result O OrderFault) (words : List Text) → IsPlainApp a → IfOk r (λ o. AnswersWords a named IsHelp IsVersion o words)
         → IfErr r (λ f. f ≡ Usage → HasMistake (line_fault a named words)) → IsAmong DisplayVersion (line_fault a named words) → ShownAs IsVersion r
     version_from (Err NoMemory) words plain h g x = refl
     version_from (Err Usage) words plain h g x = let m = g refl in absurd (m.3 (shown_alone words m.0 DisplayVersion plain m.1 x (inr refl)))

@@ -66,8 +66,8 @@ pub record HasOrder {O : Type 0} (app : App) (named : Text → List Row → Opti
 
 -- The order is what the words say: they have no fault and enter the command of the order, or they ask for help or for the version.
 -- `IsHelp` and `IsVersion` say that an order shows such a text.
-abbrev pub Answers : {O : Type 0} → App → (Text → List Row → Option O) → (O → Type 0) → (O → Type 0) → O → List Text → Type 0
-Answers app named IsHelp IsVersion order words =
+abbrev pub AnswersWords : {O : Type 0} → App → (Text → List Row → Option O) → (O → Type 0) → (O → Type 0) → O → List Text → Type 0
+AnswersWords app named IsHelp IsVersion order words =
     ((line_fault app named words ≡ []) × (order_at named (subcommand_of app words) ≡ Some order))
     ⊎ ((IsHelp order × IsAmong DisplayHelp (line_fault app named words))
     ⊎ (IsVersion order × IsAmong DisplayVersion (line_fault app named words)))

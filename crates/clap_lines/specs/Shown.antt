@@ -12,11 +12,11 @@ NotShown [] = ⊤
 NotShown (k ∷ ks) = (k ≢ DisplayHelp) × (k ≢ DisplayVersion) × NotShown ks
 
 -- at most one kind, or none of them is help or version
-abbrev pub IsSingle : Kinds → Type 0
-IsSingle [] = ⊤
-IsSingle (k ∷ []) = ⊤
-IsSingle (k ∷ j ∷ ks) = NotShown (k ∷ j ∷ ks)
+abbrev pub IsOneKind : Kinds → Type 0
+IsOneKind [] = ⊤
+IsOneKind (k ∷ []) = ⊤
+IsOneKind (k ∷ j ∷ ks) = NotShown (k ∷ j ∷ ks)
 
 -- clap finds help or version in no words beside another fault, if there is no command `help`
 abbrev pub IsToldAlone : Type 0
-IsToldAlone = (a : App) (words : List Text) → (built a).top.disable_help_subcommand ≡ true → IsSingle (fault_of a words)
+IsToldAlone = (a : App) (words : List Text) → (built a).top.disable_help_subcommand ≡ true → IsOneKind (fault_of a words)

@@ -2,6 +2,7 @@
 use Rattle.std.specs.Prelude.{codes, true}
 use Rattle.clap.specs.Words.{App, new_app, with_rule, with_subcommand}
 use Rattle.clap_lines.specs.Told.{word}
+use Rattle.read_words.specs.Line.{with_read}
 
 -- the program's own name is not among the words, a command is required, and there is no command `help`
 abbrev pub top : App
@@ -17,13 +18,6 @@ copy = with_rule (with_rule (new_app (codes "copy")) (word (codes "source"))) (w
 -- one more command, which is `copy`
 abbrev pub with_copy : App → App
 with_copy program = with_subcommand program copy.top
-
-abbrev pub read : App
-read = with_rule (with_rule (with_rule (with_rule (new_app (codes "read")) (word (codes "user"))) (word (codes "path"))) (word (codes "from"))) (word (codes "count"))
-
--- one more command, which is `read`
-abbrev pub with_read : App → App
-with_read program = with_subcommand program read.top
 
 -- the program with its commands
 abbrev pub hkcopy : App

@@ -1,13 +1,14 @@
 -- The orders that the words of a command line give.
-use Rattle.std.specs.Prelude.{◌≡◌, ◌<◌, ◌^◌, ℕ, List, [], ◌∷◌, codes, Option, Some, None, if◌then◌else◌}
-use Rattle.std.specs.Fmt.{decimal}
+use Rattle.std.specs.Prelude.{◌≡◌, List, [], ◌∷◌, codes, Option, Some, None, if◌then◌else◌, option_map}
 use Rattle.std.specs.Str.{bytes_eq}
 use Rattle.clap.specs.Words.{Kinds, IsAmong, Row, Text, first_of}
 use Rattle.clap.specs.declared.error.ErrorKind.TheVariants.{DisplayHelp, DisplayVersion}
-use Rattle.clap_lines.specs.Orders.{HasOrder, IsPlain, IsRightUser, number_in, user_in}
+use Rattle.clap_lines.specs.Orders.{HasOrder, IsPlain}
 use Rattle.clap_lines.specs.Orders as lines
 use Rattle.clap_lines.specs.declared.told.Told.{Told}
 use Rattle.clap_lines.specs.declared.told.Told.TheVariants as told
+use Rattle.read_words.specs.Values.{IsRightRead, SpellsRead, read_values_in}
+use Rattle.read_words.specs.declared.values.ReadValues.{ReadValues}
 use Rattle.copy_command_line.specs.Line as line
 use Rattle.copy_command_line.specs.declared.order.CopyOrder.{CopyOrder}
 use Rattle.copy_command_line.specs.declared.order.CopyOrder.TheVariants.{Copy, Read, Help, Version}
@@ -19,30 +20,17 @@ source_in rows = first_of (codes "source") rows
 abbrev pub target_in : List Row → Option Text
 target_in rows = first_of (codes "target") rows
 
-abbrev pub path_in : List Row → Option Text
-path_in rows = first_of (codes "path") rows
-
-abbrev pub from_in : List Row → Option ℕ
-from_in rows = number_in (codes "from") rows
-
-abbrev pub count_in : List Row → Option ℕ
-count_in rows = number_in (codes "count") rows
-
 abbrev pub copy_order : Option Text → Option Text → Option CopyOrder
 copy_order (Some source) (Some target) = Some (Copy source target)
 copy_order (Some source) None = None
 copy_order None target = None
 
-abbrev pub read_order : Option Text → Option Text → Option ℕ → Option ℕ → Option CopyOrder
-read_order (Some user) (Some path) (Some from) (Some count) = Some (Read user path from count)
-read_order (Some user) (Some path) (Some from) None = None
-read_order (Some user) (Some path) None count = None
-read_order (Some user) None from count = None
-read_order None path from count = None
+-- the order to read a range with these values
+abbrev pub read_order : ReadValues → CopyOrder
+read_order values = Read values.user values.path values.from values.count
 
--- the order to read a range that these values make
 abbrev pub read_order_in : List Row → Option CopyOrder
-read_order_in rows = read_order (user_in rows) (path_in rows) (from_in rows) (count_in rows)
+read_order_in rows = option_map read_order (read_values_in rows)
 
 -- the order of a command with this name and these values
 abbrev pub order_named : Text → List Row → Option CopyOrder
@@ -73,19 +61,18 @@ IsVersion (Version text) = Unit {0}
 IsVersion _ = ⊥
 
 -- the order is what the words say
-abbrev pub Answers : CopyOrder → List Text → Type 0
-Answers order words = lines.Answers line.hkcopy order_named IsHelp IsVersion order words
+abbrev pub IsOrderOf : CopyOrder → List Text → Type 0
+IsOrderOf order words = lines.AnswersWords line.hkcopy order_named IsHelp IsVersion order words
 
 -- the user and the numbers of an order are in their bounds
 abbrev pub HasRightValues : CopyOrder → Type 0
-HasRightValues (Read user path from count) = IsRightUser user × (from < 2 ^ 63) × (count < 2 ^ 63)
+HasRightValues (Read user path from count) = IsRightRead user from count
 HasRightValues _ = Unit {0}
 
 -- the words that name a command with its values, and nothing else
 abbrev pub IsSpelled : CopyOrder → List Text → Type 0
 IsSpelled (Copy source target) words = IsPlain source × IsPlain target × (words ≡ codes "copy" ∷ source ∷ target ∷ [])
-IsSpelled (Read user path from count) words =
-    HasRightValues (Read user path from count) × IsPlain user × IsPlain path × (words ≡ codes "read" ∷ user ∷ path ∷ decimal from ∷ decimal count ∷ [])
+IsSpelled (Read user path from count) words = SpellsRead user path from count words
 IsSpelled (Help text) words = ⊥
 IsSpelled (Version text) words = ⊥
 

@@ -6,6 +6,7 @@ ghost use Rattle.copy_command_line.specs.Line as line;
 use crate::help;
 use clap::Command;
 use clap_lines::word;
+use read_words::with_read;
 use std::alloc::{AllocError, Global};
 
 /// Declares the program without its commands. A command is required, and `help` is not a command.
@@ -41,32 +42,11 @@ fn with_copy<'a>(alloc: Global, program: Command<'a>) -> Result<Command<'a>, All
     program.subcommand(copy)
 }
 
-/// Declares `read` with its words.
-fn read<'a>(alloc: Global) -> Result<Command<'a>, AllocError>
-    ensures { IfOk result (λ r. app_of r ≡ line.read) }
-{
-    let plain = Command::new(alloc, "read")
-        .about(help::READ)
-        .after_help(help::READ_NOTES);
-    let one = plain.arg(word(alloc, "user", "USER", help::USER))?;
-    let two = one.arg(word(alloc, "path", "PATH", help::PATH))?;
-    let three = two.arg(word(alloc, "from", "FROM", help::FROM))?;
-    three.arg(word(alloc, "count", "COUNT", help::COUNT))
-}
-
-/// Adds the command `read`.
-fn with_read<'a>(alloc: Global, program: Command<'a>) -> Result<Command<'a>, AllocError>
-    ensures { IfOk result (λ r. app_of r ≡ line.with_read (app_of program.entry)) }
-{
-    let read = read(alloc)?;
-    program.subcommand(read)
-}
-
 /// Declares the program with its commands.
 pub(crate) fn hkcopy<'a>(alloc: Global) -> Result<Command<'a>, AllocError>
     ensures { IfOk result (λ r. app_of r ≡ line.hkcopy) }
 {
     let program = top(alloc)?;
     let half = with_copy(alloc, program)?;
-    with_read(alloc, half)
+    with_read(alloc, half, help::READ, help::READ_NOTES, help::PATH)
 }

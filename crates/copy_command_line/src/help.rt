@@ -86,17 +86,8 @@ stays at TO, each file with its whole body. The last line says why:
 /// The purpose of `read`, in one line.
 pub(crate) const READ: &str = "Writes a range of the body of a file of the second cluster";
 
-/// What the first word of `read` gives.
-pub(crate) const USER: &str = "Who makes the calls, of 1 to 255 bytes";
-
 /// What the second word of `read` gives.
 pub(crate) const PATH: &str = "Path of the file in the second cluster, such as /w/a";
-
-/// What the third word of `read` gives.
-pub(crate) const FROM: &str = "First byte of the range, from 0 on";
-
-/// What the last word of `read` gives.
-pub(crate) const COUNT: &str = "Number of bytes";
 
 /// The output and the exit statuses of `read`.
 pub(crate) const READ_NOTES: &str =

@@ -79,12 +79,6 @@ pub(crate) const READ: &str = "Writes a range of the body of a file";
 /// What the second word of `read` gives.
 pub(crate) const PATH: &str = "Path of the file, such as /data/a";
 
-/// What the third word of `read` gives.
-pub(crate) const FROM: &str = "First byte of the range, from 0 on";
-
-/// What the last word of `read` gives.
-pub(crate) const COUNT: &str = "Number of bytes";
-
 /// The output and the exit statuses of `read`.
 pub(crate) const READ_NOTES: &str =
     "Standard output gets the bytes and nothing else. A range that goes past the end of

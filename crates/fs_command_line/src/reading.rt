@@ -2,17 +2,17 @@
 ghost use Rattle.std.specs.Prelude.{◌≡◌, ◌≢◌, ◌⊎◌, IfErr, IfOk, MatchResult, Ok, Err, None, Some, codes, map};
 ghost use Rattle.clap.specs.Words.{first_of, found_of, kind_of, rows_of, subcommand_rows_of};
 ghost use Rattle.clap_lines.specs.Orders.{HasMistake, IsMistake, IsShown, ShownAs, order_at, user_in};
-ghost use Rattle.fs_command_line.specs.Orders.{Answers, FindsHelp, FindsVersion, HasRightValues, IsHelp, IsSpelled, IsVersion, line_fault, order_named, path_in, put_order, read_order_in};
+ghost use Rattle.read_words.specs.Values.{path_in};
+ghost use Rattle.fs_command_line.specs.Orders.{FindsHelp, FindsVersion, HasRightValues, IsHelp, IsOrderOf, IsSpelled, IsVersion, line_fault, order_named, put_order, read_order_in};
 ghost use Rattle.fs_command_line.specs.declared.order.FsOrder.{FsOrder as AnOrder};
 
 use crate::commands::hkfs;
 use crate::order::FsOrder;
 use clap::error::ErrorKind;
 use clap::{ArgMatches, Error};
-use clap_lines::{
-    OrderFault, answer_without_command, copy_word, number_in, texts_of, user_in, word_in,
-};
+use clap_lines::{OrderFault, answer_without_command, copy_word, texts_of, user_in, word_in};
 use hk_base::Text;
+use read_words::{ReadValues, read_values_in};
 use std::alloc::Global;
 use std::convert::AsStr;
 
@@ -44,20 +44,12 @@ fn read_order_in(alloc: Global, values: &ArgMatches) -> Result<FsOrder, OrderFau
         (λ fault. fault ≡ OrderFault.Usage →
         read_order_in (rows_of (found_of values.now)) ≡ None) }
 {
-    let Some(user) = user_in(values) else {
-        return Err(OrderFault::Usage);
-    };
-    let Some(path) = word_in(values, "path") else {
-        return Err(OrderFault::Usage);
-    };
-    let Some(from) = number_in(values, "from") else {
-        return Err(OrderFault::Usage);
-    };
-    let Some(count) = number_in(values, "count") else {
-        return Err(OrderFault::Usage);
-    };
-    let user = copy_word(alloc, user)?;
-    let path = copy_word(alloc, path)?;
+    let ReadValues {
+        user,
+        path,
+        from,
+        count,
+    } = read_values_in(alloc, values)?;
     Ok(FsOrder::Read {
         user,
         path,
@@ -109,7 +101,7 @@ fn order_without_command(alloc: Global, error: &Error) -> Result<FsOrder, OrderF
 
 /// Does what `read_order` does, for words of any type.
 fn read<'a, S: AsStr>(alloc: Global, words: &'a [S]) -> Result<FsOrder, OrderFault>
-    ensures ok { IfOk result (λ order. Answers order (map S.text words.entry.now)) }
+    ensures ok { IfOk result (λ order. IsOrderOf order (map S.text words.entry.now)) }
     ensures usage { IfErr result
         (λ fault. fault ≡ OrderFault.Usage → HasMistake (line_fault (map S.text words.entry.now))) }
 {
@@ -128,7 +120,7 @@ fn read<'a, S: AsStr>(alloc: Global, words: &'a [S]) -> Result<FsOrder, OrderFau
 /// `OrderFault::Usage`. The first fault that `clap` finds decides. `OrderFault::NoMemory` may come in place of
 /// any other answer.
 pub fn read_order(alloc: Global, words: &[Text]) -> Result<FsOrder, OrderFault>
-    ensures ok { IfOk result (λ order. Answers order words.now) }
+    ensures ok { IfOk result (λ order. IsOrderOf order words.now) }
     ensures usage { IfErr result
         (λ fault. fault ≡ OrderFault.Usage → IsMistake (line_fault words.now)) }
     ensures mistake { IsMistake (line_fault words.now) →

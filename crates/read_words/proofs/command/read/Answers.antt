@@ -3,7 +3,7 @@ use Rattle.std.proofs.lemmas.Result.{IfOk-weaker}
 use Rattle.clap.specs.Simple.{app_of_fields}
 use Rattle.clap.specs.Words.{app_of, new_app, with_rule}
 use Rattle.clap_lines.specs.Told.{word}
-use Rattle.fs_command_line.proofs.commands.read.Goals as goal
+use Rattle.read_words.proofs.command.read.Goals as goal
 
 pub returns : goal.returns
 returns c =

@@ -2,7 +2,7 @@ use Rattle.std.proofs.Common.{ap, ◌∙◌}
 use Rattle.std.proofs.lemmas.Result.{IfOk-weaker}
 use Rattle.clap.specs.Words.{App, app_of, with_subcommand}
 use Rattle.clap_lines.proofs.PlainLemmas.{third_is_false}
-use Rattle.fs_command_line.proofs.commands.with_read.Goals as goal
+use Rattle.read_words.proofs.command.with_read.Goals as goal
 
 pub returns : goal.returns
 returns c =
