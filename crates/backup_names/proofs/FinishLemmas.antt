@@ -31,7 +31,7 @@ use Rattle.name_core.specs.Service.{FinishServes, FinishServesAt, FinishServesOp
 use Rattle.name_core.specs.State.{NameService, NameState, RunningNames, names_of, service_of}
 use Rattle.name_core.proofs.AllowedLemmas.{may-make-file, may-make-zone}
 use Rattle.name_core.proofs.AskLemmas.{open-id}
-use Rattle.backup_names.specs.Changes.{Changes, FinishesFile, FinishesZone}
+use Rattle.backup_names.specs.Changes.{ChangesTable, FinishesFile, FinishesZone}
 use Rattle.backup_names.specs.Ends.{IsFaultOfKeys, ShowsRefusal, finish_end}
 use Rattle.backup_names.specs.Orders.{IsSettled}
 use Rattle.backup_names.proofs.MakeLemmas.{AllNoFaults, cause_is, same_error, settled_same, waits_not}
@@ -66,7 +66,7 @@ Makes r id given change =
 
 -- The finish ended, and with a store fault only if a disk had a fault.
 pub record Finished (r r' : RunningNames) (given : KeyAnswer) (change : NameTable → NameTable → Type 0) (fault : Type 0) (result : Result (Unit {0}) NameRefusal) : Type 0 where
-  pub changes : Changes (finish_end result) change r r'
+  pub changes : ChangesTable (finish_end result) change r r'
   pub why : finish_end result ≡ Err end.StoreFault → fault ⊎ (given ≡ answer.Refused key.StoreFault)
 
 module _ (r r' : RunningNames) (id : ℕ) (given : KeyAnswer) (change : NameTable → NameTable → Type 0) (fault : Type 0) (settled_is : IsSettled r) (makes : Makes r id given change) where

@@ -17,7 +17,7 @@ use Rattle.name_core.specs.State.{IsNames, NameService, NameState, RunningNames,
 use Rattle.name_core.specs.Calls.{NameActs, NoRoom, Plain, deed, mkdir_causes, path_causes, unless_refused}
 use Rattle.name_core.specs.Service.{NameServes, ServesUnless}
 use Rattle.name_core.proofs.RowLemmas.{id-free}
-use Rattle.backup_names.specs.Changes.{Changes, MakesDirectory}
+use Rattle.backup_names.specs.Changes.{ChangesTable, MakesDirectory}
 use Rattle.backup_names.specs.Ends.{change_end}
 use Rattle.backup_names.specs.Orders.{IsSettled}
 
@@ -57,7 +57,7 @@ same_error T a b is = cc
 
 -- The call ended, and with a store fault only if the disk had a fault.
 pub record DirectoryEnded (r r' : RunningNames) (p : List (List ℕ)) (fault : Type 0) (answer : NameReply) : Type 0 where
-  pub changes : Changes (change_end answer) (MakesDirectory p) r r'
+  pub changes : ChangesTable (change_end answer) (MakesDirectory p) r r'
   pub why : change_end answer ≡ Err end.StoreFault → fault
 
 refused_end : (r r' : RunningNames) (p : List (List ℕ)) (fault : Type 0) (why : NameRefusal) → r'.store.table ≡ r.store.table → IsNoFault why ⊎ fault → DirectoryEnded r r' p fault (reply.Refused why)

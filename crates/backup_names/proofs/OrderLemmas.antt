@@ -9,7 +9,7 @@ use Rattle.name_core.specs.State.{IsNamesystemOf, NameService, RunningNames}
 use Rattle.name_core.specs.Service.{Logs, Starts}
 use Rattle.name_core.proofs.Layers.{stands_after_ask}
 use Rattle.name_calls.specs.declared.calls.Ask.{Ask}
-use Rattle.backup_names.specs.Orders.{HoldsNames, IsLeftBy, IsSettled, OnlyAsks, OrdersNames}
+use Rattle.backup_names.specs.Orders.{HoldsNamesystem, IsLeftBy, IsSettled, OnlyAsks, OrdersNames}
 
 tells_on : (old new : DiskState) → new.tells ≡ old.tells → Tells old → Tells new
 tells_on old new same telling = subst (λ (b : Bool). IsTrue b) (sym same) telling
@@ -73,7 +73,7 @@ orders_then old mid new r s t a b = record {
     }
 
 -- the log is still that of the namesystem
-pub holds_after : (old new : DiskState) (r r' : RunningNames) → HoldsNames old r → OrdersNames old new r r' → HoldsNames new r'
+pub holds_after : (old new : DiskState) (r r' : RunningNames) → HoldsNamesystem old r → OrdersNames old new r r' → HoldsNamesystem new r'
 holds_after old new r r' holds o telling =
     let before = subst (λ (b : Bool). IsTrue b) o.run.tells telling in
     let log = holds before in
@@ -102,7 +102,7 @@ orders_of_logs old new r r' own logged settled l = record {
     go ops s c left = record { front = []; rest = logged; split = refl; more = left.more; made = made_with r.store s.used; log = sound ops s c left }
 
 -- after a start the log is that of the namesystem, and nothing is pending
-pub started_holds : (batch : ℕ) (old new : DiskState) (r : RunningNames) → (Tells new → Tells old) → Starts batch old new r → HoldsNames new r × IsSettled r
+pub started_holds : (batch : ℕ) (old new : DiskState) (r : RunningNames) → (Tells new → Tells old) → Starts batch old new r → HoldsNamesystem new r × IsSettled r
 started_holds batch old new r told s = (
   λ telling. let log = s.log (told telling) in (log.0 ++ next_opening s.found ∷ [], log.3),
   ap (λ (x : NameService). x.pending) s.opens,

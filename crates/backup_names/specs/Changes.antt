@@ -53,6 +53,6 @@ abbrev pub FinishesFile : ℕ → Option Edek → RunningNames → NameTable →
 FinishesFile id edek r old new = (path : NPath) → IsAsked (ask.Create path) r id → MakesFile id path edek old new
 
 -- A change was done, and no operation is pending; or it was not, and the table is as before.
-abbrev pub Changes : Result (Unit {0}) FsEnd → (NameTable → NameTable → Type 0) → RunningNames → RunningNames → Type 0
-Changes (Ok done) change r r' = change r.store.table r'.store.table × IsSettled r'
-Changes (Err why) change r r' = r'.store.table ≡ r.store.table
+abbrev pub ChangesTable : Result (Unit {0}) FsEnd → (NameTable → NameTable → Type 0) → RunningNames → RunningNames → Type 0
+ChangesTable (Ok done) change r r' = change r.store.table r'.store.table × IsSettled r'
+ChangesTable (Err why) change r r' = r'.store.table ≡ r.store.table

@@ -12,8 +12,8 @@ use Rattle.name_core.specs.Asks.{Asks}
 use Rattle.name_core.specs.State.{RunningNames, IsNamesystemOf, names_of}
 
 -- the log on the disk is that of the namesystem
-abbrev pub HoldsNames : DiskState → RunningNames → Type 0
-HoldsNames disk r = Tells disk → (ops : List EditOp) × IsNamesystemOf disk r ops
+abbrev pub HoldsNamesystem : DiskState → RunningNames → Type 0
+HoldsNamesystem disk r = Tells disk → (ops : List EditOp) × IsNamesystemOf disk r ops
 
 -- no operation is pending
 abbrev pub IsSettled : RunningNames → Type 0

@@ -1,9 +1,9 @@
 //! Directories of a copy.
 ghost use Rattle.std.specs.Prelude.{◌≡◌, IfErr, IsErrOf};
 ghost use Rattle.hk_base.specs.Faults.{Rose};
-ghost use Rattle.backup_names.specs.Changes.{Changes, MakesDirectory};
+ghost use Rattle.backup_names.specs.Changes.{ChangesTable, MakesDirectory};
 ghost use Rattle.backup_names.specs.Ends.{change_end};
-ghost use Rattle.backup_names.specs.Orders.{HoldsNames, IsSettled, OrdersNames};
+ghost use Rattle.backup_names.specs.Orders.{HoldsNamesystem, IsSettled, OrdersNames};
 ghost use Rattle.backup_names.specs.Refusals.{CallRefused, NoMemoryOr};
 ghost use Rattle.file_orders.specs.Ends.{IsFailure};
 ghost use Rattle.name_calls.specs.declared.calls.NameCall.TheVariants as call;
@@ -34,9 +34,9 @@ pub fn make_directory<E: Disk>(
     user: &Text,
     path: &NPath,
 ) -> Result<(), FsEnd>
-    requires holds { HoldsNames (E.state disk.old) name.old }
+    requires holds { HoldsNamesystem (E.state disk.old) name.old }
     requires settled { IsSettled name.old }
-    ensures makes { Changes result (MakesDirectory path.now) name.old name.new }
+    ensures makes { ChangesTable result (MakesDirectory path.now) name.old name.new }
     ensures orders { OrdersNames (E.state disk.old) (E.state disk.new) name.old name.new }
     ensures fault { IsErrOf result FsEnd.StoreFault →
         Rose (E.state disk.old).faults (E.state disk.new).faults }

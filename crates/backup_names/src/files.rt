@@ -1,8 +1,8 @@
 //! Files of a copy, with their encrypted keys.
 ghost use Rattle.std.specs.Prelude.{◌≡◌, IfErr, IfOk, IsErrOf};
 ghost use Rattle.hk_base.specs.Faults.{Rose};
-ghost use Rattle.backup_names.specs.Changes.{Changes, FinishesFile, IsAsked};
-ghost use Rattle.backup_names.specs.Orders.{HoldsNames, IsSettled, OnlyAsks, OrdersNames};
+ghost use Rattle.backup_names.specs.Changes.{ChangesTable, FinishesFile, IsAsked};
+ghost use Rattle.backup_names.specs.Orders.{HoldsNamesystem, IsSettled, OnlyAsks, OrdersNames};
 ghost use Rattle.backup_names.specs.Refusals.{AskRefused, FinishRefused, NoMemoryOr};
 ghost use Rattle.file_orders.specs.Ends.{IsFailure};
 ghost use Rattle.name_calls.specs.declared.calls.Ask.TheVariants as ask;
@@ -45,9 +45,9 @@ pub fn finish_file<E: Disk>(
     id: u64,
     edek: Option<Edek>,
 ) -> Result<(), FsEnd>
-    requires holds { HoldsNames (E.state disk.old) name.old }
+    requires holds { HoldsNamesystem (E.state disk.old) name.old }
     requires settled { IsSettled name.old }
-    ensures makes { Changes result (FinishesFile id edek name.old) name.old name.new }
+    ensures makes { ChangesTable result (FinishesFile id edek name.old) name.old name.new }
     ensures orders { OrdersNames (E.state disk.old) (E.state disk.new) name.old name.new }
     ensures fault { IsErrOf result FsEnd.StoreFault →
         Rose (E.state disk.old).faults (E.state disk.new).faults }

@@ -2,7 +2,7 @@
 ghost use Rattle.std.specs.Prelude.{◌≡◌, ◌⊎◌, Err, IfErr, IfOk, IsErrOf, None, Some, true};
 ghost use Rattle.std.specs.Option.{option_map};
 ghost use Rattle.backup_names.specs.Ends.{row_end, row_shown};
-ghost use Rattle.backup_names.specs.Orders.{HoldsNames, IsSettled, OrdersNames};
+ghost use Rattle.backup_names.specs.Orders.{HoldsNamesystem, IsSettled, OrdersNames};
 ghost use Rattle.backup_names.specs.Refusals.{CallRefused, NoMemoryOr, info_at};
 ghost use Rattle.file_orders.specs.Ends.{IsFailure};
 ghost use Rattle.inode_tree.specs.Rows.{IsRows, is_dir, is_dir_at, row_at};
@@ -54,7 +54,7 @@ pub fn look<E: Disk>(
     user: &Text,
     path: &NPath,
 ) -> Result<Row, FsEnd>
-    requires holds { HoldsNames (E.state disk.old) name.old }
+    requires holds { HoldsNamesystem (E.state disk.old) name.old }
     requires settled { IsSettled name.old }
     ensures row { IfOk result (λ row. row_at name.old.store.table.rows path.now ≡ Some row) }
     ensures none { result ≡ Err (FsEnd.NameRefused NameRefusal.NoSuchPath) →
@@ -88,7 +88,7 @@ pub fn is_directory<E: Disk>(
     user: &Text,
     path: &NPath,
 ) -> Result<Option<bool>, FsEnd>
-    requires holds { HoldsNames (E.state disk.old) name.old }
+    requires holds { HoldsNamesystem (E.state disk.old) name.old }
     requires settled { IsSettled name.old }
     ensures found { IfOk result
         (λ found. found ≡
@@ -128,7 +128,7 @@ pub fn look_file<E: Disk>(
     user: &Text,
     path: &NPath,
 ) -> Result<ShownFile, FsEnd>
-    requires holds { HoldsNames (E.state disk.old) name.old }
+    requires holds { HoldsNamesystem (E.state disk.old) name.old }
     requires settled { IsSettled name.old }
     ensures file { IfOk result
         (λ shown. row_at name.old.store.table.rows path.now ≡ Some (row_shown shown)) }

@@ -1,9 +1,9 @@
 //! Zones of a copy, with their keys.
 ghost use Rattle.std.specs.Prelude.{◌≡◌, ◌⊎◌, IfErr, IfOk, IsErrOf, Some};
 ghost use Rattle.hk_base.specs.Faults.{Rose};
-ghost use Rattle.backup_names.specs.Changes.{Changes, FinishesZone, IsAsked};
+ghost use Rattle.backup_names.specs.Changes.{ChangesTable, FinishesZone, IsAsked};
 ghost use Rattle.backup_names.specs.Ends.{IsFaultOfKeys, ShowsRefusal, finish_end};
-ghost use Rattle.backup_names.specs.Orders.{HoldsNames, IsSettled, OnlyAsks, OrdersNames};
+ghost use Rattle.backup_names.specs.Orders.{HoldsNamesystem, IsSettled, OnlyAsks, OrdersNames};
 ghost use Rattle.backup_names.specs.Refusals.{AskRefused, FinishRefused, NoMemoryOr};
 ghost use Rattle.file_orders.specs.Ends.{IsFailure};
 ghost use Rattle.name_calls.specs.Answers.{answer_of};
@@ -63,9 +63,9 @@ pub fn finish_zone<E: Disk>(
     id: u64,
     reply: KmsReply,
 ) -> Result<(), FsEnd>
-    requires holds { HoldsNames (E.state disk.old) name.old }
+    requires holds { HoldsNamesystem (E.state disk.old) name.old }
     requires settled { IsSettled name.old }
-    ensures makes { Changes result (FinishesZone id name.old) name.old name.new }
+    ensures makes { ChangesTable result (FinishesZone id name.old) name.old name.new }
     ensures orders { OrdersNames (E.state disk.old) (E.state disk.new) name.old name.new }
     ensures refused { ShowsRefusal reply id name.old result }
     ensures fault { IsErrOf result FsEnd.StoreFault →

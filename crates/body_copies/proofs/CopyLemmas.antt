@@ -3,7 +3,7 @@ use Rattle.std.proofs.Common.{◌≡◌, ℕ, ◌+◌, ◌≤◌, List, [], ◌+
 use Rattle.std.proofs.Math.Seq.{take-add}
 use Rattle.std.proofs.lemmas.List.{take_all, take-append-drop}
 use Rattle.hk_base.specs.Disk.{piece}
-use Rattle.body_stream.specs.Vaults.{KeepsBodies, OthersStay, TellsBodies, VaultState}
+use Rattle.body_stream.specs.Vaults.{KeepsBodies, OtherBodiesStay, TellsBodies, VaultState}
 use Rattle.body_copies.specs.Copies.{CopiesBody, CopiesInPart, HasNoBody}
 use Rattle.body_copies.specs.Pieces.{CopiesPiece, CopiesPieceInPart}
 
@@ -14,7 +14,7 @@ pub record CopiedSoFar (from to at : ℕ) (source old new : VaultState) : Type 0
   pub range : TellsBodies source → bytes ≡ take at (source.bodies from)
   pub tells : new.tells ≡ old.tells
   pub body : TellsBodies old → new.bodies to ≡ bytes
-  pub others : TellsBodies old → OthersStay to old.bodies new.bodies
+  pub others : TellsBodies old → OtherBodiesStay to old.bodies new.bodies
 
 still : (old new : VaultState) → new.tells ≡ old.tells → TellsBodies old → TellsBodies new
 still old new same told = subst (λ b. IsTrue b) (sym same) told

@@ -2,7 +2,7 @@
 use Rattle.std.specs.Prelude.{◌≡◌, ◌⊎◌, ℕ, ◌-◌, ◌<◌, ◌≤◌, List, length}
 use Rattle.hk_base.specs.Disk.{piece}
 use Rattle.hk_base.specs.Faults.{Rose}
-use Rattle.body_stream.specs.Vaults.{VaultState, TellsBodies, Grows, GrowsInPart}
+use Rattle.body_stream.specs.Vaults.{VaultState, TellsBodies, GrowsBody, GrowsInPart}
 
 -- the n bytes from `at` on of the source's body, none of them past `end`, were appended to the body of `to`
 pub record CopiesPiece (from to at end n : ℕ) (source old new : VaultState) : Type 0 where
@@ -12,7 +12,7 @@ pub record CopiesPiece (from to at end n : ℕ) (source old new : VaultState) : 
   pub within : n ≤ end - at
   pub range : TellsBodies source → bytes ≡ piece at n (source.bodies from)
   pub tells : new.tells ≡ old.tells
-  pub body : TellsBodies old → Grows to bytes old.bodies new.bodies
+  pub body : TellsBodies old → GrowsBody to bytes old.bodies new.bodies
 
 -- a prefix of some bytes from `at` on of the source's body was appended to the body of `to`
 pub record CopiesPieceInPart (from to at : ℕ) (source old new : VaultState) : Type 0 where

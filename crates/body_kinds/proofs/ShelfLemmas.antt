@@ -5,7 +5,7 @@ use Rattle.std.specs.declared.alloc.AllocError.{AllocError}
 use Rattle.std.specs.List.{position, position_or_len}
 use Rattle.std.proofs.lemmas.Bool.Decides.{nat_tests}
 use Rattle.std.proofs.lemmas.Bool.{ltb-true, ltb-false}
-use Rattle.body_stream.specs.Vaults.{Grows, GrowsInPart}
+use Rattle.body_stream.specs.Vaults.{GrowsBody, GrowsInPart}
 use Rattle.body_kinds.specs.Shelves.{body_in, has_id}
 use Rattle.body_kinds.specs.declared.shelf.Body.{Body}
 
@@ -73,7 +73,7 @@ set_other id (b ∷ bs) d new h e j other = go (has_id id b) refl h e (set_other
         ∙ ap (λ (l : List ℕ). cond (has_id j b) b.bytes.items l) (ih (omega arith) (e ∙ ap (λ (n : ℕ). (get_or (b ∷ bs) n d).id) (next (place id bs))) j other)
 
 pub set_grows : (id : ℕ) (bodies : List Body) (at : ℕ) (d new : Body) (bytes : List ℕ) → position (has_id id) bodies ≡ Some at → new.id ≡ (get_or bodies at d).id
-    → new.bytes.items ≡ (get_or bodies at d).bytes.items ++ bytes → Grows id bytes (body_in bodies) (body_in (set bodies at new))
+    → new.bytes.items ≡ (get_or bodies at d).bytes.items ++ bytes → GrowsBody id bytes (body_in bodies) (body_in (set bodies at new))
 set_grows id bodies at d new bytes found same grown =
     let is = placed id bodies at found in
     let within : place id bodies < length bodies = subst (λ (n : ℕ). n < length bodies) (sym is.0) is.1 in
@@ -111,7 +111,7 @@ push_other : (id : ℕ) (bodies : List Body) (new : Body) → new.id ≡ id → 
 push_other id [] new e j other = ap (λ (t : Bool). cond t new.bytes.items []) (differs new.id id j (is-same new.id id e) other)
 push_other id (b ∷ bs) new e j other = ap (λ (l : List ℕ). cond (has_id j b) b.bytes.items l) (push_other id bs new e j other)
 
-pub push_grows : (id : ℕ) (bodies : List Body) (new : Body) (bytes : List ℕ) → position (has_id id) bodies ≡ None → new.id ≡ id → new.bytes.items ≡ bytes → Grows id bytes (body_in bodies) (body_in (bodies ++ new ∷ []))
+pub push_grows : (id : ℕ) (bodies : List Body) (new : Body) (bytes : List ℕ) → position (has_id id) bodies ≡ None → new.id ≡ id → new.bytes.items ≡ bytes → GrowsBody id bytes (body_in bodies) (body_in (bodies ++ new ∷ []))
 push_grows id bodies new bytes missing same is =
     let none = unplaced id bodies missing in
     record {

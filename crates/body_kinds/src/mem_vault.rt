@@ -3,7 +3,7 @@ ghost use Rattle.std.specs.Prelude.{◌≡◌, ◌↔◌, ◌≤◌, ◌-◌, �
 ghost use Rattle.hk_base.specs.Disk.{piece};
 ghost use Rattle.hk_base.specs.Faults.{HasCause};
 ghost use Rattle.disk_kinds.specs.Fakes.{CallMade, FollowsPlan, NextFails};
-ghost use Rattle.body_stream.specs.Vaults.{Grows, GrowsInPart, KeepsBodies};
+ghost use Rattle.body_stream.specs.Vaults.{GrowsBody, GrowsInPart, KeepsBodies};
 ghost use Rattle.body_kinds.specs.MemVaults.{body_of, mem_state, plan_of};
 
 use crate::shelf::{Body, append, bytes_of};
@@ -83,7 +83,7 @@ impl Vault for MemVault {
 
     #[tactic(auto, using(crate::proofs::ShelfLemmas::nothing_grew))]
     fn write(&mut self, id: u64, _at: u64, bytes: &[u8]) -> Result<(), Failed>
-        ensures written { OnOk result (Grows id bytes.now (body_of self.old) (body_of self.new)) }
+        ensures written { OnOk result (GrowsBody id bytes.now (body_of self.old) (body_of self.new)) }
         ensures kept { OnErr result (body_of self.new ≡ body_of self.old) }
         ensures torn { OnErr result
             (GrowsInPart id bytes.now (body_of self.old) (body_of self.new)) }

@@ -1,6 +1,6 @@
 //! Bodies in memory.
 ghost use Rattle.std.specs.Prelude.{◌≡◌, ◌++◌, None, position, OnOk, OnErr};
-ghost use Rattle.body_stream.specs.Vaults.{Grows};
+ghost use Rattle.body_stream.specs.Vaults.{GrowsBody};
 ghost use Rattle.body_kinds.specs.Shelves.{body_in, has_id};
 
 use std::alloc::{AllocError, Global};
@@ -48,7 +48,7 @@ fn grow(body: &mut Body, bytes: &[u8]) -> Result<(), AllocError>
 fn add(alloc: Global, bodies: &mut Vec<Body>, id: u64, bytes: &[u8]) -> Result<(), AllocError>
     requires { position (has_id id) bodies.old.items ≡ None }
     ensures ok { OnOk result
-        (Grows id bytes.now (body_in bodies.old.items) (body_in bodies.new.items)) }
+        (GrowsBody id bytes.now (body_in bodies.old.items) (body_in bodies.new.items)) }
     ensures err { OnErr result (bodies.new.items ≡ bodies.old.items) }
 {
     let bytes = bytes.to_vec(alloc)?;
@@ -64,7 +64,7 @@ pub(crate) fn append(
     bytes: &[u8],
 ) -> Result<(), AllocError>
     ensures ok { OnOk result
-        (Grows id bytes.now (body_in bodies.old.items) (body_in bodies.new.items)) }
+        (GrowsBody id bytes.now (body_in bodies.old.items) (body_in bodies.new.items)) }
     ensures err { OnErr result (body_in bodies.new.items ≡ body_in bodies.old.items) }
 {
     match place_of(bodies, id) {

@@ -5,7 +5,7 @@ use Rattle.std.proofs.KnownBytes.{Consumes-nil, Consumes-trans}
 use Rattle.body_stream.specs.Forms.{coded_form, stored_form}
 use Rattle.body_stream.specs.Pieces.{PutsPiece, PutsPieceInPart}
 use Rattle.body_stream.specs.Transfers.{PutsBody, PutsInPart, longest_body}
-use Rattle.body_stream.specs.Vaults.{GrowsInPart, OthersStay, TellsBodies, VaultState}
+use Rattle.body_stream.specs.Vaults.{GrowsInPart, OtherBodiesStay, TellsBodies, VaultState}
 use Rattle.body_stream.specs.declared.coding.Coding.{Coding}
 use Rattle.body_stream.specs.declared.keys.BodyKey.{BodyKey}
 use Rattle.body_stream.proofs.FormLemmas.{coded-append, coded-nil, length-coded}
@@ -18,7 +18,7 @@ pub record PutSoFar (coding : Coding) (id at : ℕ) (left left' : Option (List �
   pub fits : at ≤ longest_body
   pub tells : new.tells ≡ old.tells
   pub body : TellsBodies old → new.bodies id ≡ coded_form coding 0 bytes
-  pub others : TellsBodies old → OthersStay id old.bodies new.bodies
+  pub others : TellsBodies old → OtherBodiesStay id old.bodies new.bodies
 
 still_told : (old new : VaultState) → new.tells ≡ old.tells → TellsBodies old → TellsBodies new
 still_told old new same told = subst (λ b. IsTrue b) (sym same) told

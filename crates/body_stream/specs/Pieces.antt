@@ -4,7 +4,7 @@ use Rattle.std.specs.Io.KnownBytes.{Appends, Consumes, IsAtEnd}
 use Rattle.hk_base.specs.Disk.{piece}
 use Rattle.body_stream.specs.Forms.{coded_form}
 use Rattle.body_stream.specs.Transfers.{longest_body}
-use Rattle.body_stream.specs.Vaults.{VaultState, TellsBodies, Grows, GrowsInPart}
+use Rattle.body_stream.specs.Vaults.{VaultState, TellsBodies, GrowsBody, GrowsInPart}
 use Rattle.body_stream.specs.declared.coding.Coding.{Coding}
 
 -- n bytes were read from the source and appended to the body, which had `at` bytes; none only at the end of the source
@@ -15,7 +15,7 @@ pub record PutsPiece (coding : Coding) (id at n : ℕ) (left left' : Option (Lis
   pub fits : at + n ≤ longest_body
   pub end : n ≡ 0 → IsAtEnd left'
   pub tells : new.tells ≡ old.tells
-  pub body : TellsBodies old → Grows id (coded_form coding at bytes) old.bodies new.bodies
+  pub body : TellsBodies old → GrowsBody id (coded_form coding at bytes) old.bodies new.bodies
 
 -- some bytes were read from the source, and a prefix of their stored form was appended to the body
 pub record PutsPieceInPart (coding : Coding) (id at : ℕ) (left left' : Option (List ℕ)) (old new : VaultState) : Type 0 where

@@ -3,7 +3,7 @@ use Rattle.std.specs.Prelude.{◌≡◌, ℕ, ◌^◌, ◌≤◌, List, ◌++◌
 use Rattle.std.specs.Io.KnownBytes.{Appends, Consumes, IsAtEnd}
 use Rattle.hk_base.specs.Disk.{piece}
 use Rattle.body_stream.specs.Forms.{stored_form}
-use Rattle.body_stream.specs.Vaults.{VaultState, TellsBodies, OthersStay}
+use Rattle.body_stream.specs.Vaults.{VaultState, TellsBodies, OtherBodiesStay}
 use Rattle.body_stream.specs.declared.faults.BodyFault.{BodyFault}
 use Rattle.body_stream.specs.declared.faults.BodyFault.TheVariants as fault
 use Rattle.body_stream.specs.declared.keys.BodyKey.{BodyKey}
@@ -21,7 +21,7 @@ pub record PutsBody (key : Option BodyKey) (id n : ℕ) (left left' : Option (Li
   pub fits : n ≤ longest_body
   pub tells : new.tells ≡ old.tells
   pub body : TellsBodies old → new.bodies id ≡ stored_form key 0 bytes
-  pub others : TellsBodies old → OthersStay id old.bodies new.bodies
+  pub others : TellsBodies old → OtherBodiesStay id old.bodies new.bodies
 
 -- Some bytes were read from the source, and the body of the id is a prefix of their stored form. No other body changed.
 pub record PutsInPart (key : Option BodyKey) (id : ℕ) (left left' : Option (List ℕ)) (old new : VaultState) : Type 0 where
@@ -29,7 +29,7 @@ pub record PutsInPart (key : Option BodyKey) (id : ℕ) (left left' : Option (Li
   pub consumed : Consumes left left' bytes
   pub tells : new.tells ≡ old.tells
   pub body : TellsBodies old → (more : List ℕ) × (new.bodies id ++ more ≡ stored_form key 0 bytes)
-  pub others : TellsBodies old → OthersStay id old.bodies new.bodies
+  pub others : TellsBodies old → OtherBodiesStay id old.bodies new.bodies
 
 -- n bytes were written, at most `count`. If the body of the id is the stored form of a file, they are the bytes of the
 -- file from `from` on, up to `count` of them.

@@ -14,20 +14,20 @@ abbrev pub TellsBodies : VaultState → Type 0
 TellsBodies v = IsTrue v.tells
 
 -- the bodies of all other ids are unchanged
-abbrev pub OthersStay : ℕ → (ℕ → List ℕ) → (ℕ → List ℕ) → Type 0
-OthersStay id old new = (j : ℕ) → j ≢ id → new j ≡ old j
+abbrev pub OtherBodiesStay : ℕ → (ℕ → List ℕ) → (ℕ → List ℕ) → Type 0
+OtherBodiesStay id old new = (j : ℕ) → j ≢ id → new j ≡ old j
 
 -- these bytes were appended to the body of an id
-pub record Grows (id : ℕ) (bytes : List ℕ) (old new : ℕ → List ℕ) : Type 0 where
+pub record GrowsBody (id : ℕ) (bytes : List ℕ) (old new : ℕ → List ℕ) : Type 0 where
   pub body : new id ≡ old id ++ bytes
-  pub others : OthersStay id old new
+  pub others : OtherBodiesStay id old new
 
 -- a prefix of these bytes was appended to the body of an id
 pub record GrowsInPart (id : ℕ) (bytes : List ℕ) (old new : ℕ → List ℕ) : Type 0 where
   pub front : List ℕ
   pub more : List ℕ
   pub whole : front ++ more ≡ bytes
-  pub grows : Grows id front old new
+  pub grows : GrowsBody id front old new
 
 -- a call that changes no body
 pub record KeepsBodies (old new : VaultState) : Type 0 where

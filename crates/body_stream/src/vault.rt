@@ -2,7 +2,7 @@
 ghost use Rattle.std.specs.Prelude.{◌≡◌, ◌-◌, ◌≤◌, min, length, take, IfOk, OnOk, OnErr};
 ghost use Rattle.hk_base.specs.Disk.{piece};
 ghost use Rattle.hk_base.specs.Faults.{HasCause};
-ghost use Rattle.body_stream.specs.Vaults.{VaultState, TellsBodies, Grows, GrowsInPart, KeepsBodies};
+ghost use Rattle.body_stream.specs.Vaults.{VaultState, TellsBodies, GrowsBody, GrowsInPart, KeepsBodies};
 
 use hk_base::Failed;
 
@@ -28,7 +28,7 @@ pub trait Vault {
         ensures tells { (state self.new).tells ≡ (state self.old).tells }
         ensures written { OnOk result
             (TellsBodies (state self.old) →
-            Grows id bytes.now (state self.old).bodies (state self.new).bodies) }
+            GrowsBody id bytes.now (state self.old).bodies (state self.new).bodies) }
         ensures torn { OnErr result
             (TellsBodies (state self.old) →
             GrowsInPart id bytes.now (state self.old).bodies (state self.new).bodies) }

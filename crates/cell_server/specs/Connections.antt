@@ -10,7 +10,7 @@ use Rattle.hist_cell.specs.declared.views.Known.{Known}
 use Rattle.hist_cell.specs.History.{Distinct, IsIn, own}
 use Rattle.kms_cell.specs.Entries.{KmsEntry, KmsKnown}
 use Rattle.name_history.specs.Entries.{NameEntry, NameKnown}
-use Rattle.server_parts.specs.Doors.{DoorState, Left, with_more}
+use Rattle.server_parts.specs.Doors.{DoorState, LeftConnection, with_more}
 use Rattle.cell_desk.specs.Connections.{ServedByCells}
 use Rattle.cell_workers.specs.Work.{IsWork}
 
@@ -41,7 +41,7 @@ pub record Start (I O D W : Type 0) : Type 0 where
   pub names : NameKnown D W
 
 -- a connection was served by the entries that its passes made, which met no others
-pub record EndsSo {I O D W : Type 0} (serves : Serving I O D W) (start : Start I O D W) (input : I) (out : O) (keys : KmsKnown D W) (names : NameKnown D W) (how : Ended) : Type 0 where
+pub record EndsServed {I O D W : Type 0} (serves : Serving I O D W) (start : Start I O D W) (input : I) (out : O) (keys : KmsKnown D W) (names : NameKnown D W) (how : Ended) : Type 0 where
   pub served : serves start.input start.out (own start.keys.number keys.seen) (own start.names.number names.seen) input out how
   pub keys_number : keys.number ≡ start.keys.number
   pub keys_ended : keys.ended ≡ start.keys.ended
@@ -54,13 +54,13 @@ pub record Visit (I O : Type 0) : Type 0 where
   pub names : ℕ
   pub input : I
   pub out : O
-  pub left : Left I O
+  pub left : LeftConnection I O
 
 module _ {I O : Type 0} where
   abbrev pub came_of : Visit I O → I × O
   came_of visit = (visit.input, visit.out)
 
-  abbrev pub left_of : Visit I O → Left I O
+  abbrev pub left_of : Visit I O → LeftConnection I O
   left_of visit = visit.left
 
   abbrev pub keys_of : Visit I O → ℕ

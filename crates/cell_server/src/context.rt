@@ -1,7 +1,7 @@
 //! What connections are served with.
 ghost use Rattle.std.specs.Prelude.{◌≡◌, []};
 ghost use Rattle.hist_cell.specs.History.{Meets, own};
-ghost use Rattle.cell_server.specs.Connections.{EndsSo, serving_by};
+ghost use Rattle.cell_server.specs.Connections.{EndsServed, serving_by};
 
 use crate::handles::SharedHandle;
 use crate::places::Places;
@@ -37,7 +37,7 @@ impl<'a, R: Wait, S: Turns, G: Gate, H: Notices> ServeContext<'a, R, S, G, H> {
     ) -> Done<I, O, S::Keys, S::Names>
         requires keys { own (S.keys_seen keys).number (S.keys_seen keys).seen ≡ [] }
         requires names { own (S.names_seen names).number (S.names_seen names).seen ≡ [] }
-        ensures { EndsSo (serving_by I.Source O.Sink)
+        ensures { EndsServed (serving_by I.Source O.Sink)
             (record {
               input = input;
               out = out;

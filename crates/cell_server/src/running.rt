@@ -1,7 +1,7 @@
 //! Connections that were begun.
 ghost use Rattle.std.specs.Prelude.{◌≡◌, []};
 ghost use Rattle.hist_cell.specs.History.{own};
-ghost use Rattle.cell_server.specs.Connections.{EndsSo, serving_by};
+ghost use Rattle.cell_server.specs.Connections.{EndsServed, serving_by};
 
 use crate::context::ServeContext;
 use crate::handles::SharedHandle;
@@ -69,9 +69,9 @@ impl<I, O, S: Turns> ConnStart<I, O, S> {
 }
 
 impl<I: Source, O: Sink, S: Turns> Promise<Done<I, O, S::Keys, S::Names>> for ConnStart<I, O, S> {
-    ghost use Rattle.cell_server.specs.Connections.{EndsSo, serving_by};
+    ghost use Rattle.cell_server.specs.Connections.{EndsServed, serving_by};
 
-    ghost kept_by = { λ start done. EndsSo (serving_by I.Source O.Sink) start
+    ghost kept_by = { λ start done. EndsServed (serving_by I.Source O.Sink) start
         done.input done.out (S.keys_seen done.keys) (S.names_seen done.names) done.ended };
 }
 
@@ -159,7 +159,7 @@ impl<I: Source, O: Sink, H: HangUp + Drop, S: Turns> Running<I, O, H, S> {
 
     /// Waits for the connection to end.
     pub fn join<R: Threads>(self, rt: &R) -> Done<I, O, S::Keys, S::Names>
-        ensures { EndsSo (serving_by I.Source O.Sink) self result.input
+        ensures { EndsServed (serving_by I.Source O.Sink) self result.input
             result.out (S.keys_seen result.keys) (S.names_seen result.names) result.ended }
     {
         let Running { handle, work } = self;

@@ -34,9 +34,9 @@ RegistersKept v Count r v' = (r ≡ v.count) × (v' ≡ v)
 RegistersKept v (Register n) r v' = (v'.issued ≡ v.issued) × (r ≡ length v.issued.seen) × (v'.count ≡ (v.count + 1) % 2 ^ 64)
 
 -- only the count needs no pass of the issuer
-abbrev pub IsAlone : RegistryCall → Type 0
-IsAlone Count = ⊤
-IsAlone (Register n) = ⊥
+abbrev pub IsCallAlone : RegistryCall → Type 0
+IsCallAlone Count = ⊤
+IsCallAlone (Register n) = ⊥
 
 -- a number is registered by a pass that has seen that it was issued
 abbrev pub NeedsPass : RegistryCall → IssuerKnown → Type 0
@@ -44,14 +44,14 @@ NeedsPass Count w = ⊥
 NeedsPass (Register n) w = Issued n w.seen
 
 -- a pass was met into the kept one
-abbrev pub TakesPass : RegistryView → IssuerKnown → RegistryView → Type 0
-TakesPass v w v' = Meets v.issued w v'.issued × (v'.count ≡ v.count)
+abbrev pub MeetsPass : RegistryView → IssuerKnown → RegistryView → Type 0
+MeetsPass v w v' = Meets v.issued w v'.issued × (v'.count ≡ v.count)
 
-pub alone_registers : (v v' : RegistryView) (q : RegistryCall) (r : ℕ) → IsAlone q → RegistersKept v q r v' → Registers v q r v'
+pub alone_registers : (v v' : RegistryView) (q : RegistryCall) (r : ℕ) → IsCallAlone q → RegistersKept v q r v' → Registers v q r v'
 alone_registers v v' Count r alone h = h
 alone_registers v v' (Register n) r alone h = absurd alone
 
-pub meeting_registers : (v m v' : RegistryView) (w : IssuerKnown) (q : RegistryCall) (r : ℕ) → NeedsPass q w → TakesPass v w m → RegistersKept m q r v' → Registers v q r v'
+pub meeting_registers : (v m v' : RegistryView) (w : IssuerKnown) (q : RegistryCall) (r : ℕ) → NeedsPass q w → MeetsPass v w m → RegistersKept m q r v' → Registers v q r v'
 meeting_registers v m v' w Count r need took h = absurd need
 meeting_registers v m v' w (Register n) r need took h = (
   subst (λ (k : IssuerKnown). IsPrefix v.issued.seen k.seen) (sym h.0) took.0.this,

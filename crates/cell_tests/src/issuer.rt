@@ -18,15 +18,15 @@ pub enum IssuerCall {
 
 impl Core for Issuer {
     ghost use Rattle.std.specs.Prelude.{⊤};
-    ghost use Rattle.cell_tests.specs.Issuing.{Steps, Allows, Can, Allows-grows, Allows-fits};
+    ghost use Rattle.cell_tests.specs.Issuing.{IssuerSteps, Allows, Can, Allows-grows, Allows-fits};
 
     type Call = IssuerCall;
 
     type Reply = Option<u64>;
 
-    ghost step = { Steps };
+    ghost step = { IssuerSteps };
 
-    ghost acts = { Steps };
+    ghost acts = { IssuerSteps };
 
     ghost allows = { Allows };
 

@@ -51,7 +51,7 @@ impl<M: Naming> Registry<M> {
 
 impl<M: Naming> Core for Registry<M> {
     ghost use Rattle.std.specs.Prelude.{⊤};
-    ghost use Rattle.cell_tests.specs.Registering.{IsAlone, Registers, RegistersKept, alone_registers};
+    ghost use Rattle.cell_tests.specs.Registering.{IsCallAlone, Registers, RegistersKept, alone_registers};
 
     type Call = RegistryCall;
 
@@ -65,7 +65,7 @@ impl<M: Naming> Core for Registry<M> {
 
     ghost can = { λ _ _. ⊤ };
 
-    ghost alone = { IsAlone };
+    ghost alone = { IsCallAlone };
 
     ghost sound = { λ _. ⊤ };
 
@@ -89,7 +89,7 @@ impl<M: Naming> Core for Registry<M> {
 impl<M: Naming> Holds for Registry<M> {
     ghost use Rattle.std.specs.Prelude.{IfOk};
     ghost use Rattle.hist_cell.specs.History.{Splits};
-    ghost use Rattle.cell_tests.specs.Registering.{NeedsPass, TakesPass, meeting_registers};
+    ghost use Rattle.cell_tests.specs.Registering.{MeetsPass, NeedsPass, meeting_registers};
 
     type OtherCell = Cell<Issuer, M>;
 
@@ -99,7 +99,7 @@ impl<M: Naming> Holds for Registry<M> {
 
     ghost suits = { λ s q w. NeedsPass q w };
 
-    ghost takes = { TakesPass };
+    ghost takes = { MeetsPass };
 
     ghost lends = { λ s w. Splits s.issued w };
 

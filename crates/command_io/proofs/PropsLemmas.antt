@@ -1,7 +1,7 @@
 -- Reading the properties.
 use Rattle.std.proofs.Common.{◌≡◌, ℕ, List, ◌++◌, length, ap, sym, ◌∙◌, subst, Option, None, Some, Result, Err, arith, append-nil, length-append}
 use Rattle.std.specs.Io.KnownBytes.{Consumes, IsAtEnd}
-use Rattle.prop_text.specs.Properties.{HasFault, IsBadLine, IsFirst, IsRepeated, IsUnknown}
+use Rattle.prop_text.specs.Properties.{HasFault, IsBadLine, IsFirst, IsRepeated, IsUnknownName}
 use Rattle.prop_text.specs.declared.faults.PropFault.{PropFault}
 use Rattle.prop_text.specs.declared.faults.PropFault.TheVariants as fault
 use Rattle.prop_text.specs.declared.props.Props.{Props}
@@ -22,7 +22,7 @@ first_of_all left left' text number IsFault r first all is = subst (λ (t : List
 has_fault : (left left' : Option (List ℕ)) (text : List ℕ) (why : PropFault) → ReadsText left left' text → HasFault text why → HasPropsFault left (TextFault why)
 has_fault left left' text (fault.BadLine number) r has = first_of_all left left' text number IsBadLine r has
 has_fault left left' text (fault.Repeated number) r has = first_of_all left left' text number IsRepeated r has
-has_fault left left' text (fault.UnknownName number) r has = first_of_all left left' text number IsUnknown r has
+has_fault left left' text (fault.UnknownName number) r has = first_of_all left left' text number IsUnknownName r has
 has_fault left left' text fault.TooLong r has = λ all is. let front = r.front all is in omega (arith, has, ap length front.1, length-append text front.0)
 has_fault left left' text fault.NoMemory r has = λ all is. tt
 

@@ -1,7 +1,7 @@
 -- Only words with a mistake give the status 2.
 use Rattle.std.proofs.Common.{◌≡◌, ◌≢◌, inl, inr, ℕ, List, sym, ◌∙◌, arith}
 use Rattle.std.specs.Prelude.{Option}
-use Rattle.command_io.specs.Ends.{Reports, Shows, status_of}
+use Rattle.command_io.specs.Ends.{Reports, ShowsWith, status_of}
 use Rattle.command_io.specs.declared.ends.ReplayEnd.{ReplayEnd}
 use Rattle.command_io.specs.declared.ends.ReplayEnd.TheVariants as ended
 
@@ -30,6 +30,6 @@ not_both : (n : ℕ) → n ≡ 8 → n ≡ 2 → ⊥
 not_both n eight two = absurd (omega (arith, eight, two))
 
 -- a text with another status is not shown with 2
-pub not_shown : (text : List ℕ) (own : ℕ) (written now : Option (List ℕ)) (status : ℕ) → own ≢ 2 → Shows text own written now status → status ≢ 2
+pub not_shown : (text : List ℕ) (own : ℕ) (written now : Option (List ℕ)) (status : ℕ) → own ≢ 2 → ShowsWith text own written now status → status ≢ 2
 not_shown text own written now status other (inl shown) two = other (sym shown.0 ∙ two)
 not_shown text own written now status other (inr failed) two = not_both status failed.0 two

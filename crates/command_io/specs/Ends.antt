@@ -79,8 +79,8 @@ last_line WriteFault lines = []
 last_line Spent lines = codes "openings spent\n"
 
 -- A text was written, and the status is this one; or a prefix of it, and the output failed.
-abbrev pub Shows : List ℕ → ℕ → Option (List ℕ) → Option (List ℕ) → ℕ → Type 0
-Shows text own written now status = ((status ≡ own) × Appends written now text) ⊎ ((status ≡ 8) × WroteFront written now text)
+abbrev pub ShowsWith : List ℕ → ℕ → Option (List ℕ) → Option (List ℕ) → ℕ → Type 0
+ShowsWith text own written now status = ((status ≡ own) × Appends written now text) ⊎ ((status ≡ 8) × WroteFront written now text)
 
 -- the last line of a cause, or a prefix of it and the output failed; if there was no memory for it, the line that says so
 pub record Closes (stop : ReplayEnd) (lines : ℕ) (written now : Option (List ℕ)) (how : ReplayEnd) : Type 0 where
@@ -101,14 +101,14 @@ pub record Reports (end : ReplayEnd) (written now : Option (List ℕ)) (status :
 
 -- there is no memory to read the words: nothing else is done, as `same` says
 abbrev pub WantsMemory : Type 0 → Option (List ℕ) → Option (List ℕ) → ℕ → Type 0
-WantsMemory same written now status = same × Shows (codes "no memory\n") 6 written now status
+WantsMemory same written now status = same × ShowsWith (codes "no memory\n") 6 written now status
 
 -- the words have a mistake: nothing else is done, as `same` says
-abbrev pub Refuses : Type 0 → Option (List ℕ) → Option (List ℕ) → ℕ → Type 0
-Refuses same written now status = same × Shows (codes "usage refused\n") 2 written now status
+abbrev pub RefusesUsage : Type 0 → Option (List ℕ) → Option (List ℕ) → ℕ → Type 0
+RefusesUsage same written now status = same × ShowsWith (codes "usage refused\n") 2 written now status
 
 -- some text is shown, and nothing else is done, as `same` says
 pub record ShowsText (same : Type 0) (written now : Option (List ℕ)) (status : ℕ) : Type 0 where
   pub text : List ℕ
   pub untouched : same
-  pub shows : Shows text 0 written now status
+  pub shows : ShowsWith text 0 written now status

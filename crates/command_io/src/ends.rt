@@ -1,7 +1,7 @@
 //! How a command ends: its exit status, and the last line that it writes.
 ghost use Rattle.std.specs.Prelude.{◌≡◌, ◌≢◌, ◌⊎◌, ◌≤◌, ◌<◌, ◌^◌, codes, string_bytes, IfOk, MatchResult};
 ghost use Rattle.hk_base.specs.Faults.{Rose};
-ghost use Rattle.command_io.specs.Ends.{Closes, HasNumber, Reports, Shows, WritesLast, damaged_in, ended_by, ended_by_props, ended_by_text, last_line, status_of};
+ghost use Rattle.command_io.specs.Ends.{Closes, HasNumber, Reports, ShowsWith, WritesLast, damaged_in, ended_by, ended_by_props, ended_by_text, last_line, status_of};
 
 use crate::props::PropsFault;
 use frame_log::StartFault;
@@ -88,7 +88,7 @@ pub fn ended_by(file: u8, fault: StartFault) -> ReplayEnd
 /// Writes a text. Returns `status`, or 8 if the output fails.
 pub fn show<K: Sink>(out: &mut K, text: &[u8], status: u8) -> u8
     requires { status ≢ 8 }
-    ensures shows { Shows text.now status (K.written out.old) (K.written out.new) result }
+    ensures shows { ShowsWith text.now status (K.written out.old) (K.written out.new) result }
     ensures write { result ≡ 8 → Rose (K.faults out.old) (K.faults out.new) }
 {
     match write_all(out, text) {
@@ -99,7 +99,7 @@ pub fn show<K: Sink>(out: &mut K, text: &[u8], status: u8) -> u8
 
 /// Writes a text and drops it. Returns 0, or 8 if the output fails.
 pub fn show_made<K: Sink>(out: &mut K, text: String) -> u8
-    ensures shows { Shows (string_bytes text) 0 (K.written out.old) (K.written out.new) result }
+    ensures shows { ShowsWith (string_bytes text) 0 (K.written out.old) (K.written out.new) result }
     ensures write { result ≡ 8 → Rose (K.faults out.old) (K.faults out.new) }
 {
     let status = show(out, text.as_bytes(), 0);

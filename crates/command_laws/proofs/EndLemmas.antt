@@ -16,12 +16,12 @@ use Rattle.command_io.specs.declared.props.PropsFault.{PropsFault}
 use Rattle.command_io.specs.declared.props.PropsFault.TheVariants as props_fault
 use Rattle.command_io.specs.declared.ends.ReplayEnd.{ReplayEnd}
 use Rattle.command_io.specs.declared.ends.ReplayEnd.TheVariants as ended
-use Rattle.command_io.specs.Ends.{Shows, ended_by, ended_by_props, last_line, status_of}
+use Rattle.command_io.specs.Ends.{ShowsWith, ended_by, ended_by_props, last_line, status_of}
 use Rattle.command_io.specs.Properties.{HasPropsFault, ReadsProperties}
-use Rattle.hk_runs.specs.Replay.{IsFront, Says}
+use Rattle.hk_runs.specs.Replay.{IsFront, SaysEnd}
 use Rattle.hk_runs.specs.Run.{History, Runs, faults_after}
 use Rattle.command_laws.specs.Complete.{NeverFails}
-use Rattle.command_laws.specs.Good.{Counts, GoodDisk, GoodKeys, GoodProperties, HasCauses, NoneRose}
+use Rattle.command_laws.specs.Good.{FaultCounts, GoodDisk, GoodKeys, GoodProperties, HasCauses, NoneRose}
 use Rattle.command_laws.proofs.LogLemmas.{keys_not_damaged, keys_not_spent, names_not_damaged, names_not_spent}
 use Rattle.text_laws.proofs.FaultLemmas.{not_both_readings, one_list}
 
@@ -32,7 +32,7 @@ pub record Unfailed (status : ℕ) : Type 0 where
   pub store : status ≢ 5
   pub door : status ≢ 9
 
-pub unfailed : (before after : Counts) (status : ℕ) → HasCauses before after status → NoneRose before after → Unfailed status
+pub unfailed : (before after : FaultCounts) (status : ℕ) → HasCauses before after status → NoneRose before after → Unfailed status
 unfailed before after status causes none = record {
   read = λ is. neither (causes.read is);
   write = λ is. none.out (causes.write is);
@@ -45,7 +45,7 @@ unfailed before after status causes none = record {
     neither (inr rose) = none.acls rose
 
 -- want of memory
-pub memory_shown : (text : List ℕ) (written now : Option (List ℕ)) (status : ℕ) → Unfailed status → Shows text 6 written now status → status ≡ 6
+pub memory_shown : (text : List ℕ) (written now : Option (List ℕ)) (status : ℕ) → Unfailed status → ShowsWith text 6 written now status → status ≡ 6
 memory_shown text written now status ok (inl shown) = shown.0
 memory_shown text written now status ok (inr failed) = absurd (ok.write failed.0)
 
@@ -112,7 +112,7 @@ closed old new file fault fails good = opened_or file fault (by (fails.file file
 -- the last line
 
 -- an end that is not by a fault of the output is the one for which the command stopped, or want of memory
-pub said : (stop how : ReplayEnd) (lines : ℕ) (printed text : List ℕ) → Says stop how lines printed text → (how ≡ ended.WriteFault → ⊥) → (how ≡ stop) ⊎ (how ≡ ended.NoMemory)
+pub said : (stop how : ReplayEnd) (lines : ℕ) (printed text : List ℕ) → SaysEnd stop how lines printed text → (how ≡ ended.WriteFault → ⊥) → (how ≡ stop) ⊎ (how ≡ ended.NoMemory)
 said stop how lines printed text says never = by says.last_is says.closes
   where
     by : (says.last ≡ stop) ⊎ (says.last ≡ ended.NoMemory) → ((how ≡ says.last) × (text ≡ says.body ++ last_line says.last lines)) ⊎ ((how ≡ ended.WriteFault) × IsFront text (says.body ++ last_line says.last lines))

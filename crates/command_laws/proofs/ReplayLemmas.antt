@@ -10,9 +10,9 @@ use Rattle.command_io.specs.declared.ends.ReplayEnd.{ReplayEnd}
 use Rattle.command_io.specs.declared.ends.ReplayEnd.TheVariants as ended
 use Rattle.hk_runs.specs.PlayedLines.{events_of_lines, lines_in, transcript}
 use Rattle.command_io.specs.Ends.{last_line, status_of}
-use Rattle.hk_runs.specs.Replay.{BadNext, BadProperties, HasRead, IsFront, PlaysOn, Played, Replay, Says, Unopened}
+use Rattle.hk_runs.specs.Replay.{BadNext, BadProperties, HasRead, IsFront, PlaysOn, Played, Replay, SaysEnd, Unopened}
 use Rattle.command_laws.specs.Complete.{PlaysAll, ReplayIsComplete}
-use Rattle.command_laws.specs.Good.{Counts, GoodDisk, GoodLines, GoodProperties, NoneRose}
+use Rattle.command_laws.specs.Good.{FaultCounts, GoodDisk, GoodLines, GoodProperties, NoneRose}
 use Rattle.command_laws.proofs.EndLemmas.{Unfailed, closed, memory_shown, never_fails, no_memory, not_later, not_read, not_stored, not_written, only_memory, said, same_props, unfailed, unread}
 
 -- no line among good ones is a bad one
@@ -24,7 +24,7 @@ never_bad : (left : Option (List ℕ)) (good : GoodLines left) (lines : List (Li
 never_bad left good lines (inl (bad, more, is, is_bad, within)) = not_bad lines more bad (subst (AllByRecursion (λ line. ¬ IsBad line)) is good.none_bad) is_bad
 never_bad left good lines (inr (starts, past)) = absurd (omega (arith, past.long, good.short))
 
-module _ (old new : DiskState) (acls acls' : Option (List ℕ)) (words words' : ℕ → ℕ) (left left' written now : Option (List ℕ)) (before after : Counts) (status : ℕ)
+module _ (old new : DiskState) (acls acls' : Option (List ℕ)) (words words' : ℕ → ℕ) (left left' written now : Option (List ℕ)) (before after : FaultCounts) (status : ℕ)
     (none : NoneRose before after) (old_is : before.store ≡ old.faults) (new_is : after.store ≡ new.faults) (properties : GoodProperties acls) (lines : GoodLines left) (disk : GoodDisk old) (no_spent : status ≢ 10) (ok : Unfailed status) where
   abbrev Done : Type 0
   Done = ((status ≡ 0) × PlaysAll properties.props old new words left lines.all written now) ⊎ (status ≡ 6)
@@ -39,7 +39,7 @@ module _ (old new : DiskState) (acls acls' : Option (List ℕ)) (words words' : 
       let ends = said _ how 0 [] u.text u.says (not_written how status is ok) in
       inr (no_memory how status is (only_memory _ how ended.StoreFault ends (closed old new u.file u.fault u.not_opened disk) (not_stored how status is ok)))
 
-  text_is : (how : ReplayEnd) (count : ℕ) (printed text : List ℕ) → Says ended.Done how count printed text → how ≡ ended.Done → text ≡ printed
+  text_is : (how : ReplayEnd) (count : ℕ) (printed text : List ℕ) → SaysEnd ended.Done how count printed text → how ≡ ended.Done → text ≡ printed
   text_is how count printed text says is = by says.closes
     where
       by : ((how ≡ says.last) × (text ≡ says.body ++ last_line says.last count)) ⊎ ((how ≡ ended.WriteFault) × IsFront text (says.body ++ last_line says.last count)) → text ≡ printed
@@ -55,7 +55,7 @@ module _ (old new : DiskState) (acls acls' : Option (List ℕ)) (words words' : 
       printed : List ℕ
       printed = transcript (events_of_lines p.played_lines)
 
-      go : (stop : ReplayEnd) → Played props old new words left stop p.played_lines → Says stop how count printed p.text → (how ≡ stop) ⊎ (how ≡ ended.NoMemory) → Done
+      go : (stop : ReplayEnd) → Played props old new words left stop p.played_lines → SaysEnd stop how count printed p.text → (how ≡ stop) ⊎ (how ≡ ended.NoMemory) → Done
       go stop played says (inr memory) = inr (no_memory how status is memory)
       go ended.Done played says (inl stopped) = inl (
         is ∙ ap status_of stopped,
@@ -92,7 +92,7 @@ module _ (old new : DiskState) (acls acls' : Option (List ℕ)) (words words' : 
   replayed same_disk same how is (inl bad) = bad_properties (same_disk × same) how is bad
   replayed same_disk same how is (inr has) = has_read same how is has
 
-pub replay_is_complete : (same_disk same unasked : Type 0) (old new : DiskState) (acls acls' : Option (List ℕ)) (words words' : ℕ → ℕ) (left left' written now : Option (List ℕ)) (before after : Counts) (status : ℕ)
+pub replay_is_complete : (same_disk same unasked : Type 0) (old new : DiskState) (acls acls' : Option (List ℕ)) (words words' : ℕ → ℕ) (left left' written now : Option (List ℕ)) (before after : FaultCounts) (status : ℕ)
     → ReplayIsComplete same_disk same unasked old new acls acls' words words' left left' written now before after status
 replay_is_complete same_disk same unasked old new acls acls' words words' left left' written now before after status (inl (how, is, replays, at_end)) causes none old_is new_is properties lines disk no_spent =
     replayed old new acls acls' words words' left left' written now before after status none old_is new_is properties lines disk no_spent (unfailed before after status causes none) same_disk same how is replays

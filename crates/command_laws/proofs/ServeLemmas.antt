@@ -18,7 +18,7 @@ use Rattle.command_io.specs.declared.ends.ReplayEnd.TheVariants as replayed
 use Rattle.command_io.specs.Ends.{Closes, Reports, ended_by, last_line, status_of}
 use Rattle.server_command.specs.Serve.{ReportsRun, RefusesToServe, RunsUnder, Serves, ServesUnder}
 use Rattle.command_laws.specs.Complete.{ServeIsComplete}
-use Rattle.command_laws.specs.Good.{Counts, GoodProperties, GoodYard}
+use Rattle.command_laws.specs.Good.{FaultCounts, GoodProperties, GoodYard}
 use Rattle.command_laws.proofs.LogLemmas.{keys_not_damaged, keys_not_spent, names_not_damaged, names_not_spent}
 use Rattle.command_laws.proofs.EndLemmas.{Unfailed, memory_shown, no_memory, not_read, not_stored, not_written, only_memory, same_props, unfailed, unread}
 
@@ -84,7 +84,7 @@ module _ {D I O : Type 0} (state : D → DiskState) (to_come : ChaCha → ℕ �
   served same (inr u) = under u
 
 pub serve_is_complete : {D I O : Type 0} (state : D → DiskState) (to_come : ChaCha → ℕ → ℕ) (serves : Serving I O D ChaCha) (same others unasked : Type 0) (port conns : ℕ) (acls acls' : Option (List ℕ)) (words words' : ℕ → ℕ) (yard yard' : YardState) (door door' : DoorState I O)
-    (written now : Option (List ℕ)) (before after : Counts) (status : ℕ) → ServeIsComplete state to_come serves same others unasked port conns acls acls' words words' yard yard' door door' written now before after status
+    (written now : Option (List ℕ)) (before after : FaultCounts) (status : ℕ) → ServeIsComplete state to_come serves same others unasked port conns acls acls' words words' yard yard' door door' written now before after status
 serve_is_complete state to_come serves same others unasked port conns acls acls' words words' yard yard' door door' written now before after status (inl (runs, rest)) causes none properties good =
     served state to_come serves port conns acls acls' words words' yard yard' door door' written now status properties good (unfailed before after status causes none) same runs
 serve_is_complete state to_come serves same others unasked port conns acls acls' words words' yard yard' door door' written now before after status (inr memory) causes none properties good =

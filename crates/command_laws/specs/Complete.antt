@@ -20,7 +20,7 @@ use Rattle.command_io.specs.Ends.{WantsMemory, status_of}
 use Rattle.hk_runs.specs.Replay.{Played, Replay}
 use Rattle.hk_runs.specs.Run.{History, faults_after}
 use Rattle.server_command.specs.Serve.{RunsUnder, Serves}
-use Rattle.command_laws.specs.Good.{Counts, GoodDisk, GoodLines, GoodProperties, GoodRequests, GoodYard, HasCauses, NoneRose}
+use Rattle.command_laws.specs.Good.{FaultCounts, GoodDisk, GoodLines, GoodProperties, GoodRequests, GoodYard, HasCauses, NoneRose}
 
 -- the disk's count of faults rose in no event of a history, so that none was answered by a store fault
 abbrev pub NeverFails : ℕ → History → Type 0
@@ -44,7 +44,7 @@ pub record ConnectsToEnd (props : Props) (old new : DiskState) (words words' : �
 
 -- What `hkms` does at the words of a replay (its clauses [replay], [read], [write] and [store]): with good properties, good lines and good
 -- logs, if no count rises and no restart finds its last opening used, it plays all lines, or there is no memory.
-abbrev pub ReplayIsComplete : (same_disk same unread : Type 0) (old new : DiskState) (acls acls' : Option (List ℕ)) (words words' : ℕ → ℕ) (left left' written now : Option (List ℕ)) (before after : Counts) (status : ℕ) → Type 0
+abbrev pub ReplayIsComplete : (same_disk same unread : Type 0) (old new : DiskState) (acls acls' : Option (List ℕ)) (words words' : ℕ → ℕ) (left left' written now : Option (List ℕ)) (before after : FaultCounts) (status : ℕ) → Type 0
 ReplayIsComplete same_disk same unread old new acls acls' words words' left left' written now before after status =
     ((how : ReplayEnd) × (status ≡ status_of how) × Replay same_disk same old new acls acls' words words' left written now how × (status ≡ 0 → IsAtEnd left')) ⊎ WantsMemory unread written now status
     → HasCauses before after status → NoneRose before after → before.store ≡ old.faults → after.store ≡ new.faults
@@ -53,7 +53,7 @@ ReplayIsComplete same_disk same unread old new acls acls' words words' left left
 
 -- The same at the words of a connection: with good properties, good requests and good logs, if no count rises, it answers all requests, or
 -- there is no memory.
-abbrev pub PipeIsComplete : (same_disk same unread : Type 0) (old new : DiskState) (acls acls' : Option (List ℕ)) (words words' : ℕ → ℕ) (left left' written now : Option (List ℕ)) (before after : Counts) (status : ℕ) → Type 0
+abbrev pub PipeIsComplete : (same_disk same unread : Type 0) (old new : DiskState) (acls acls' : Option (List ℕ)) (words words' : ℕ → ℕ) (left left' written now : Option (List ℕ)) (before after : FaultCounts) (status : ℕ) → Type 0
 PipeIsComplete same_disk same unread old new acls acls' words words' left left' written now before after status =
     Pipe same_disk same old new acls acls' words words' left left' written now status ⊎ WantsMemory unread written now status
     → HasCauses before after status → NoneRose before after → before.store ≡ old.faults → after.store ≡ new.faults
@@ -63,7 +63,7 @@ PipeIsComplete same_disk same unread old new acls acls' words words' left left' 
 module _ {D I O : Type 0} (state : D → DiskState) (to_come : ChaCha → ℕ → ℕ) (serves : Serving I O D ChaCha) where
   -- The same at the words of a server: with good properties and good logs, if no count rises, it serves all connections, or there is no memory.
   -- If the door is closed in the end, it may have served those that came before.
-  abbrev pub ServeIsComplete : (same others unread : Type 0) (port conns : ℕ) (acls acls' : Option (List ℕ)) (words words' : ℕ → ℕ) (yard yard' : YardState) (door door' : DoorState I O) (written now : Option (List ℕ)) (before after : Counts) (status : ℕ) → Type 0
+  abbrev pub ServeIsComplete : (same others unread : Type 0) (port conns : ℕ) (acls acls' : Option (List ℕ)) (words words' : ℕ → ℕ) (yard yard' : YardState) (door door' : DoorState I O) (written now : Option (List ℕ)) (before after : FaultCounts) (status : ℕ) → Type 0
   ServeIsComplete same others unread port conns acls acls' words words' yard yard' door door' written now before after status =
       (Serves state to_come serves same port conns acls acls' words words' yard yard' door door' written now status × others) ⊎ WantsMemory unread written now status
       → HasCauses before after status → NoneRose before after

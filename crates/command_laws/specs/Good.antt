@@ -69,7 +69,7 @@ pub record GoodYard (yard : YardState) : Type 0 where
   pub names : GoodNames (yard.reads 1)
 
 -- The counts of faults of what a command uses of the outside.
-pub record Counts : Type 0 where
+pub record FaultCounts : Type 0 where
   pub acls : ℕ
   pub input : ℕ
   pub out : ℕ
@@ -77,7 +77,7 @@ pub record Counts : Type 0 where
   pub door : ℕ
 
 -- none of them rose
-pub record NoneRose (before after : Counts) : Type 0 where
+pub record NoneRose (before after : FaultCounts) : Type 0 where
   pub acls : ¬ Rose before.acls after.acls
   pub input : ¬ Rose before.input after.input
   pub out : ¬ Rose before.out after.out
@@ -85,7 +85,7 @@ pub record NoneRose (before after : Counts) : Type 0 where
   pub door : ¬ Rose before.door after.door
 
 -- a status that tells of a fault comes only if a count of that kind rose
-pub record HasCauses (before after : Counts) (status : ℕ) : Type 0 where
+pub record HasCauses (before after : FaultCounts) (status : ℕ) : Type 0 where
   pub read : status ≡ 7 → Rose before.input after.input ⊎ Rose before.acls after.acls
   pub write : status ≡ 8 → Rose before.out after.out
   pub store : status ≡ 5 → Rose before.store after.store

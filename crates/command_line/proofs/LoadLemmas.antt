@@ -13,7 +13,7 @@ use Rattle.clap_lines.specs.Orders.{IsMistake, order_at}
 use Rattle.clap_lines.specs.declared.told.OrderFault.{OrderFault}
 use Rattle.clap_lines.proofs.OrderLemmas.{refused_by_clap}
 use Rattle.command_line.specs.Line as line
-use Rattle.command_line.specs.Orders.{Answers, HasRightCount, IsRightCount, Names, conns_at, count_at, in_range, line_fault, load_order, number_at, order_named, places_at, port_at, serve_order}
+use Rattle.command_line.specs.Orders.{HasRightCount, IsOrderOf, IsRightCount, Names, conns_at, count_at, in_range, line_fault, load_order, number_at, order_named, places_at, port_at, serve_order}
 use Rattle.command_line.specs.declared.order.Order.{Order}
 use Rattle.command_line.specs.declared.order.Order.TheVariants.{Replay, Pipe, Serve, Load, Help, Version}
 use Rattle.command_line.proofs.NumberLemmas.{IsNumberWord, IsRefusedWord, number_at-word, number_word, other_number}
@@ -82,7 +82,7 @@ entered_count (Some command) count e = by (bytes_eq command.0 (codes "serve")) (
     by false false false true e = cc
     by false false false false e = cc
 
-right_count : (order : Order) (words : List Text) → Answers order words → HasRightCount order
+right_count : (order : Order) (words : List Text) → IsOrderOf order words → HasRightCount order
 right_count Replay words answers = tt
 right_count Pipe words answers = tt
 right_count (Serve port conns places) words answers = tt
@@ -92,7 +92,7 @@ right_count (Load count) words (inr (inr version)) = absurd version.0
 right_count (Help text) words answers = tt
 right_count (Version text) words answers = tt
 
-pub counted_from : (r : Result Order OrderFault) (words : List Text) → IfOk r (λ o. Answers o words) → IfOk r HasRightCount
+pub counted_from : (r : Result Order OrderFault) (words : List Text) → IfOk r (λ o. IsOrderOf o words) → IfOk r HasRightCount
 counted_from r words answers = IfOk-weaker r _ _ (λ order is. right_count order words is) answers
 
 pub named_count : (count : ℕ) (words : List Text) → Names (Load count) words → IsRightCount count

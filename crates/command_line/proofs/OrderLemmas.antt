@@ -1,14 +1,15 @@
 -- The orders that the words of the commands name.
-use Rattle.std.proofs.Common.{refl, codes, List, [], ◌∷◌, ◌≡◌, inl, inr, ap, sym, arith}
-use Rattle.std.specs.Prelude.{Option, None, Some, Result}
+use Rattle.std.proofs.Common.{refl, codes, List, [], ◌∷◌, ◌≡◌, inl, inr, ap, sym, subst, arith}
+use Rattle.std.specs.Prelude.{Option, None, Some, Result, MatchResult}
 use Rattle.std.proofs.lemmas.Fmt.{decimal_digit}
 use Rattle.std.specs.Option.{ok_or}
-use Rattle.clap.specs.Words.{subcommand_of, Text}
+use Rattle.clap.specs.Words.{Row, Text}
 use Rattle.clap.proofs.OnLiterals.{clap_on_literals}
 use Rattle.clap_lines.specs.Orders.{order_at}
 use Rattle.clap_lines.specs.declared.told.OrderFault.{OrderFault}
 use Rattle.clap_lines.specs.declared.told.OrderFault.TheVariants.{Usage}
-use Rattle.clap_lines.proofs.OrderLemmas.{IsPlainApp, Ordered}
+use Rattle.clap_lines.proofs.OrderLemmas.{IsPlainApp}
+use Rattle.clap_lines.proofs.ParseLemmas.{IsKnownApp}
 use Rattle.command_line.specs.Line as line
 use Rattle.command_line.specs.Orders.{IsSpelled, Names, order_named}
 use Rattle.command_line.specs.declared.order.Order.{Order}
@@ -19,6 +20,10 @@ use Rattle.command_line.proofs.SpellingLemmas.{Reading, reads_places, serve_read
 -- the program has no command `help`, and wants a command
 pub plain : IsPlainApp line.hkms
 plain = record { quiet = refl; required = refl }
+
+pub known : IsKnownApp line.hkms
+unfolding clap_on_literals
+known = record { simple = refl; free = refl; plain = plain }
 
 -- the commands alone
 
@@ -88,6 +93,10 @@ abbrev pub OrderRead : Type 0
 OrderRead = Result Order OrderFault
 
 -- what clap's reading without a fault comes to
-pub ordered : (o : Option Order) (words : List Text) → o ≡ order_at order_named (subcommand_of line.hkms words) → Ordered line.hkms order_named words (ok_or o Usage)
-ordered (Some order) words is = sym is
-ordered None words is = λ usage. sym is
+pub ordered : (r : OrderRead) (o : Option Order) (entered : Option (Text × List Row)) → r ≡ ok_or o Usage → o ≡ order_at order_named entered
+    → MatchResult r (λ order. order_at order_named entered ≡ Some order) (λ fault. fault ≡ Usage → order_at order_named entered ≡ None)
+ordered r o entered value is = subst (λ (x : OrderRead). MatchResult x (λ order. order_at order_named entered ≡ Some order) (λ fault. fault ≡ Usage → order_at order_named entered ≡ None)) (sym value) (by o is)
+  where
+    by : (o : Option Order) → o ≡ order_at order_named entered → MatchResult (ok_or o Usage) (λ order. order_at order_named entered ≡ Some order) (λ fault. fault ≡ Usage → order_at order_named entered ≡ None)
+    by (Some order) is = sym is
+    by None is = λ usage. sym is

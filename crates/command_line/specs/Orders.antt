@@ -91,17 +91,17 @@ HasRightCount (Load count) = IsRightCount count
 HasRightCount _ = Unit {0}
 
 -- the order is what the words say
-abbrev pub Answers : Order → List Text → Type 0
-Answers order words = lines.Answers line.hkms order_named IsHelp IsVersion order words
+abbrev pub IsOrderOf : Order → List Text → Type 0
+IsOrderOf order words = lines.AnswersWords line.hkms order_named IsHelp IsVersion order words
 
 -- the words that give an option its number: the name and the number, or one word of both with `=` between them
-abbrev pub IsGiven : Text → ℕ → List Text → Type 0
-IsGiven name number words = (words ≡ name ∷ decimal number ∷ []) ⊎ (words ≡ (name ++ 61 ∷ decimal number) ∷ [])
+abbrev pub GivesNumber : Text → ℕ → List Text → Type 0
+GivesNumber name number words = (words ≡ name ∷ decimal number ∷ []) ⊎ (words ≡ (name ++ 61 ∷ decimal number) ∷ [])
 
 -- the words of an option with this number: none if it is the number of an absent option, or those that give it
 abbrev pub IsOption : Text → ℕ → ℕ → ℕ → List Text → Type 0
 IsOption name absent most number words =
-    ((words ≡ []) × (number ≡ absent)) ⊎ ((1 ≤ number) × (number ≤ most) × IsGiven name number words)
+    ((words ≡ []) × (number ≡ absent)) ⊎ ((1 ≤ number) × (number ≤ most) × GivesNumber name number words)
 
 -- the word `serve` and the words of the port and of the number of connections, in either order
 abbrev pub IsServe : List Text → List Text → List Text → Type 0

@@ -2,7 +2,7 @@
 ghost use Rattle.std.specs.Prelude.{◌≡◌, ◌≢◌, ◌⊎◌, ◌≤◌, IfErr, IfOk, IfSome, Ok, Err, map};
 ghost use Rattle.clap.specs.Words.{first_of, found_of, kind_of, rows_of, subcommand_rows_of};
 ghost use Rattle.clap_lines.specs.Orders.{HasMistake, IsMistake, IsShown, ShownAs, order_at};
-ghost use Rattle.command_line.specs.Orders.{Answers, FindsHelp, FindsVersion, HasRightCount, IsHelp, IsSpelled, IsVersion, in_range, line_fault, count_at, number_at, number_or, order_named};
+ghost use Rattle.command_line.specs.Orders.{FindsHelp, FindsVersion, HasRightCount, IsHelp, IsOrderOf, IsSpelled, IsVersion, in_range, line_fault, count_at, number_at, number_or, order_named};
 ghost use Rattle.command_line.specs.declared.order.Order.{Order as AnOrder};
 
 use crate::commands::hkms;
@@ -116,7 +116,7 @@ fn order_without_command(alloc: Global, error: &Error) -> Result<Order, OrderFau
 
 /// Does what `read_order` does, for words of any type.
 fn read<'a, S: AsStr>(alloc: Global, words: &'a [S]) -> Result<Order, OrderFault>
-    ensures ok { IfOk result (λ order. Answers order (map S.text words.entry.now)) }
+    ensures ok { IfOk result (λ order. IsOrderOf order (map S.text words.entry.now)) }
     ensures usage { IfErr result
         (λ fault. fault ≡ OrderFault.Usage → HasMistake (line_fault (map S.text words.entry.now))) }
 {
@@ -137,7 +137,7 @@ fn read<'a, S: AsStr>(alloc: Global, words: &'a [S]) -> Result<Order, OrderFault
 /// that `clap` finds decides.
 /// `OrderFault::NoMemory` may come in place of any other answer.
 pub fn read_order(alloc: Global, words: &[Text]) -> Result<Order, OrderFault>
-    ensures ok { IfOk result (λ order. Answers order words.now) }
+    ensures ok { IfOk result (λ order. IsOrderOf order words.now) }
     ensures usage { IfErr result
         (λ fault. fault ≡ OrderFault.Usage → IsMistake (line_fault words.now)) }
     ensures mistake { IsMistake (line_fault words.now) →

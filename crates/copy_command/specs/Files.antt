@@ -9,14 +9,14 @@ use Rattle.world_run.specs.Ledger.{Past}
 use Rattle.hk_runs.specs.Headline.{FromSoundFiles}
 use Rattle.clap_lines.specs.declared.told.OrderFault.{OrderFault}
 use Rattle.copy_command_line.specs.declared.order.CopyOrder.{CopyOrder}
-use Rattle.command_io.specs.Ends.{Refuses, ShowsText, WantsMemory}
+use Rattle.command_io.specs.Ends.{RefusesUsage, ShowsText, WantsMemory}
 use Rattle.copy_reads.specs.Runs.{ReadsCopies, ReadsCopiesKept, files}
-use Rattle.copy_runs.specs.Runs.{Clusters, RunsCopy, RunsCopyKept, Unused}
+use Rattle.copy_runs.specs.Runs.{Clusters, OnlyDiskUsed, RunsCopy, RunsCopyKept}
 use Rattle.copy_command.specs.Orders.{Obeys}
 
 -- all but the output is unchanged
 abbrev pub WritesAlone : {D V E U K W C A : Type 0} → Clusters D V E U K W C → Clusters D V E U K W C → A → A → Type 0
-WritesAlone old new acls acls' = (new.disk ≡ old.disk) × (acls' ≡ acls) × Unused old new
+WritesAlone old new acls acls' = (new.disk ≡ old.disk) × (acls' ≡ acls) × OnlyDiskUsed old new
 
 module _ {D V E U K W C A : Type 0} (of_out : sinks.Ghosts K) (old new : Clusters D V E U K W C) (acls acls' : A) where
   -- there is no memory to read the words
@@ -25,7 +25,7 @@ module _ {D V E U K W C A : Type 0} (of_out : sinks.Ghosts K) (old new : Cluster
 
   -- the words are refused, or there is no memory to read them
   abbrev pub RefusesWords : ℕ → Type 0
-  RefusesWords status = Refuses (WritesAlone old new acls acls') (of_out.written old.out) (of_out.written new.out) status ⊎ LacksMemory status
+  RefusesWords status = RefusesUsage (WritesAlone old new acls acls') (of_out.written old.out) (of_out.written new.out) status ⊎ LacksMemory status
 
   -- a text is shown, or there is no memory to read the words
   abbrev pub ShowsOwnText : ℕ → Type 0

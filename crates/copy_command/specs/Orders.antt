@@ -1,7 +1,7 @@
 -- What is done at an order.
 use Rattle.std.specs.Prelude.{ℕ, List, string_bytes, Option, Result, Ok, Err}
 use Rattle.clap.specs.Words.{Text}
-use Rattle.command_io.specs.Ends.{Refuses, Shows, WantsMemory}
+use Rattle.command_io.specs.Ends.{RefusesUsage, ShowsWith, WantsMemory}
 use Rattle.clap_lines.specs.declared.told.OrderFault.{OrderFault}
 use Rattle.clap_lines.specs.declared.told.OrderFault.TheVariants.{Usage, NoMemory}
 use Rattle.copy_command_line.specs.Orders.{Names}
@@ -12,9 +12,9 @@ use Rattle.copy_command_line.specs.declared.order.CopyOrder.TheVariants.{Copy, R
 abbrev pub Obeys : Result CopyOrder OrderFault → (List ℕ → List ℕ → Type 0) → (List ℕ → List ℕ → ℕ → ℕ → Type 0) → Type 0 → Option (List ℕ) → Option (List ℕ) → ℕ → Type 0
 Obeys (Ok (Copy source target)) copies reads same written now status = copies source target
 Obeys (Ok (Read user path from count)) copies reads same written now status = reads user path from count
-Obeys (Ok (Help text)) copies reads same written now status = same × Shows (string_bytes text) 0 written now status
-Obeys (Ok (Version text)) copies reads same written now status = same × Shows (string_bytes text) 0 written now status
-Obeys (Err Usage) copies reads same written now status = Refuses same written now status
+Obeys (Ok (Help text)) copies reads same written now status = same × ShowsWith (string_bytes text) 0 written now status
+Obeys (Ok (Version text)) copies reads same written now status = same × ShowsWith (string_bytes text) 0 written now status
+Obeys (Err Usage) copies reads same written now status = RefusesUsage same written now status
 Obeys (Err NoMemory) copies reads same written now status = WantsMemory same written now status
 
 -- for both paths of the copy that the words name

@@ -26,7 +26,7 @@ use Rattle.copy_reads.specs.Commands.{ReadsOpened}
 use Rattle.copy_runs.specs.Commands.{CopiesOnDisks}
 use Rattle.copy_runs.specs.Runs.{Clusters}
 use Rattle.copy_command.specs.Files.{LacksMemory}
-use Rattle.data_stream.specs.Runs.{Adds, Worked}
+use Rattle.data_stream.specs.Runs.{AddsEvent, Worked}
 use Rattle.data_stream.specs.Statuses.{IsRefusal, Reason, status_by}
 use Rattle.data_stream.specs.Statuses.{BadProperties, BadWords, Damaged, Done, NoMemory, ReadFailed, Refused, Spent, StoreFailed, TooLong, VaultFailed, WriteFailed}
 
@@ -65,7 +65,7 @@ pub record ReadRefused {E : Type 0} (s : Around E) (user path : List ℕ) (from 
   pub props : Props
   pub read : ReadsProperties s.acls s.acls' props
   pub worked : Worked props s.disk s.disk' s.words s.words'
-  pub range : ReadsOpened Adds props.sizes.batch user path from count (s.backup_of s.backup) (s.backup_of s.backup') [] worked.history s.copies s.copies' written now status
+  pub range : ReadsOpened AddsEvent props.sizes.batch user path from count (s.backup_of s.backup) (s.backup_of s.backup') [] worked.history s.copies s.copies' written now status
   pub refusal : IsRefusal range.how
 
 -- A reason is good; `refused` says that there was a refusal. Of a lack of memory nothing is said, and the words have no mistake.

@@ -1,7 +1,7 @@
 //! The command line.
 ghost use Rattle.std.specs.Prelude.{◌≡◌, ◌⊎◌, Err, string_bytes};
 ghost use Rattle.hk_base.specs.Faults.{Rose};
-ghost use Rattle.command_io.specs.Ends.{Shows};
+ghost use Rattle.command_io.specs.Ends.{ShowsWith};
 ghost use Rattle.clap_lines.specs.Orders.{IsMistake};
 ghost use Rattle.copy_command_line.specs.Orders.{FindsHelp, FindsVersion, line_fault};
 ghost use Rattle.raw_copy.specs.Copies.{VaultsFailed};
@@ -20,7 +20,7 @@ use std::alloc::Global;
 
 /// Writes a text and drops it. Returns 0, or 8 if the output fails.
 fn show_made<K: Sink>(out: &mut K, text: String) -> u8
-    ensures shows { Shows (string_bytes text) 0 (K.written out.old) (K.written out.new) result }
+    ensures shows { ShowsWith (string_bytes text) 0 (K.written out.old) (K.written out.new) result }
     ensures write { result ≡ 8 → Rose (K.faults out.old) (K.faults out.new) }
 {
     let status = show(out, text.as_bytes(), 0);

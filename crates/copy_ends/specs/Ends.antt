@@ -3,7 +3,7 @@ use Rattle.std.specs.Prelude.{◌⊎◌, ℕ, List, ◌++◌, codes, Option}
 use Rattle.std.specs.Fmt.{decimal}
 use Rattle.frame_log.specs.declared.fault.StartFault.{StartFault}
 use Rattle.frame_log.specs.declared.fault.StartFault.TheVariants as start
-use Rattle.command_io.specs.Ends.{Shows}
+use Rattle.command_io.specs.Ends.{ShowsWith}
 use Rattle.row_copies.specs.declared.walk.Copied.{Copied}
 
 abbrev pub copied_line : Copied → List ℕ
@@ -25,4 +25,4 @@ start_line start.Spent = codes "openings spent\n"
 
 -- the line was written with its status, or there was no memory for it
 abbrev pub ShowsLine : List ℕ → ℕ → Option (List ℕ) → Option (List ℕ) → ℕ → Type 0
-ShowsLine line own written now status = Shows line own written now status ⊎ Shows (codes "no memory\n") 6 written now status
+ShowsLine line own written now status = ShowsWith line own written now status ⊎ ShowsWith (codes "no memory\n") 6 written now status

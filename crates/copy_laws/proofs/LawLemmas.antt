@@ -17,7 +17,7 @@ use Rattle.prop_text.specs.declared.props.Props.{Props}
 use Rattle.name_core.proofs.SnapshotRows.{row-below}
 use Rattle.backup_names.specs.Ends.{row_shown}
 use Rattle.file_orders.specs.declared.open.ShownFile.{ShownFile}
-use Rattle.row_copies.specs.Copies.{AreCopies, HasBodyOf, Pairs}
+use Rattle.row_copies.specs.Copies.{AreCopies, HasBodyOf, PairsOfRows}
 use Rattle.world_run.specs.Ledger.{Draw, Past}
 use Rattle.world_run.specs.Linked.{OpensTo}
 use Rattle.world_run.specs.Promise.{edek_of}
@@ -44,7 +44,7 @@ pub record IsCopied (ys : List Entry) (p : List (List ℕ)) (row : Row) (bodies 
   pub body : is_dir row.kind ≡ false → copies copy.id ≡ bodies row.id
 
 module _ (p : List (List ℕ)) (row : Row) (bodies copies : ℕ → List ℕ) where
-  pub copied_at : (xs ys : List Entry) → row_at xs p ≡ Some row → AreCopies xs ys → Pairs (HasBodyOf bodies copies) xs ys → IsCopied ys p row bodies copies
+  pub copied_at : (xs ys : List Entry) → row_at xs p ≡ Some row → AreCopies xs ys → PairsOfRows (HasBodyOf bodies copies) xs ys → IsCopied ys p row bodies copies
   copied_at [] [] at are has = absurd cc
   copied_at [] (y ∷ ys) at are has = absurd are
   copied_at (x ∷ xs) [] at are has = absurd are

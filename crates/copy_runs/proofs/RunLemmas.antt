@@ -13,14 +13,14 @@ use Rattle.command_io.proofs.UsageLemmas.{report_is_no_usage}
 use Rattle.command_io.specs.Ends.{ended_by, ended_by_props}
 use Rattle.world_run.specs.Acknowledged.{LeavesBoth, RunBoth}
 use Rattle.world_run.specs.Drives.{Standing}
-use Rattle.world_run.specs.Keeps.{Begins, LeftByStarts}
+use Rattle.world_run.specs.Keeps.{BeginsFirstWorld, LeftByStarts}
 use Rattle.world_run.specs.Ledger.{Past}
 use Rattle.world_run.specs.Linked.{StartsSound}
 use Rattle.world_run.specs.World.{WorldState}
 use Rattle.world_events.specs.Events.{LeadsAt}
-use Rattle.world_rows.specs.Rows.{OnlyReads, table_of}
+use Rattle.world_rows.specs.Rows.{IsReadEvent, table_of}
 use Rattle.world_rows.proofs.ReadLemmas.{quiet}
-use Rattle.row_copies.specs.Copies.{Done, Steps, Then}
+use Rattle.row_copies.specs.Copies.{ChainOf, Done, Then}
 use Rattle.row_copies.specs.declared.walk.Copied.{Copied}
 use Rattle.raw_copy.specs.declared.backup.CopyFault.{CopyFault}
 use Rattle.raw_copy.specs.declared.backup.CopyFault.TheVariants.{End, Start}
@@ -31,25 +31,25 @@ use Rattle.hk_runs.specs.Headline.{NothingHappened}
 use Rattle.hk_runs.specs.Run.{History, Runs, behind, drawn_in, faults_after, world_after}
 use Rattle.hk_runs.specs.Steps.{HasLists}
 use Rattle.hk_runs.proofs.HeadlineLemmas.{Ends, Unmoved, unmoved_keeps, unopened_keeps}
-use Rattle.data_stream.specs.Runs.{Adds, last_world, world_before}
+use Rattle.data_stream.specs.Runs.{AddsEvent, last_world, world_before}
 use Rattle.data_stream.proofs.RunLemmas.{Opened, WorksAs, adds_on, begins_as, worked_keeps, worked_so}
 use Rattle.copy_runs.proofs.EndLemmas.{ended_done, ended_is_no_usage}
-use Rattle.copy_runs.specs.Commands.{ClosesCopy, CopiesByFile, CopiesFromWorld, CopiesOnDisks, CopiesUnder, CopyKept, CopyRefused, OnlyReadIn, ReadsAt, table_in}
+use Rattle.copy_runs.specs.Commands.{ClosesCopy, CopiesByFile, CopiesFromWorld, CopiesOnDisks, CopiesUnder, CopyKept, CopyRunRefused, OnlyReadIn, ReadsSourceAt, table_in}
 
 -- ---- the events
 
 -- each event that was added only reads
-history_reads : (now : ℕ) (y z : History) → Steps (ReadsOnceIn (Adds now)) y z → AllByRecursion (ReadsAt now) y → AllByRecursion (ReadsAt now) z
+history_reads : (now : ℕ) (y z : History) → ChainOf (ReadsOnceIn (AddsEvent now)) y z → AllByRecursion (ReadsSourceAt now) y → AllByRecursion (ReadsSourceAt now) z
 history_reads now y z Done all = all
-history_reads now y z (Then m n t (inl same)) all = subst (AllByRecursion (ReadsAt now)) (sym same) (history_reads now y m t all)
+history_reads now y z (Then m n t (inl same)) all = subst (AllByRecursion (ReadsSourceAt now)) (sym same) (history_reads now y m t all)
 history_reads now y z (Then m n t (inr (e, answer, only, adds))) all =
-    subst (AllByRecursion (ReadsAt now)) (sym adds.later_is) ((subst OnlyReads (sym adds.event_is) only, adds.now_is), history_reads now y m t all)
+    subst (AllByRecursion (ReadsSourceAt now)) (sym adds.later_is) ((subst IsReadEvent (sym adds.event_is) only, adds.now_is), history_reads now y m t all)
 
 none_more : (a b : ℕ) → a ≡ 0 → b ≡ 0 → a + b ≡ 0
 none_more a b e f = omega (arith, e, f)
 
 -- so none of them drew a word or changed the world
-only_read : (lines : List PropLine) (tells : Type 0) (first : WorldState) (words : ℕ → ℕ) (before now : ℕ) (history : History) → Runs lines tells first words before history → AllByRecursion (ReadsAt now) history → OnlyReadIn now first history
+only_read : (lines : List PropLine) (tells : Type 0) (first : WorldState) (words : ℕ → ℕ) (before now : ℕ) (history : History) → Runs lines tells first words before history → AllByRecursion (ReadsSourceAt now) history → OnlyReadIn now first history
 only_read lines tells first words before now [] runs all = record { events = tt; drawn = refl; same = refl }
 only_read lines tells first words before now (h ∷ earlier) runs all =
     let rest = only_read lines tells first words before now earlier runs.1 all.1 in
@@ -66,39 +66,39 @@ over_at from to ended vault vault' copies copies' backup backup' batch size t s 
     (subst (λ (x : NameTable). CopiesOver batch from to ended s x vault vault' copies copies' backup backup') f
     (subst (λ (x : NameTable). CopiesOver batch from to ended x t' vault vault' copies copies' backup backup') e over))
 
-module _ {D W : Type 0} (state : D → DiskState) (to_come : W → ℕ → ℕ) (props : Props) (old : DiskState) (v v' : Standing D W) (b : Begins props.sizes old (state v.disk) v.world) (moments : Tells old → LeavesBoth old (state v.disk) (LeftByStarts old))
+module _ {D W : Type 0} (state : D → DiskState) (to_come : W → ℕ → ℕ) (props : Props) (old : DiskState) (v v' : Standing D W) (b : BeginsFirstWorld props.sizes old (state v.disk) v.world) (moments : Tells old → LeavesBoth old (state v.disk) (LeftByStarts old))
     (run : RunBoth old (state v.disk)) (has : HasLists v.world props.lines) where
   abbrev o : Opened
   o = record { disk = state v.disk; services = v.world; words = to_come v.words }
 
   module _ {E : Type 0} (disk : E → DiskState) (batch : ℕ) (size : batch ≡ props.sizes.batch) (from to : List ℕ) (backup backup' : E) (vault vault' copies copies' : VaultState) where
     -- a history of the events, and what refused the copy in it
-    module _ (moment : ℕ) (read : Steps (ReadsOnceIn (LeadsAt state to_come moment)) v v') where
+    module _ (moment : ℕ) (read : ChainOf (ReadsOnceIn (LeadsAt state to_come moment)) v v') where
       abbrev Led : Result Copied CopyFault → History → Type 0
-      Led ended z = CopyRefused (Adds moment) disk batch from to ended (table_of v.world) vault copies [] z backup backup'
+      Led ended z = CopyRunRefused (AddsEvent moment) disk batch from to ended (table_of v.world) vault copies [] z backup backup'
 
-      history_of : (ended : Result Copied CopyFault) → CopyRefused (LeadsAt state to_come moment) disk batch from to ended (table_of v.world) vault copies v v' backup backup'
-          → (z : History) × Steps (ReadsOnceIn (Adds moment)) [] z × WorksAs state to_come props.lines o v' z × Led ended z
+      history_of : (ended : Result Copied CopyFault) → CopyRunRefused (LeadsAt state to_come moment) disk batch from to ended (table_of v.world) vault copies v v' backup backup'
+          → (z : History) × ChainOf (ReadsOnceIn (AddsEvent moment)) [] z × WorksAs state to_come props.lines o v' z × Led ended z
       history_of (Ok counts) refused =
-          nothing_refused (LeadsAt state to_come moment) (Adds moment) (WorksAs state to_come props.lines o) (adds_on state to_come props.lines o moment has) v v' read [] (begins_as state to_come props.lines v) (Led (Ok counts)) (λ z why is. absurd cc)
+          nothing_refused (LeadsAt state to_come moment) (AddsEvent moment) (WorksAs state to_come props.lines o) (adds_on state to_come props.lines o moment has) v v' read [] (begins_as state to_come props.lines v) (Led (Ok counts)) (λ z why is. absurd cc)
       history_of (Err (Start fault)) refused =
-          nothing_refused (LeadsAt state to_come moment) (Adds moment) (WorksAs state to_come props.lines o) (adds_on state to_come props.lines o moment has) v v' read [] (begins_as state to_come props.lines v) (Led (Err (Start fault))) (λ z why is. absurd cc)
+          nothing_refused (LeadsAt state to_come moment) (AddsEvent moment) (WorksAs state to_come props.lines o) (adds_on state to_come props.lines o moment has) v v' read [] (begins_as state to_come props.lines v) (Led (Err (Start fault))) (λ z why is. absurd cc)
       history_of (Err (End own)) refused =
-          let f = over_followed (LeadsAt state to_come moment) (Adds moment) (WorksAs state to_come props.lines o) (adds_on state to_come props.lines o moment has) v v' read [] (begins_as state to_come props.lines v)
+          let f = over_followed (LeadsAt state to_come moment) (AddsEvent moment) (WorksAs state to_come props.lines o) (adds_on state to_come props.lines o moment has) v v' read [] (begins_as state to_come props.lines v)
           disk batch from to (table_of v.world) vault copies backup backup' own (refused own refl) in (
             f.0,
             f.1,
             f.2,
             λ why is.
                 let same : own ≡ why = cc in
-                subst (RefusedFor (OverRefused (Adds moment) disk batch from to (table_of v.world) vault copies [] f.0 backup backup')) same f.3,
+                subst (RefusedFor (OverRefused (AddsEvent moment) disk batch from to (table_of v.world) vault copies [] f.0 backup backup')) same f.3,
           )
 
-    refused_at : (ended : Result Copied CopyFault) (moment : ℕ) (z : History) (t s : NameTable) → t ≡ s → CopyRefused (Adds moment) disk batch from to ended t vault copies [] z backup backup'
-        → CopyRefused (Adds moment) disk props.sizes.batch from to ended s vault copies [] z backup backup'
+    refused_at : (ended : Result Copied CopyFault) (moment : ℕ) (z : History) (t s : NameTable) → t ≡ s → CopyRunRefused (AddsEvent moment) disk batch from to ended t vault copies [] z backup backup'
+        → CopyRunRefused (AddsEvent moment) disk props.sizes.batch from to ended s vault copies [] z backup backup'
     refused_at ended moment z t s e refused =
-        subst (λ (n : ℕ). CopyRefused (Adds moment) disk n from to ended s vault copies [] z backup backup') size
-        (subst (λ (x : NameTable). CopyRefused (Adds moment) disk batch from to ended x vault copies [] z backup backup') e refused)
+        subst (λ (n : ℕ). CopyRunRefused (AddsEvent moment) disk n from to ended s vault copies [] z backup backup') size
+        (subst (λ (x : NameTable). CopyRunRefused (AddsEvent moment) disk batch from to ended x vault copies [] z backup backup') e refused)
 
     pub zone_ran : (ended : Result Copied CopyFault) (written now : Option (List ℕ)) (status : ℕ)
         → CopiesFromWorld state to_come disk v v' batch from to ended backup backup' vault vault' copies copies' → ClosesCopy ended written now status → ((why : FsEnd) → ended ≡ Err (End why) → IsCopyEnd why)

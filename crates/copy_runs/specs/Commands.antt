@@ -12,7 +12,7 @@ use Rattle.world_run.specs.Drives.{Standing}
 use Rattle.world_run.specs.Ledger.{Past}
 use Rattle.world_run.specs.World.{WorldState}
 use Rattle.world_events.specs.Events.{LeadsAt}
-use Rattle.world_rows.specs.Rows.{OnlyReads, table_of}
+use Rattle.world_rows.specs.Rows.{IsReadEvent, table_of}
 use Rattle.row_copies.specs.declared.walk.Copied.{Copied}
 use Rattle.raw_copy.specs.declared.backup.CopyFault.{CopyFault}
 use Rattle.raw_copy.specs.declared.backup.CopyFault.TheVariants.{End, Start}
@@ -21,19 +21,19 @@ use Rattle.raw_copy.specs.Refusals.{OverRefused, RefusedFor}
 use Rattle.hk_runs.specs.Headline.{Headline}
 use Rattle.hk_runs.specs.Run.{Happened, History, drawn_in, world_after}
 use Rattle.data_stream.specs.Commands.{CannotOpen, RefusesProperties}
-use Rattle.data_stream.specs.Ends.{Closes}
-use Rattle.data_stream.specs.Runs.{Adds, Worked, last_world, world_before}
+use Rattle.data_stream.specs.Ends.{ClosesWith}
+use Rattle.data_stream.specs.Runs.{AddsEvent, Worked, last_world, world_before}
 use Rattle.copy_ends.specs.Ends.{ShowsLine, copied_line, start_line, start_status}
 
 -- ---- the events of the first cluster
 
 -- the event reads entries, or the metadata of a key, as the superuser, at this moment
-abbrev pub ReadsAt : ℕ → Happened → Type 0
-ReadsAt now h = OnlyReads h.event × (h.now ≡ now)
+abbrev pub ReadsSourceAt : ℕ → Happened → Type 0
+ReadsSourceAt now h = IsReadEvent h.event × (h.now ≡ now)
 
 -- All events of a history only read, at one moment. No random word was drawn, and the world is as it was.
 pub record OnlyReadIn (now : ℕ) (first : WorldState) (history : History) : Type 0 where
-  pub events : AllByRecursion (ReadsAt now) history
+  pub events : AllByRecursion (ReadsSourceAt now) history
   pub drawn : drawn_in history ≡ 0
   pub same : world_after first history ≡ first
 
@@ -42,8 +42,8 @@ abbrev pub table_in : WorldState → NameTable
 table_in w = w.names.names.table
 
 -- if a copy was refused, it was by one of these
-abbrev pub CopyRefused : {Y E : Type 0} → Leading Y → (E → DiskState) → ℕ → (from to : List ℕ) → Result Copied CopyFault → NameTable → (vault copies : VaultState) (y z : Y) (backup backup' : E) → Type 0
-CopyRefused others disk batch from to ended t vault copies y z backup backup' = (why : FsEnd) → ended ≡ Err (End why) → RefusedFor (OverRefused others disk batch from to t vault copies y z backup backup') why
+abbrev pub CopyRunRefused : {Y E : Type 0} → Leading Y → (E → DiskState) → ℕ → (from to : List ℕ) → Result Copied CopyFault → NameTable → (vault copies : VaultState) (y z : Y) (backup backup' : E) → Type 0
+CopyRunRefused others disk batch from to ended t vault copies y z backup backup' = (why : FsEnd) → ended ≡ Err (End why) → RefusedFor (OverRefused others disk batch from to t vault copies y z backup backup') why
 
 -- Events of a world that only read happened, at some moment, and a zone of it was copied. `batch` is the size of batches of the namesystem
 -- that gets the copy.
@@ -51,7 +51,7 @@ abbrev pub CopiesFromWorld : {D W E : Type 0} → (D → DiskState) → (W → �
     → (backup backup' : E) (vault vault' copies copies' : VaultState) → Type 0
 CopiesFromWorld state to_come disk a b batch from to ended backup backup' vault vault' copies copies' =
     (moment : ℕ) × OnlyRead state to_come moment a b × CopiesOver batch from to ended (table_of a.world) (table_of b.world) vault vault' copies copies' (disk backup) (disk backup')
-    × CopyRefused (LeadsAt state to_come moment) disk batch from to ended (table_of a.world) vault copies a b backup backup'
+    × CopyRunRefused (LeadsAt state to_come moment) disk batch from to ended (table_of a.world) vault copies a b backup backup'
 
 -- ---- the last line
 
@@ -59,7 +59,7 @@ CopiesFromWorld state to_come disk a b batch from to ended backup backup' vault 
 abbrev pub ClosesCopy : Result Copied CopyFault → Option (List ℕ) → Option (List ℕ) → ℕ → Type 0
 ClosesCopy (Ok counts) written now status = ShowsLine (copied_line counts) 0 written now status
 ClosesCopy (Err (Start fault)) written now status = ShowsLine (start_line fault) (start_status fault) written now status
-ClosesCopy (Err (End how)) written now status = Closes how written now status
+ClosesCopy (Err (End how)) written now status = ClosesWith how written now status
 
 -- ---- both
 
@@ -73,7 +73,7 @@ pub record CopiesOnDisks {E : Type 0} (disk : E → DiskState) (props : Props) (
   pub ended : Result Copied CopyFault
   pub copied : CopiesOver props.sizes.batch from to ended (table_in (world_before worked)) (table_in (last_world worked)) vault vault' copies copies' (disk backup) (disk backup')
   -- the newest event of the history was refused, or the other cluster refused, or a rule did
-  pub refused : CopyRefused (Adds moment) disk props.sizes.batch from to ended (table_in (world_before worked)) vault copies [] worked.history backup backup'
+  pub refused : CopyRunRefused (AddsEvent moment) disk props.sizes.batch from to ended (table_in (world_before worked)) vault copies [] worked.history backup backup'
   pub closes : ClosesCopy ended written now status
   -- with status 0 all was copied
   pub whole : status ≡ 0 → (counts : Copied) × (ended ≡ Ok counts)

@@ -2,7 +2,7 @@
 ghost use Rattle.std.specs.Prelude.{◌≡◌, ◌⊎◌, ◌≤◌, Err};
 ghost use Rattle.hk_base.specs.Faults.{Rose};
 ghost use Rattle.world_run.specs.World.{RunningWorld};
-ghost use Rattle.world_desk.specs.Worlds.{IsReady, standing};
+ghost use Rattle.world_desk.specs.Worlds.{IsDeskReady, standing};
 ghost use Rattle.raw_copy.specs.Copies.{IsCopyEnd, VaultsFailed};
 ghost use Rattle.copy_runs.specs.Commands.{CopiesFromWorld};
 ghost use Rattle.copy_runs.specs.Runs.{CopiesZoneUnder, KeepsCopy, RunsCopy, clusters};
@@ -34,7 +34,7 @@ fn copy_in<D: Disk, E: Disk, V: Vault, U: Vault, W: Words, C: Clock>(
     rand: &mut W,
     clock: &mut C,
 ) -> Result<Copied, CopyFault>
-    requires ready { IsReady D.state (standing disk.old world rand.old) }
+    requires ready { IsDeskReady D.state (standing disk.old world rand.old) }
     requires some { 1 ≤ batch }
     requires most { batch ≤ 1000 }
     ensures copies { (then : RunningWorld) × CopiesFromWorld D.state W.to_come E.state

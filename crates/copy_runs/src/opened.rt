@@ -1,7 +1,7 @@
 //! Copying a zone of a world that was opened.
 ghost use Rattle.std.specs.Prelude.{◌≡◌, ◌≤◌, Err};
 ghost use Rattle.hk_base.specs.Faults.{Rose};
-ghost use Rattle.world_desk.specs.Worlds.{IsReady, standing};
+ghost use Rattle.world_desk.specs.Worlds.{IsDeskReady, standing};
 ghost use Rattle.world_events.specs.Events.{LeadsAt};
 ghost use Rattle.world_rows.specs.Rows.{table_of};
 ghost use Rattle.raw_copy.specs.Copies.{CopiesOver, IsCopyEnd, OnlyRead, VaultsFailed};
@@ -35,7 +35,7 @@ pub fn copy_opened_over<D: Disk, E: Disk, V: Vault, U: Vault, W: Words>(
 ) -> Result<Copied, CopyFault>
     requires some { 1 ≤ batch }
     requires most { batch ≤ 1000 }
-    requires ready { IsReady D.state (standing disk.old world.old rand.old) }
+    requires ready { IsDeskReady D.state (standing disk.old world.old rand.old) }
     ensures copies { CopiesOver batch from.now to.now result (table_of world.old)
         (table_of world.new) (V.state vault.old) (V.state vault.new) (U.state copies.old)
         (U.state copies.new) (E.state backup.old) (E.state backup.new) }

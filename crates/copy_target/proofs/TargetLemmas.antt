@@ -23,18 +23,18 @@ use Rattle.file_orders.specs.Ends.{IsFailure}
 use Rattle.file_orders.specs.declared.ends.FsEnd.{FsEnd}
 use Rattle.file_orders.specs.declared.ends.FsEnd.TheVariants as end
 use Rattle.backup_names.specs.Ends.{IsFaultOfKeys, ShowsRefusal}
-use Rattle.backup_names.specs.Changes.{Changes, FinishesFile, IsAsked}
+use Rattle.backup_names.specs.Changes.{ChangesTable, FinishesFile, IsAsked}
 use Rattle.backup_names.specs.Orders.{IsSettled, OnlyAsks}
 use Rattle.backup_names.specs.Refusals.{AskRefused, CallRefused, FinishRefused, NoMemoryOr, info_at}
 use Rattle.backup_names.proofs.OrderLemmas.{ask_orders, no_orders}
 use Rattle.body_copies.specs.Copies.{CopiesBody, CopyFails}
 use Rattle.body_stream.specs.Vaults.{VaultState}
 use Rattle.row_copies.specs.Clusters.{CopiesFile, CopyState, EndsFor, KeepsCluster}
-use Rattle.row_copies.specs.Copies.{Steps, Done, Then}
+use Rattle.row_copies.specs.Copies.{ChainOf, Done, Then}
 use Rattle.row_copies.proofs.CauseLemmas.{ends-failed, ends-so}
 use Rattle.copy_target.specs.Targets.{BodyFails, DirectoryRefused, FileAskRefused, FileRefused, KnowsKey, LookRefused, NamesRefuse, PartsRefuse, RepliedTo, ZoneAskRefused, ZoneRefused}
 
-pub one_step : {X : Type 0} (follows : X → X → Type 0) (a b : X) → follows a b → Steps follows a b
+pub one_step : {X : Type 0} (follows : X → X → Type 0) (a b : X) → follows a b → ChainOf follows a b
 one_step follows a b f = Then a b Done f
 
 -- nothing is pending after a call that left the service as it was
@@ -42,7 +42,7 @@ pub still_settled : (r r' : RunningNames) → service_of r' ≡ service_of r →
 still_settled r r' same settled = ap (λ (s : NameService). s.pending) same ∙ settled
 
 -- or after a change that was done
-pub if_done : (result : Result (Unit {0}) FsEnd) (change : NameTable → NameTable → Type 0) (r r' : RunningNames) (A : Type 0) → Changes result change r r' → (IsSettled r' → A) → OnOk result A
+pub if_done : (result : Result (Unit {0}) FsEnd) (change : NameTable → NameTable → Type 0) (r r' : RunningNames) (A : Type 0) → ChangesTable result change r r' → (IsSettled r' → A) → OnOk result A
 if_done (Ok done) change r r' A changes gives = gives changes.1
 if_done (Err why) change r r' A changes gives = tt
 
@@ -50,7 +50,7 @@ asked_store : (user : Text) (a : Ask) (r r' : RunningNames) → OnlyAsks user a 
 asked_store user a r r' only = ⊎_elim (λ same. ap (λ (x : RunningNames). x.store) same) (λ asked. asked.0) only
 
 pub copied_file : (result : Result (Unit {0}) FsEnd) (from id : ℕ) (path : NPath) (edek : Option Edek) (old new : CopyState) (user : Text) (r mid r' : RunningNames)
-    → OnlyAsks user (ask.Create path) r mid → IsAsked (ask.Create path) mid id → Changes result (FinishesFile id edek mid) mid r'
+    → OnlyAsks user (ask.Create path) r mid → IsAsked (ask.Create path) mid id → ChangesTable result (FinishesFile id edek mid) mid r'
     → old.target.rows ≡ r.store.table.rows → new.target.rows ≡ r'.store.table.rows → KeepsCluster old.source new.source
     → CopiesBody from id old.source.bodies old.target.bodies new.target.bodies → OnOk result (CopiesFile from path edek old new)
 copied_file (Err why) from id path edek old new user r mid r' only asked changes was is source body = tt

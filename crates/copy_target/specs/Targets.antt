@@ -17,10 +17,10 @@ use Rattle.name_calls.specs.declared.paths.NPath.{NPath}
 use Rattle.name_core.specs.State.{RunningNames}
 use Rattle.inode_tree.specs.Rows.{Entry, entry_of}
 use Rattle.body_stream.specs.Vaults.{TellsBodies, VaultState}
-use Rattle.backup_names.specs.Orders.{HoldsNames, IsSettled, OrdersNames}
+use Rattle.backup_names.specs.Orders.{HoldsNamesystem, IsSettled, OrdersNames}
 use Rattle.backup_names.specs.Refusals.{AskRefused, CallRefused, FinishRefused, info_at}
 use Rattle.row_copies.specs.Clusters.{CopyState}
-use Rattle.row_copies.specs.Copies.{Steps}
+use Rattle.row_copies.specs.Copies.{ChainOf}
 use Rattle.copy_target.specs.declared.both.BothClusters.{BothClusters}
 
 -- the rows and bodies of both
@@ -32,10 +32,10 @@ state_of rows vault copies v = record {
 
 -- the source can be read, the disk holds the log of the target, and no operation of it is pending
 abbrev pub CanCopy : {S E V U : Type 0} → (S → Type 0) → (E → DiskState) → BothClusters S E V U → Type 0
-CanCopy ready disk v = ready v.source.now × HoldsNames (disk v.backup.now) v.names.now × IsSettled v.names.now
+CanCopy ready disk v = ready v.source.now × HoldsNamesystem (disk v.backup.now) v.names.now × IsSettled v.names.now
 
 -- they still hold what the others held
-pub record HoldsSame {S E V U : Type 0} (old new : BothClusters S E V U) : Type 0 where
+pub record HoldsSameClusters {S E V U : Type 0} (old new : BothClusters S E V U) : Type 0 where
   pub source : new.source.ghost_name ≡ old.source.ghost_name
   pub names : new.names.ghost_name ≡ old.names.ghost_name
   pub backup : new.backup.ghost_name ≡ old.backup.ghost_name
@@ -44,9 +44,9 @@ pub record HoldsSame {S E V U : Type 0} (old new : BothClusters S E V U) : Type 
   pub user : new.user.now ≡ old.user.now
 
 -- The source was read, and changes of the target were made.
-pub record WorksOn {S E V U : Type 0} (follows : S → S → Type 0) (disk : E → DiskState) (vault : V → VaultState) (copies : U → VaultState) (old new : BothClusters S E V U) : Type 0 where
-  pub holds : HoldsSame old new
-  pub source : Steps follows old.source.now new.source.now
+pub record WorksOnTarget {S E V U : Type 0} (follows : S → S → Type 0) (disk : E → DiskState) (vault : V → VaultState) (copies : U → VaultState) (old new : BothClusters S E V U) : Type 0 where
+  pub holds : HoldsSameClusters old new
+  pub source : ChainOf follows old.source.now new.source.now
   pub orders : OrdersNames (disk old.backup.now) (disk new.backup.now) old.names.now new.names.now
   pub vault_later : (vault old.vault.now).faults ≤ (vault new.vault.now).faults
   pub copies_later : (copies old.copies.now).faults ≤ (copies new.copies.now).faults

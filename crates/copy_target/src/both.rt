@@ -1,6 +1,6 @@
 //! Two clusters: one that is only read, and the namesystem of another over its disk.
 ghost use Rattle.std.specs.Prelude.{◌≡◌};
-ghost use Rattle.copy_target.specs.Targets.{BothRefuse, CanCopy, DiskFails, KnowsKey, VaultsFail, WorksOn, state_of};
+ghost use Rattle.copy_target.specs.Targets.{BothRefuse, CanCopy, DiskFails, KnowsKey, VaultsFail, WorksOnTarget, state_of};
 
 use backup_names::{
     ask_file, ask_zone, finish_file, finish_zone, is_directory, keeps_rules, make_directory,
@@ -69,7 +69,7 @@ impl<'a, S: SourceRows, E: Disk, V: Vault, U: Vault> Clusters for BothClusters<'
 
     ghost ready = { λ v. CanCopy S.ready E.state v };
 
-    ghost follows = { λ old new. WorksOn S.follows E.state V.state U.state old new };
+    ghost follows = { λ old new. WorksOnTarget S.follows E.state V.state U.state old new };
 
     ghost store_fails = { λ old new. DiskFails E.state old new };
 

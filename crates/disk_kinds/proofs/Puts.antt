@@ -4,7 +4,7 @@ use Rattle.std.proofs.lemmas.List.{take_at, drop_at, drop-drop, take_all, take_m
 use Rattle.hk_base.specs.Disk.{Image, CallOn, Torn, Cut, Follows, written}
 use Rattle.disk_kinds.specs.declared.mem_disk.Change.{Change}
 use Rattle.disk_kinds.specs.declared.mem_disk.Moment.{Moment}
-use Rattle.disk_kinds.specs.Past.{FileAt, MomentAt, moment_at, the_file, replaced, Tears, Torn_by, MayLeave, IsImageOf, WasImage, disk_state, Put, Left}
+use Rattle.disk_kinds.specs.Past.{FileAt, MomentAt, moment_at, the_file, replaced, Tears, Torn_by, MayLeave, IsImageOf, WasImage, disk_state, Put, LeftAlone}
 
 the_put : (file : ℕ) (f : FileAt) (m : MomentAt) → the_file (replaced file f m) file ≡ f
 the_put zero f m = refl
@@ -60,7 +60,7 @@ put_call file f old new old_past new_past faults later lt le put = record {
     kept_of t c (inl now) = inr (subst (λ (m : MomentAt). IsImageOf m c) (sym put.same) now)
     kept_of t c (inr was) = inl was
 
-pub left_call : (file : ℕ) (old new : MomentAt) (old_past new_past : List Moment) (faults later : ℕ) → faults ≤ later → Left old new old_past new_past → CallOn file (disk_state old old_past faults) (disk_state new new_past later)
+pub left_call : (file : ℕ) (old new : MomentAt) (old_past new_past : List Moment) (faults later : ℕ) → faults ≤ later → LeftAlone old new old_past new_past → CallOn file (disk_state old old_past faults) (disk_state new new_past later)
 left_call file old new old_past new_past faults later le left =
     subst (λ (m : MomentAt). CallOn file (disk_state old old_past faults) (disk_state m new_past later)) (sym left.now) (subst (λ (l : List Moment). CallOn file (disk_state old old_past faults) (disk_state old l later)) (sym left.past) (record {
       tells = refl;
@@ -116,15 +116,15 @@ pub cut_same : (size : ℕ) (old : List ℕ) → Cut size old old
 cut_same size old = record { no_shorter = omega arith; front = take_all (length old) old (omega arith) }
 
 -- calls that change nothing, before and after one that replaces a file
-pub left_left : {a b c : MomentAt} {pa pb pc : List Moment} → Left a b pa pb → Left b c pb pc → Left a c pa pc
+pub left_left : {a b c : MomentAt} {pa pb pc : List Moment} → LeftAlone a b pa pb → LeftAlone b c pb pc → LeftAlone a c pa pc
 left_left l k = record { past = k.past ∙ l.past; now = k.now ∙ l.now }
 
-pub left_put : (file : ℕ) (F : MomentAt → FileAt) (a b c : MomentAt) (pa pb pc : List Moment) → Left a b pa pb → Put file (F b) b c pb pc → Put file (F a) a c pa pc
+pub left_put : (file : ℕ) (F : MomentAt → FileAt) (a b c : MomentAt) (pa pb pc : List Moment) → LeftAlone a b pa pb → Put file (F b) b c pb pc → Put file (F a) a c pa pc
 left_put file F a b c pa pb pc left put =
     subst (λ (l : List Moment). Put file (F a) a c l pc) left.past (subst (λ (m : MomentAt). Put file (F m) m c pb pc) left.now put)
 
-pub put_left : {file : ℕ} {f : FileAt} {a b c : MomentAt} {pa pb pc : List Moment} → Put file f a b pa pb → Left b c pb pc → Put file f a c pa pc
+pub put_left : {file : ℕ} {f : FileAt} {a b c : MomentAt} {pa pb pc : List Moment} → Put file f a b pa pb → LeftAlone b c pb pc → Put file f a c pa pc
 put_left put left = record { kept = put.kept; same = put.same; past = left.past ∙ put.past; now = left.now ∙ put.now }
 
-pub left_leaves : (file : ℕ) (a b : MomentAt) (pa pb : List Moment) → Left a b pa pb → (c : List ℕ) → MayLeave (the_file b file) c → MayLeave (the_file a file) c
+pub left_leaves : (file : ℕ) (a b : MomentAt) (pa pb : List Moment) → LeftAlone a b pa pb → (c : List ℕ) → MayLeave (the_file b file) c → MayLeave (the_file a file) c
 left_leaves file a b pa pb left c h = subst (λ (m : MomentAt). MayLeave (the_file m file) c) left.now h

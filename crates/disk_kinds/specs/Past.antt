@@ -121,6 +121,6 @@ pub record Put (file : ℕ) (next : FileAt) (old new : MomentAt) (old_past new_p
   pub now : new ≡ replaced file next old
 
 -- nothing changed
-pub record Left (old new : MomentAt) (old_past new_past : List Moment) : Type 0 where
+pub record LeftAlone (old new : MomentAt) (old_past new_past : List Moment) : Type 0 where
   pub past : new_past ≡ old_past
   pub now : new ≡ old

@@ -16,7 +16,7 @@ use Rattle.edit_log.specs.declared.replay.PlacedOp.{PlacedOp}
 use Rattle.edit_log.specs.declared.reader.OpReader.{OpReader}
 use Rattle.edit_log.specs.Replay.{then_last, IsNext, IsNoNext}
 use Rattle.edit_log.specs.Log.{EditLogState, IsEditLogOf}
-use Rattle.edit_log.specs.Reader.{OpsAhead, IsFirstOp, IsNextOp, HasNoNextOp, IsOpened}
+use Rattle.edit_log.specs.Reader.{OpsAhead, IsFirstOp, IsNextOp, HasNoNextOp, IsReaderOpened}
 use Rattle.edit_log.proofs.Replays.{each_more, openings_more}
 
 -- the end of a log with one record more
@@ -69,7 +69,7 @@ still_stands_for old new edits ops same is tells s = record { spelled = s.spelle
 
 -- a log that was recovered, and a reader at its first record
 pub opened : (bytes : List ℕ) (disk : DiskState) (log : Log) (reader : OpReader) (payloads : List (List ℕ)) (gate : ℕ) → log_of 1 bytes ≡ Found payloads gate → Ahead disk reader.records payloads → Stands disk log payloads None → log.file ≡ 1 → reader.records.at ≡ 8 → reader.opening ≡ 0
-    → IsOpened bytes disk (record { log = log; pending = None }) reader
+    → IsReaderOpened bytes disk (record { log = log; pending = None }) reader
 opened bytes disk log reader payloads gate found ahead s is at none = record {
   payloads = payloads;
   gate = gate;

@@ -40,7 +40,7 @@ pub record HasNoNextOp (reader : OpReader) (done : List EditOp) (todo : List (Li
 
 -- A file of these bytes was recovered: the reader is at its first record, a crash leaves the log found, and if all records are
 -- operations, the log holds them.
-pub record IsOpened (bytes : List ℕ) (disk : DiskState) (edits : EditLogState) (reader : OpReader) : Type 0 where
+pub record IsReaderOpened (bytes : List ℕ) (disk : DiskState) (edits : EditLogState) (reader : OpReader) : Type 0 where
   pub payloads : List (List ℕ)
   pub gate : ℕ
   pub found : log_of 1 bytes ≡ Found payloads gate

@@ -36,13 +36,13 @@ impl EditLog {
     ghost use Rattle.hk_base.specs.Disk.{Tells, RunOn, LeavesOnly};
     ghost use Rattle.hk_base.specs.Faults.{Rose};
     ghost use Rattle.frame_log.specs.Format.{IsAsFound};
-    ghost use Rattle.frame_log.specs.Opens.{Recovers};
+    ghost use Rattle.frame_log.specs.Opens.{RecoversLog};
     ghost use Rattle.frame_log.specs.declared.fault.StoreRefusal.TheVariants as store;
     ghost use Rattle.frame_log.specs.declared.fault.StartFault.TheVariants as start;
     ghost use Rattle.edit_ops.specs.Records.{fits};
     ghost use Rattle.edit_ops.specs.declared.ops.EditOp.{EditOp};
     ghost use Rattle.edit_ops.specs.declared.ops.EditOp.TheVariants as op;
-    ghost use Rattle.edit_log.specs.Reader.{IsOpened};
+    ghost use Rattle.edit_log.specs.Reader.{IsReaderOpened};
     ghost use Rattle.edit_log.specs.Log.{DropsUnlessGateSet, IsEditLogOf, IsWithOrWithout, KeepsIfGateSet};
 
     /// Recovers a disk's edit log. The reader returns its operations one after another. Nothing is
@@ -57,14 +57,14 @@ impl EditLog {
     ) -> Result<(EditLog, OpReader), StartFault>
         ensures opened { IfOk result
             (λ r. Tells (D.state disk.old) →
-            IsOpened ((D.state disk.old).reads 1) (D.state disk.new) r.0 r.1) }
+            IsReaderOpened ((D.state disk.old).reads 1) (D.state disk.new) r.0 r.1) }
         ensures settled { IfOk result (λ r. (r.0.pending ≡ None) × (r.0.log.file ≡ 1)) }
         ensures spent { IsErrOf result start.Spent → ⊥ }
 
         // Whatever the result, after the first sync of the call a crash leaves the log found, or that log
         // with its end gate read as 1. A file that is not a log stays byte for byte. If that sync failed,
         // nothing was written.
-        ensures opens { Recovers 1 (D.state disk.old) (D.state disk.new)
+        ensures opens { RecoversLog 1 (D.state disk.old) (D.state disk.new)
             (λ fault. IsErrOf result fault) }
 
         // A crash at any moment leaves what it might have left before, or the log found, or that with

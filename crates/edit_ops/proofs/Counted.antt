@@ -4,7 +4,7 @@ use Rattle.std.specs.List.{AllByRecursion}
 use Rattle.std.proofs.lemmas.List.{append-nil, take_more}
 use Rattle.hk_base.specs.declared.records.RecordFault.{RecordFault}
 use Rattle.hk_base.specs.declared.records.RecordFault.TheVariants.{NoRecord, NoMemory}
-use Rattle.key_rows.specs.Reading.{◌>>=◌, Fails}
+use Rattle.key_rows.specs.Reading.{◌>>=◌, FailsToRead}
 use Rattle.key_rows.proofs.Births.{each_more}
 use Rattle.edit_ops.specs.Records.{list_field}
 use Rattle.edit_ops.specs.Reading.{Front, last, times_at}
@@ -68,6 +68,6 @@ pub all-more : {X : Type 0} (P : X → Type 0) (xs : List X) (k : ℕ) (x : X) �
 all-more P xs k x within is all p = subst (AllByRecursion P) (sym (one-more xs k x within is)) (each_more P (take k xs) x all p)
 
 -- what fails because another reading fails
-pub fails-too : {X Y : Type 0} (fault : RecordFault) (first : Option X) (whole : Option Y) → (first ≡ None → whole ≡ None) → Fails fault first → Fails fault whole
+pub fails-too : {X Y : Type 0} (fault : RecordFault) (first : Option X) (whole : Option Y) → (first ≡ None → whole ≡ None) → FailsToRead fault first → FailsToRead fault whole
 fails-too NoRecord first whole h none = h none
 fails-too NoMemory first whole h any = tt

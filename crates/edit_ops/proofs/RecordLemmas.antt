@@ -11,13 +11,13 @@ use Rattle.hk_base.specs.declared.records.RecordFault.{RecordFault}
 use Rattle.hk_base.specs.declared.records.RecordFault.TheVariants.{NoRecord, NoMemory}
 use Rattle.name_calls.specs.Paths.{is_absolute, is_component, is_relative, path_text, read_path, read_relative, starts_reserved}
 use Rattle.key_rows.specs.Records.{name_field, text_field}
-use Rattle.key_rows.specs.Reading.{◌>>=◌, Gives, number_at}
+use Rattle.key_rows.specs.Reading.{◌>>=◌, GivesRecord, number_at}
 use Rattle.key_rows.proofs.FieldLemmas.{IsBytes, IsBytes-rest, bind_some, bind_is, number_again, number_takes, wide16, wide32, wide64}
 use Rattle.edit_ops.specs.declared.files.FileKey.{FileKey}
 use Rattle.edit_ops.specs.declared.ops.EditOp.{EditOp}
 use Rattle.edit_ops.specs.declared.ops.EditOp.TheVariants.{Opened, Mkdir, File, Remove, Rename, Zone, Allow, Disallow, Snap, Unsnap, Submit, Update, Cancel, Complete}
 use Rattle.edit_ops.specs.Laws.{longest_record}
-use Rattle.edit_ops.specs.Records.{path_field, version_field, edek_field, opt_field, file_field, files_field, counted_field, spelling, fits, IsVersion, IsEdek, IsFileKey, IsOpt, HasSpelling}
+use Rattle.edit_ops.specs.Records.{path_field, version_field, edek_field, opt_field, file_field, files_field, counted_field, spelling, fits, IsKeyVersion, IsEdek, IsFileKey, IsOpt, HasSpelling}
 use Rattle.edit_ops.specs.Reading.{Whole, last, then_of, as_of, name_at, path_at, component_at, iv_at, sealed_at, path_and_name_of, as_version, version_of, encrypted, edek_at, edek_of, opt_edek_of, mark_at, opt_mark_at, file_key_at, files_of, counted_of, update_parts, update_of, checked, opened_of, mkdir_of, file_of, remove_of, rename_of, zone_of, allow_of, disallow_of, snap_of, unsnap_of, submit_of, cancel_of, complete_of, op_of}
 use Rattle.edit_ops.proofs.PathText.{path_takes, path_again, relative_takes, relative_again, relative_length, absolute_length, component_length}
 use Rattle.edit_ops.proofs.Parts.{IsFront, IsWhole, IsText, number_front, bytes_front, short_front, long_front, tested, front_whole, last_whole, then_whole, as_whole, opt_whole, pair_front, as_front, times_front, opt_front, checked_whole, AreAll}
@@ -49,10 +49,10 @@ is_sealed sealed = is_key_length (length sealed)
 sealed_front : IsFront sealed_at name_field (λ sealed. is_sealed sealed ≡ true)
 sealed_front = front_whole short_front (tested is_sealed) (λ sealed is. tt)
 
-version_whole : IsWhole version_of version_field IsVersion
+version_whole : IsWhole version_of version_field IsKeyVersion
 unfolding version_of
 version_whole =
-    as_whole as_version (λ v. (v.key, v.number)) version_field IsVersion
+    as_whole as_version (λ v. (v.key, v.number)) version_field IsKeyVersion
     (then_whole name_front (last_whole (number_front w16 (2 ^ 16) wide16)))
     (λ v. refl)
     (λ v is. (is.key, is.number))
@@ -147,7 +147,7 @@ snap_is = record { parts = path_and_name_whole; has = λ x is. is; spells = λ x
 unsnap_is : IsOp path_and_name_of snapshot_text IsSnapshot 10 (λ x. Unsnap x.0 x.1)
 unsnap_is = record { parts = path_and_name_whole; has = λ x is. is; spells = λ x. refl }
 
-submit_is : IsOp (then_of (number_at w64) (then_of path_at version_of)) (λ x. to_be_bytes w64 x.0 ++ (path_field x.1.0 ++ version_field x.1.1)) (λ x. (x.0 < 2 ^ 64) × (IsAbsolute x.1.0 × IsVersion x.1.1)) 11 (λ x. Submit x.0 x.1.0 x.1.1)
+submit_is : IsOp (then_of (number_at w64) (then_of path_at version_of)) (λ x. to_be_bytes w64 x.0 ++ (path_field x.1.0 ++ version_field x.1.1)) (λ x. (x.0 < 2 ^ 64) × (IsAbsolute x.1.0 × IsKeyVersion x.1.1)) 11 (λ x. Submit x.0 x.1.0 x.1.1)
 submit_is = record {
   parts = then_whole (number_front w64 (2 ^ 64) wide64) (then_whole path_front version_whole);
   has = λ x is. (is.0, is.1.0, is.1.1);
@@ -299,11 +299,11 @@ spelling_read (Complete session) has = op_again complete_is session has
 pub one_spelling : (a b : EditOp) → HasSpelling a → HasSpelling b → spelling a ≡ spelling b → a ≡ b
 one_spelling a b of_a of_b same = same_Some a b (sym (spelling_read a of_a) ∙ ap op_of same ∙ spelling_read b of_b)
 
-pub was_read : (bytes : List ℕ) (r : Result EditOp RecordFault) → IsBytes bytes → Gives (λ x. x) r (op_of bytes) → IfOk r (λ op. HasSpelling op × (bytes ≡ spelling op))
+pub was_read : (bytes : List ℕ) (r : Result EditOp RecordFault) → IsBytes bytes → GivesRecord (λ x. x) r (op_of bytes) → IfOk r (λ op. HasSpelling op × (bytes ≡ spelling op))
 was_read bytes (Ok op) fits given = op_read bytes op fits given
 was_read bytes (Err fault) fits given = tt
 
-pub was_none : (bytes : List ℕ) (r : Result EditOp RecordFault) → Gives (λ x. x) r (op_of bytes) → r ≡ Err NoRecord → (op : EditOp) → HasSpelling op → ¬ (bytes ≡ spelling op)
+pub was_none : (bytes : List ℕ) (r : Result EditOp RecordFault) → GivesRecord (λ x. x) r (op_of bytes) → r ≡ Err NoRecord → (op : EditOp) → HasSpelling op → ¬ (bytes ≡ spelling op)
 was_none bytes (Ok op) given e other has same = absurd cc
 was_none bytes (Err NoRecord) given e other has same =
     let no : None ≡ Some other = sym given ∙ ap op_of same ∙ spelling_read other has in
@@ -344,7 +344,7 @@ key_length n is = grind (arith, nat_tests)
 path_length : (path : List (List ℕ)) → is_absolute path ≡ true → length (path_field path) ≤ 8002
 path_length path is = omega (arith, length-append (to_be_bytes w16 (length (path_text path))) (path_text path), absolute_length path is)
 
-version_length : (version : Version) → IsVersion version → length (version_field version) ≤ 67
+version_length : (version : Version) → IsKeyVersion version → length (version_field version) ≤ 67
 version_length version is = omega (arith, name_length version.key is.key, length-append (name_field version.key) (to_be_bytes w16 version.number))
 
 edek_length : (edek : Encrypted) → IsEdek edek → length (edek_field edek) ≤ 116

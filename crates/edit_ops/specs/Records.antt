@@ -79,7 +79,7 @@ fits (Cancel session) = true
 fits (Complete session) = true
 
 -- a key's name, and a number below 65,536
-pub record IsVersion (version : Version) : Type 0 where
+pub record IsKeyVersion (version : Version) : Type 0 where
   pub key : IsKeyName version.key
   pub number : version.number < 2 ^ 16
 
@@ -110,7 +110,7 @@ HasSpelling (Allow path) = IsTrue (is_absolute path)
 HasSpelling (Disallow path) = IsTrue (is_absolute path)
 HasSpelling (Snap path name) = IsTrue (is_absolute path) × IsTrue (is_component name)
 HasSpelling (Unsnap path name) = IsTrue (is_absolute path) × IsTrue (is_component name)
-HasSpelling (Submit session path noted) = (session < 2 ^ 64) × IsTrue (is_absolute path) × IsVersion noted
+HasSpelling (Submit session path noted) = (session < 2 ^ 64) × IsTrue (is_absolute path) × IsKeyVersion noted
 HasSpelling (Update session failed mark files) =
     (session < 2 ^ 64) × (failed < 2 ^ 32) × IsOpt (λ p. IsTrue (is_relative p)) mark × (length files ≤ 1000) × AllByRecursion IsFileKey files
 HasSpelling (Cancel session) = session < 2 ^ 64

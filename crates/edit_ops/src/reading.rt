@@ -3,7 +3,7 @@ ghost use Rattle.std.specs.Prelude.{◌≡◌, ◌++◌, ◌∷◌, [], true, If
 ghost use Rattle.std.specs.Int.{w64};
 ghost use Rattle.hk_base.specs.declared.records.RecordFault.TheVariants as fault;
 ghost use Rattle.name_calls.specs.Paths.{is_component, read_path, read_relative};
-ghost use Rattle.key_rows.specs.Reading.{Gives, number_at};
+ghost use Rattle.key_rows.specs.Reading.{GivesRecord, number_at};
 ghost use Rattle.edit_ops.specs.Records.{HasSpelling, spelling};
 ghost use Rattle.edit_ops.specs.Reading.{allow_of, cancel_of, complete_of, component_of, counted_of, disallow_of, edek_at, edek_of, file_key_at, file_of, files_of, iv_of, last, mark_at, mkdir_of, op_of, opened_of, opt_edek_of, opt_mark_at, path_and_name_of, path_at, remove_of, rename_of, snap_of, submit_of, unsnap_of, update_of, version_of, zone_of};
 
@@ -16,7 +16,7 @@ use std::alloc::Global;
 
 /// Reads all of the bytes as an initialization vector.
 fn iv_of(bytes: &[u8]) -> Result<Iv, RecordFault>
-    ensures { Gives (λ x. x) result (iv_of bytes.now) }
+    ensures { GivesRecord (λ x. x) result (iv_of bytes.now) }
 {
     match Iv::read(bytes) {
         None => Err(RecordFault::NoRecord),
@@ -26,7 +26,7 @@ fn iv_of(bytes: &[u8]) -> Result<Iv, RecordFault>
 
 /// Reads all of the bytes as a path.
 fn path_of(alloc: Global, bytes: &[u8]) -> Result<NPath, RecordFault>
-    ensures { Gives (λ x. x) result (read_path bytes.now) }
+    ensures { GivesRecord (λ x. x) result (read_path bytes.now) }
 {
     match NPath::read(alloc, bytes) {
         Ok(path) => Ok(path),
@@ -37,7 +37,7 @@ fn path_of(alloc: Global, bytes: &[u8]) -> Result<NPath, RecordFault>
 
 #[tactic(auto, unfolding(crate::specs::Reading::path_at))]
 fn path_at(alloc: Global, bytes: &[u8]) -> Result<(NPath, &[u8]), RecordFault>
-    ensures { Gives (λ x. (x.0, x.1.now)) result (path_at bytes.now) }
+    ensures { GivesRecord (λ x. (x.0, x.1.now)) result (path_at bytes.now) }
 {
     let (text, rest) = cut_long(bytes)?;
     let path = path_of(alloc, text)?;
@@ -46,7 +46,7 @@ fn path_at(alloc: Global, bytes: &[u8]) -> Result<(NPath, &[u8]), RecordFault>
 
 /// Reads all of the bytes as the id of a re-encryption.
 fn last_session(bytes: &[u8]) -> Result<u64, RecordFault>
-    ensures { Gives (λ x. x) result (last (number_at w64) bytes.now) }
+    ensures { GivesRecord (λ x. x) result (last (number_at w64) bytes.now) }
 {
     let (session, rest) = u64_at(bytes)?;
     if !rest.is_empty() {
@@ -57,7 +57,7 @@ fn last_session(bytes: &[u8]) -> Result<u64, RecordFault>
 
 /// Reads all of the bytes as a path.
 fn last_path(alloc: Global, bytes: &[u8]) -> Result<NPath, RecordFault>
-    ensures { Gives (λ x. x) result (last path_at bytes.now) }
+    ensures { GivesRecord (λ x. x) result (last path_at bytes.now) }
 {
     let (path, rest) = path_at(alloc, bytes)?;
     if !rest.is_empty() {
@@ -79,7 +79,7 @@ fn text_of(alloc: Global, name: &[u8]) -> Result<Text, NoMemory>
 
 /// Reads all of the bytes as the name of a snapshot.
 fn component_of(alloc: Global, bytes: &[u8]) -> Result<Text, RecordFault>
-    ensures { Gives (λ x. x) result (component_of bytes.now) }
+    ensures { GivesRecord (λ x. x) result (component_of bytes.now) }
 {
     if !is_component(bytes) {
         return Err(RecordFault::NoRecord);
@@ -91,7 +91,7 @@ fn component_of(alloc: Global, bytes: &[u8]) -> Result<Text, RecordFault>
 /// Reads all of the bytes as a directory and the name of a snapshot of it.
 #[tactic(auto, unfolding(crate::specs::Reading::path_and_name_of))]
 fn path_and_name_of(alloc: Global, bytes: &[u8]) -> Result<(NPath, Text), RecordFault>
-    ensures { Gives (λ x. x) result (path_and_name_of bytes.now) }
+    ensures { GivesRecord (λ x. x) result (path_and_name_of bytes.now) }
 {
     let (path, rest) = path_at(alloc, bytes)?;
     let (name, rest) = cut_long(rest)?;
@@ -105,7 +105,7 @@ fn path_and_name_of(alloc: Global, bytes: &[u8]) -> Result<(NPath, Text), Record
 /// Reads all of the bytes as a version of a key.
 #[tactic(auto, unfolding(crate::specs::Reading::version_of))]
 fn version_of(bytes: &[u8]) -> Result<VersionName, RecordFault>
-    ensures { Gives (λ x. x) result (version_of bytes.now) }
+    ensures { GivesRecord (λ x. x) result (version_of bytes.now) }
 {
     let (key, rest) = cut_short(bytes)?;
     let key = name_of(key)?;
@@ -119,7 +119,7 @@ fn version_of(bytes: &[u8]) -> Result<VersionName, RecordFault>
 /// Reads an encrypted data encryption key from the start.
 #[tactic(auto, unfolding(crate::specs::Reading::edek_at))]
 fn edek_at(bytes: &[u8]) -> Result<(Edek, &[u8]), RecordFault>
-    ensures { Gives (λ x. (x.0, x.1.now)) result (edek_at bytes.now) }
+    ensures { GivesRecord (λ x. (x.0, x.1.now)) result (edek_at bytes.now) }
 {
     let (key, rest) = cut_short(bytes)?;
     let key = name_of(key)?;
@@ -140,7 +140,7 @@ fn edek_at(bytes: &[u8]) -> Result<(Edek, &[u8]), RecordFault>
 /// Reads all of the bytes as an encrypted data encryption key.
 #[tactic(auto, unfolding(crate::specs::Reading::edek_of))]
 fn edek_of(bytes: &[u8]) -> Result<Edek, RecordFault>
-    ensures { Gives (λ x. x) result (edek_of bytes.now) }
+    ensures { GivesRecord (λ x. x) result (edek_of bytes.now) }
 {
     match edek_at(bytes) {
         Err(fault) => Err(fault),
@@ -156,7 +156,7 @@ fn edek_of(bytes: &[u8]) -> Result<Edek, RecordFault>
 /// Reads all of the bytes as an optional encrypted data encryption key.
 #[tactic(auto, unfolding(crate::specs::Reading::opt_edek_of))]
 fn opt_edek_of(bytes: &[u8]) -> Result<Option<Edek>, RecordFault>
-    ensures { Gives (λ x. x) result (opt_edek_of bytes.now) }
+    ensures { GivesRecord (λ x. x) result (opt_edek_of bytes.now) }
 {
     match bytes {
         [0] => Ok(None),
@@ -170,7 +170,7 @@ fn opt_edek_of(bytes: &[u8]) -> Result<Option<Edek>, RecordFault>
 
 /// Reads all of the bytes as a path in a zone.
 fn relative_of(alloc: Global, bytes: &[u8]) -> Result<NPath, RecordFault>
-    ensures { Gives (λ x. x) result (read_relative bytes.now) }
+    ensures { GivesRecord (λ x. x) result (read_relative bytes.now) }
 {
     match NPath::read_relative(alloc, bytes) {
         Ok(path) => Ok(path),
@@ -182,7 +182,7 @@ fn relative_of(alloc: Global, bytes: &[u8]) -> Result<NPath, RecordFault>
 /// Reads a path in a zone from the start.
 #[tactic(auto, unfolding(crate::specs::Reading::mark_at))]
 fn mark_at(alloc: Global, bytes: &[u8]) -> Result<(NPath, &[u8]), RecordFault>
-    ensures { Gives (λ x. (x.0, x.1.now)) result (mark_at bytes.now) }
+    ensures { GivesRecord (λ x. (x.0, x.1.now)) result (mark_at bytes.now) }
 {
     let (text, rest) = cut_long(bytes)?;
     let path = relative_of(alloc, text)?;
@@ -192,7 +192,7 @@ fn mark_at(alloc: Global, bytes: &[u8]) -> Result<(NPath, &[u8]), RecordFault>
 /// Reads an optional path in a zone from the start.
 #[tactic(auto, unfolding(crate::specs::Reading::opt_mark_at))]
 fn opt_mark_at(alloc: Global, bytes: &[u8]) -> Result<(Option<NPath>, &[u8]), RecordFault>
-    ensures { Gives (λ x. (x.0, x.1.now)) result (opt_mark_at bytes.now) }
+    ensures { GivesRecord (λ x. (x.0, x.1.now)) result (opt_mark_at bytes.now) }
 {
     match bytes {
         [0, rest @ ..] => Ok((None, rest)),
@@ -207,7 +207,7 @@ fn opt_mark_at(alloc: Global, bytes: &[u8]) -> Result<(Option<NPath>, &[u8]), Re
 /// Reads a file and its encrypted key from the start.
 #[tactic(auto, unfolding(crate::specs::Reading::file_key_at))]
 fn file_key_at(bytes: &[u8]) -> Result<(FileKey, &[u8]), RecordFault>
-    ensures { Gives (λ x. (x.0, x.1.now)) result (file_key_at bytes.now) }
+    ensures { GivesRecord (λ x. (x.0, x.1.now)) result (file_key_at bytes.now) }
 {
     let (id, rest) = u64_at(bytes)?;
     match edek_at(rest) {
@@ -226,7 +226,7 @@ fn add(files: &mut Vec<FileKey>, file: FileKey) -> Result<(), NoMemory>
 
 /// Reads all of the bytes as `count` files and their encrypted keys.
 fn files_of(alloc: Global, count: u32, bytes: &[u8]) -> Result<Vec<FileKey>, RecordFault>
-    ensures { Gives (λ x. x.items) result (files_of count bytes.now) }
+    ensures { GivesRecord (λ x. x.items) result (files_of count bytes.now) }
 {
     let mut files = Vec::new(alloc);
     let mut left = bytes;
@@ -248,7 +248,7 @@ fn files_of(alloc: Global, count: u32, bytes: &[u8]) -> Result<Vec<FileKey>, Rec
 /// Reads all of the bytes as the number of files, and the files with their encrypted keys.
 #[tactic(auto, unfolding(crate::specs::Reading::counted_of))]
 fn counted_of(alloc: Global, bytes: &[u8]) -> Result<FileKeys, RecordFault>
-    ensures { Gives (λ x. x) result (counted_of bytes.now) }
+    ensures { GivesRecord (λ x. x) result (counted_of bytes.now) }
 {
     let (count, rest) = u32_at(bytes)?;
     let files = files_of(alloc, count, rest)?;
@@ -260,7 +260,7 @@ fn counted_of(alloc: Global, bytes: &[u8]) -> Result<FileKeys, RecordFault>
 
 #[tactic(auto, unfolding(crate::specs::Reading::opened_of))]
 fn opened_of(bytes: &[u8]) -> Result<EditOp, RecordFault>
-    ensures { Gives (λ x. x) result (opened_of bytes.now) }
+    ensures { GivesRecord (λ x. x) result (opened_of bytes.now) }
 {
     let (opening, rest) = u32_at(bytes)?;
     if !rest.is_empty() {
@@ -271,7 +271,7 @@ fn opened_of(bytes: &[u8]) -> Result<EditOp, RecordFault>
 
 #[tactic(auto, unfolding(crate::specs::Reading::mkdir_of))]
 fn mkdir_of(alloc: Global, bytes: &[u8]) -> Result<EditOp, RecordFault>
-    ensures { Gives (λ x. x) result (mkdir_of bytes.now) }
+    ensures { GivesRecord (λ x. x) result (mkdir_of bytes.now) }
 {
     let (id, rest) = u64_at(bytes)?;
     let (path, rest) = path_at(alloc, rest)?;
@@ -283,7 +283,7 @@ fn mkdir_of(alloc: Global, bytes: &[u8]) -> Result<EditOp, RecordFault>
 
 #[tactic(auto, unfolding(crate::specs::Reading::file_of))]
 fn file_of(alloc: Global, bytes: &[u8]) -> Result<EditOp, RecordFault>
-    ensures { Gives (λ x. x) result (file_of bytes.now) }
+    ensures { GivesRecord (λ x. x) result (file_of bytes.now) }
 {
     let (id, rest) = u64_at(bytes)?;
     let (path, rest) = path_at(alloc, rest)?;
@@ -293,7 +293,7 @@ fn file_of(alloc: Global, bytes: &[u8]) -> Result<EditOp, RecordFault>
 
 #[tactic(auto, unfolding(crate::specs::Reading::remove_of))]
 fn remove_of(alloc: Global, bytes: &[u8]) -> Result<EditOp, RecordFault>
-    ensures { Gives (λ x. x) result (remove_of bytes.now) }
+    ensures { GivesRecord (λ x. x) result (remove_of bytes.now) }
 {
     let path = last_path(alloc, bytes)?;
     Ok(EditOp::Remove { path })
@@ -301,7 +301,7 @@ fn remove_of(alloc: Global, bytes: &[u8]) -> Result<EditOp, RecordFault>
 
 #[tactic(auto, unfolding(crate::specs::Reading::rename_of))]
 fn rename_of(alloc: Global, bytes: &[u8]) -> Result<EditOp, RecordFault>
-    ensures { Gives (λ x. x) result (rename_of bytes.now) }
+    ensures { GivesRecord (λ x. x) result (rename_of bytes.now) }
 {
     let (path, rest) = path_at(alloc, bytes)?;
     let to = last_path(alloc, rest)?;
@@ -310,7 +310,7 @@ fn rename_of(alloc: Global, bytes: &[u8]) -> Result<EditOp, RecordFault>
 
 #[tactic(auto, unfolding(crate::specs::Reading::zone_of))]
 fn zone_of(alloc: Global, bytes: &[u8]) -> Result<EditOp, RecordFault>
-    ensures { Gives (λ x. x) result (zone_of bytes.now) }
+    ensures { GivesRecord (λ x. x) result (zone_of bytes.now) }
 {
     let (path, rest) = path_at(alloc, bytes)?;
     let (key, rest) = cut_short(rest)?;
@@ -323,7 +323,7 @@ fn zone_of(alloc: Global, bytes: &[u8]) -> Result<EditOp, RecordFault>
 
 #[tactic(auto, unfolding(crate::specs::Reading::allow_of))]
 fn allow_of(alloc: Global, bytes: &[u8]) -> Result<EditOp, RecordFault>
-    ensures { Gives (λ x. x) result (allow_of bytes.now) }
+    ensures { GivesRecord (λ x. x) result (allow_of bytes.now) }
 {
     let path = last_path(alloc, bytes)?;
     Ok(EditOp::Allow { path })
@@ -331,7 +331,7 @@ fn allow_of(alloc: Global, bytes: &[u8]) -> Result<EditOp, RecordFault>
 
 #[tactic(auto, unfolding(crate::specs::Reading::disallow_of))]
 fn disallow_of(alloc: Global, bytes: &[u8]) -> Result<EditOp, RecordFault>
-    ensures { Gives (λ x. x) result (disallow_of bytes.now) }
+    ensures { GivesRecord (λ x. x) result (disallow_of bytes.now) }
 {
     let path = last_path(alloc, bytes)?;
     Ok(EditOp::Disallow { path })
@@ -339,7 +339,7 @@ fn disallow_of(alloc: Global, bytes: &[u8]) -> Result<EditOp, RecordFault>
 
 #[tactic(auto, unfolding(crate::specs::Reading::snap_of))]
 fn snap_of(alloc: Global, bytes: &[u8]) -> Result<EditOp, RecordFault>
-    ensures { Gives (λ x. x) result (snap_of bytes.now) }
+    ensures { GivesRecord (λ x. x) result (snap_of bytes.now) }
 {
     let (path, name) = path_and_name_of(alloc, bytes)?;
     Ok(EditOp::Snap { path, name })
@@ -347,7 +347,7 @@ fn snap_of(alloc: Global, bytes: &[u8]) -> Result<EditOp, RecordFault>
 
 #[tactic(auto, unfolding(crate::specs::Reading::unsnap_of))]
 fn unsnap_of(alloc: Global, bytes: &[u8]) -> Result<EditOp, RecordFault>
-    ensures { Gives (λ x. x) result (unsnap_of bytes.now) }
+    ensures { GivesRecord (λ x. x) result (unsnap_of bytes.now) }
 {
     let (path, name) = path_and_name_of(alloc, bytes)?;
     Ok(EditOp::Unsnap { path, name })
@@ -355,7 +355,7 @@ fn unsnap_of(alloc: Global, bytes: &[u8]) -> Result<EditOp, RecordFault>
 
 #[tactic(auto, unfolding(crate::specs::Reading::submit_of))]
 fn submit_of(alloc: Global, bytes: &[u8]) -> Result<EditOp, RecordFault>
-    ensures { Gives (λ x. x) result (submit_of bytes.now) }
+    ensures { GivesRecord (λ x. x) result (submit_of bytes.now) }
 {
     let (session, rest) = u64_at(bytes)?;
     let (path, rest) = path_at(alloc, rest)?;
@@ -369,7 +369,7 @@ fn submit_of(alloc: Global, bytes: &[u8]) -> Result<EditOp, RecordFault>
 
 #[tactic(auto, unfolding(crate::specs::Reading::update_of))]
 fn update_of(alloc: Global, bytes: &[u8]) -> Result<EditOp, RecordFault>
-    ensures { Gives (λ x. x) result (update_of bytes.now) }
+    ensures { GivesRecord (λ x. x) result (update_of bytes.now) }
 {
     let (session, rest) = u64_at(bytes)?;
     let (changed, rest) = u32_at(rest)?;
@@ -389,7 +389,7 @@ fn update_of(alloc: Global, bytes: &[u8]) -> Result<EditOp, RecordFault>
 
 #[tactic(auto, unfolding(crate::specs::Reading::cancel_of))]
 fn cancel_of(bytes: &[u8]) -> Result<EditOp, RecordFault>
-    ensures { Gives (λ x. x) result (cancel_of bytes.now) }
+    ensures { GivesRecord (λ x. x) result (cancel_of bytes.now) }
 {
     let session = last_session(bytes)?;
     Ok(EditOp::Cancel { session })
@@ -397,7 +397,7 @@ fn cancel_of(bytes: &[u8]) -> Result<EditOp, RecordFault>
 
 #[tactic(auto, unfolding(crate::specs::Reading::complete_of))]
 fn complete_of(bytes: &[u8]) -> Result<EditOp, RecordFault>
-    ensures { Gives (λ x. x) result (complete_of bytes.now) }
+    ensures { GivesRecord (λ x. x) result (complete_of bytes.now) }
 {
     let session = last_session(bytes)?;
     Ok(EditOp::Complete { session })
@@ -405,7 +405,7 @@ fn complete_of(bytes: &[u8]) -> Result<EditOp, RecordFault>
 
 #[tactic(auto, unfolding(crate::specs::Reading::op_of))]
 fn op_of(alloc: Global, bytes: &[u8]) -> Result<EditOp, RecordFault>
-    ensures { Gives (λ x. x) result (op_of bytes.now) }
+    ensures { GivesRecord (λ x. x) result (op_of bytes.now) }
 {
     match bytes {
         [1, rest @ ..] => opened_of(rest),

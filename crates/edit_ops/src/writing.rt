@@ -5,7 +5,7 @@ ghost use Rattle.std.specs.List.{AllByRecursion};
 ghost use Rattle.hk_base.specs.Names.{IsKeyName};
 ghost use Rattle.name_calls.specs.Paths.{is_component, is_relative, names_text, path_text};
 ghost use Rattle.key_rows.specs.Records.{name_field, text_field};
-ghost use Rattle.edit_ops.specs.Records.{HasSpelling, IsEdek, IsFileKey, IsOpt, IsVersion, counted_field, edek_field, file_field, files_field, fits, opt_field, path_field, spelling, version_field};
+ghost use Rattle.edit_ops.specs.Records.{HasSpelling, IsEdek, IsFileKey, IsKeyVersion, IsOpt, counted_field, edek_field, file_field, files_field, fits, opt_field, path_field, spelling, version_field};
 
 use crate::files::{FileKey, FileKeys};
 use crate::ops::EditOp;
@@ -44,7 +44,7 @@ fn append_path(out: &mut ByteList, path: &NPath) -> Result<(), NoMemory>
 /// Appends a version of a key. If allocation fails, a prefix may have been appended.
 fn append_version(out: &mut ByteList, version: &VersionName) -> Result<(), NoMemory>
     ensures ok { OnOk result (out.new ≡ out.old ++ version_field version.now) }
-    ensures is_version { OnOk result (IsVersion version.now) }
+    ensures is_version { OnOk result (IsKeyVersion version.now) }
     ensures err { OnErr result (take (length out.old) out.new ≡ out.old) }
 {
     append_name(out, &version.key)?;
@@ -186,7 +186,7 @@ fn append_submit(
         out.old ++
         11 ∷ (to_be_bytes w64 session ++ (path_field path.now ++ version_field noted.now))) }
     ensures rule { OnOk result (is_relative path.now ≡ true) }
-    ensures is_version { OnOk result (IsVersion noted.now) }
+    ensures is_version { OnOk result (IsKeyVersion noted.now) }
     ensures err { OnErr result (take (length out.old) out.new ≡ out.old) }
 {
     append_front(out, 11, session, path)?;

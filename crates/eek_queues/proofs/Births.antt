@@ -8,7 +8,7 @@ use Rattle.hk_base.specs.declared.names.Edek.{Edek}
 use Rattle.eek_queues.specs.declared.order.QueuePlace.{QueuePlace}
 use Rattle.eek_queues.specs.Queues.{Queue, ready_in, has_queue, with_ready, set_ready, dropped, put_queue}
 use Rattle.eek_queues.specs.Order.{with_place, place_of, places_of}
-use Rattle.eek_queues.specs.Kept.{Rising}
+use Rattle.eek_queues.specs.Kept.{AreQueuesRising}
 use Rattle.eek_queues.proofs.Put.{all-put}
 use Rattle.eek_queues.proofs.Places.{all-at, all-so, with_place-two}
 
@@ -57,21 +57,21 @@ absent-dropped (q ∷ qs) birth h =
 
 -- ---- the queue at an index
 
-pub has-at : (qs : List Queue) (birth at : ℕ) (d : Queue) → Rising qs → at < length qs → (get_or qs at d).birth ≡ birth → has_queue qs birth ≡ true
+pub has-at : (qs : List Queue) (birth at : ℕ) (d : Queue) → AreQueuesRising qs → at < length qs → (get_or qs at d).birth ≡ birth → has_queue qs birth ≡ true
 has-at [] birth at d r b e = absurd (omega arith)
 has-at (q ∷ qs) birth zero d r b e = ap (λ t. cond t true (has_queue qs birth)) (eq-eqb q.birth birth e)
 has-at (q ∷ qs) birth (suc at) d r b e =
     let l : q.birth < (get_or qs at d).birth = all-at (λ x. q.birth < x.birth) qs at d r.0 (omega arith) in
     ap (λ t. cond t true (has_queue qs birth)) (greater q.birth birth _ l e) ∙ has-at qs birth at d r.1 (omega arith) e
 
-pub ready-at : (qs : List Queue) (birth at : ℕ) (d : Queue) → Rising qs → at < length qs → (get_or qs at d).birth ≡ birth → ready_in qs birth ≡ (get_or qs at d).ready
+pub ready-at : (qs : List Queue) (birth at : ℕ) (d : Queue) → AreQueuesRising qs → at < length qs → (get_or qs at d).birth ≡ birth → ready_in qs birth ≡ (get_or qs at d).ready
 ready-at [] birth at d r b e = absurd (omega arith)
 ready-at (q ∷ qs) birth zero d r b e = ap (λ t. cond t q.ready (ready_in qs birth)) (eq-eqb q.birth birth e)
 ready-at (q ∷ qs) birth (suc at) d r b e =
     let l : q.birth < (get_or qs at d).birth = all-at (λ x. q.birth < x.birth) qs at d r.0 (omega arith) in
     ap (λ t. cond t q.ready (ready_in qs birth)) (greater q.birth birth _ l e) ∙ ready-at qs birth at d r.1 (omega arith) e
 
-pub set-at : (qs : List Queue) (birth at : ℕ) (d : Queue) (ready : List Edek) → Rising qs → at < length qs → (get_or qs at d).birth ≡ birth → set qs at (record { birth = birth; ready = ready }) ≡ set_ready qs birth ready
+pub set-at : (qs : List Queue) (birth at : ℕ) (d : Queue) (ready : List Edek) → AreQueuesRising qs → at < length qs → (get_or qs at d).birth ≡ birth → set qs at (record { birth = birth; ready = ready }) ≡ set_ready qs birth ready
 set-at [] birth at d ready r b e = absurd (omega arith)
 set-at (q ∷ qs) birth zero d ready r b e =
     let new : Queue = record { birth = birth; ready = ready } in
@@ -134,7 +134,7 @@ birth-with_ready birth ready q = go (q.birth == birth) refl
     go true e = sym (eqb-true q.birth birth e)
     go false e = refl
 
-pub rising-set : (qs : List Queue) (birth : ℕ) (ready : List Edek) → Rising qs → Rising (set_ready qs birth ready)
+pub rising-set : (qs : List Queue) (birth : ℕ) (ready : List Edek) → AreQueuesRising qs → AreQueuesRising (set_ready qs birth ready)
 rising-set [] birth ready r = tt
 rising-set (q ∷ qs) birth ready r = (
   subst (λ (b : ℕ). AllByRecursion (λ x. b < x.birth) (set_ready qs birth ready)) (sym (birth-with_ready birth ready q))
@@ -150,23 +150,23 @@ all-dropped P (q ∷ qs) birth all = go (not (q.birth == birth)) (all-dropped P 
     go true ih = (all.0, ih)
     go false ih = ih
 
-pub rising-dropped : (qs : List Queue) (birth : ℕ) → Rising qs → Rising (dropped qs birth)
+pub rising-dropped : (qs : List Queue) (birth : ℕ) → AreQueuesRising qs → AreQueuesRising (dropped qs birth)
 rising-dropped [] birth r = tt
 rising-dropped (q ∷ qs) birth r = go (not (q.birth == birth)) (rising-dropped qs birth r.1)
   where
-    go : (t : Bool) → Rising (dropped qs birth) → Rising (cond t (q ∷ dropped qs birth) (dropped qs birth))
+    go : (t : Bool) → AreQueuesRising (dropped qs birth) → AreQueuesRising (cond t (q ∷ dropped qs birth) (dropped qs birth))
     go true ih = (all-dropped (λ x. q.birth < x.birth) qs birth r.0, ih)
     go false ih = ih
 
 above-is : (a b : ℕ) → nat_lt a b ≡ false → (a == b) ≡ false → b < a
 above-is a b h k = grind (arith, nat_tests)
 
-pub rising-put : (q : Queue) (qs : List Queue) → has_queue qs q.birth ≡ false → Rising qs → Rising (put_queue q qs)
+pub rising-put : (q : Queue) (qs : List Queue) → has_queue qs q.birth ≡ false → AreQueuesRising qs → AreQueuesRising (put_queue q qs)
 rising-put q [] n r = (tt, tt)
 rising-put q (x ∷ xs) n r = go (nat_lt x.birth q.birth) refl (absent-parts x xs q.birth n) (rising-put q xs)
   where
-    go : (t : Bool) → nat_lt x.birth q.birth ≡ t → ((x.birth == q.birth) ≡ false) × (has_queue xs q.birth ≡ false) → (has_queue xs q.birth ≡ false → Rising xs → Rising (put_queue q xs))
-        → Rising (cond t (x ∷ put_queue q xs) (q ∷ x ∷ xs))
+    go : (t : Bool) → nat_lt x.birth q.birth ≡ t → ((x.birth == q.birth) ≡ false) × (has_queue xs q.birth ≡ false) → (has_queue xs q.birth ≡ false → AreQueuesRising xs → AreQueuesRising (put_queue q xs))
+        → AreQueuesRising (cond t (x ∷ put_queue q xs) (q ∷ x ∷ xs))
     go true e p ih = (all-put (λ a b. nat_lt a.birth b.birth) (λ y. x.birth < y.birth) q xs (ltb-true x.birth q.birth e) r.0, ih p.1 r.1)
     go false e p ih =
         let l : q.birth < x.birth = above-is x.birth q.birth e p.0 in
@@ -174,7 +174,7 @@ rising-put q (x ∷ xs) n r = go (nat_lt x.birth q.birth) refl (absent-parts x x
 
 -- ---- the places of the low queues
 
-pub places-dropped : (n : ℕ) (qs : List Queue) (birth : ℕ) → Rising qs → has_queue qs birth ≡ true → places_of n qs ≡ with_place n (record { count = length (ready_in qs birth); birth = birth }) (places_of n (dropped qs birth))
+pub places-dropped : (n : ℕ) (qs : List Queue) (birth : ℕ) → AreQueuesRising qs → has_queue qs birth ≡ true → places_of n qs ≡ with_place n (record { count = length (ready_in qs birth); birth = birth }) (places_of n (dropped qs birth))
 places-dropped n [] birth r h = cc
 places-dropped n (q ∷ qs) birth r h = go (q.birth == birth) refl h (places-dropped n qs birth r.1)
   where
@@ -192,7 +192,7 @@ places-dropped n (q ∷ qs) birth r h = go (q.birth == birth) refl h (places-dro
         ap (with_place n (place_of q)) (ih k)
         ∙ with_place-two n (place_of q) (record { count = length (ready_in qs birth); birth = birth }) (places_of n (dropped qs birth))
 
-pub places-set : (n : ℕ) (qs : List Queue) (birth : ℕ) (ready : List Edek) → Rising qs → has_queue qs birth ≡ true → places_of n (set_ready qs birth ready) ≡ with_place n (record { count = length ready; birth = birth }) (places_of n (dropped qs birth))
+pub places-set : (n : ℕ) (qs : List Queue) (birth : ℕ) (ready : List Edek) → AreQueuesRising qs → has_queue qs birth ≡ true → places_of n (set_ready qs birth ready) ≡ with_place n (record { count = length ready; birth = birth }) (places_of n (dropped qs birth))
 places-set n qs birth ready r h =
     let has : has_queue (set_ready qs birth ready) birth ≡ true = has-set qs birth ready birth ∙ h in
     let is : ready_in (set_ready qs birth ready) birth ≡ ready = ready-set qs birth ready h in

@@ -7,7 +7,7 @@ use Rattle.std.proofs.lemmas.Bool.{ltb-false, ltb-true, le-ltb}
 use Rattle.eek_queues.specs.declared.order.QueuePlace.{QueuePlace}
 use Rattle.eek_queues.specs.Queues.{IsLowest, Queue, is_lower, lower_of, lowest, put, ready_in}
 use Rattle.eek_queues.specs.Order.{is_before, place_of, places_of}
-use Rattle.eek_queues.specs.Kept.{Rising}
+use Rattle.eek_queues.specs.Kept.{AreQueuesRising}
 use Rattle.eek_queues.proofs.Before.{before-along, before-back, before-self}
 use Rattle.eek_queues.proofs.Births.{has-at, ready-at}
 
@@ -125,7 +125,7 @@ no-fewer a x b y h = grind (arith, nat_tests)
 no-lesser : (a x b y : ℕ) → cond (y == x) (nat_lt b a) (nat_lt y x) ≡ false → y ≡ x → a ≤ b
 no-lesser a x b y h e = grind (arith, nat_tests)
 
-pub lowest-is : (n : ℕ) (qs : List Queue) (q : Queue) → Rising qs → lowest n qs ≡ Some q → IsLowest n qs q.birth
+pub lowest-is : (n : ℕ) (qs : List Queue) (q : Queue) → AreQueuesRising qs → lowest n qs ≡ Some q → IsLowest n qs q.birth
 lowest-is n qs q r h =
     let i : IsLow n qs q = is-low n qs q h in
     let there : (get_or qs i.index q).birth ≡ q.birth = ap (λ (x : Queue). x.birth) i.here in

@@ -7,7 +7,7 @@ use Rattle.std.proofs.lemmas.Bool.{both_ways}
 use Rattle.std.proofs.lemmas.Bool.Decides.{nat_tests}
 use Rattle.eek_queues.specs.declared.order.QueuePlace.{QueuePlace}
 use Rattle.eek_queues.specs.Queues.{Queue, put}
-use Rattle.eek_queues.specs.Order.{is_before, InOrder, with_place, place_of, places_of}
+use Rattle.eek_queues.specs.Order.{is_before, AreInPlaceOrder, with_place, place_of, places_of}
 use Rattle.eek_queues.proofs.Before.{before-self, before-back, before-along, before-either}
 use Rattle.eek_queues.proofs.Put.{Parted, all-put, put-insert, put-put, remove-put}
 
@@ -20,7 +20,7 @@ pub all-so : {X : Type 0} (P Q : X → Type 0) (xs : List X) → ((x : X) → P 
 all-so P Q [] f all = tt
 all-so P Q (x ∷ xs) f all = (f x all.0, all-so P Q xs f all.1)
 
-in_order-at : (ps : List QueuePlace) (i j : ℕ) (d : QueuePlace) → InOrder ps → i ≤ j → j < length ps → is_before (get_or ps j d) (get_or ps i d) ≡ false
+in_order-at : (ps : List QueuePlace) (i j : ℕ) (d : QueuePlace) → AreInPlaceOrder ps → i ≤ j → j < length ps → is_before (get_or ps j d) (get_or ps i d) ≡ false
 in_order-at [] i j d o l b = absurd (omega arith)
 in_order-at (p ∷ ps) zero zero d o l b = before-self p
 in_order-at (p ∷ ps) zero (suc j) d o l b = all-at (λ q. is_before q p ≡ false) ps j d o.0 (omega arith)
@@ -28,29 +28,29 @@ in_order-at (p ∷ ps) (suc i) zero d o l b = absurd (omega arith)
 in_order-at (p ∷ ps) (suc i) (suc j) d o l b = in_order-at ps i j d o.1 (omega arith) (omega arith)
 
 -- the places before a given place come first
-pub in_order-parts : (ps : List QueuePlace) (place : QueuePlace) → InOrder ps → IsPartitionedBy (λ p. is_before p place) ps
+pub in_order-parts : (ps : List QueuePlace) (place : QueuePlace) → AreInPlaceOrder ps → IsPartitionedBy (λ p. is_before p place) ps
 in_order-parts ps place o i j d l b h = go (is_before (get_or ps i d) place) refl
   where
     go : (t : Bool) → is_before (get_or ps i d) place ≡ t → t ≡ true
     go true e = refl
     go false e = absurd (both_ways (is_before (get_or ps j d) place) (before-along place (get_or ps i d) (get_or ps j d) e (in_order-at ps i j d o l b)) h)
 
-pub in_order-put : (place : QueuePlace) (ps : List QueuePlace) → InOrder ps → InOrder (put is_before place ps)
+pub in_order-put : (place : QueuePlace) (ps : List QueuePlace) → AreInPlaceOrder ps → AreInPlaceOrder (put is_before place ps)
 in_order-put place [] o = (tt, tt)
 in_order-put place (p ∷ ps) o = go (is_before p place) refl (in_order-put place ps o.1)
   where
-    go : (t : Bool) → is_before p place ≡ t → InOrder (put is_before place ps) → InOrder (cond t (p ∷ put is_before place ps) (place ∷ p ∷ ps))
+    go : (t : Bool) → is_before p place ≡ t → AreInPlaceOrder (put is_before place ps) → AreInPlaceOrder (cond t (p ∷ put is_before place ps) (place ∷ p ∷ ps))
     go true e ih = (all-put is_before (λ q. is_before q p ≡ false) place ps (before-back p place e) o.0, ih)
     go false e ih = ((e, all-so (λ q. is_before q p ≡ false) (λ q. is_before q place ≡ false) ps (λ q h. before-along place p q e h) o.0), o)
 
-pub in_order-with : (n : ℕ) (place : QueuePlace) (ps : List QueuePlace) → InOrder ps → InOrder (with_place n place ps)
+pub in_order-with : (n : ℕ) (place : QueuePlace) (ps : List QueuePlace) → AreInPlaceOrder ps → AreInPlaceOrder (with_place n place ps)
 in_order-with n place ps o = go (nat_lt place.count n)
   where
-    go : (t : Bool) → InOrder (cond t (put is_before place ps) ps)
+    go : (t : Bool) → AreInPlaceOrder (cond t (put is_before place ps) ps)
     go true = in_order-put place ps o
     go false = o
 
-pub in_order-places_of : (n : ℕ) (qs : List Queue) → InOrder (places_of n qs)
+pub in_order-places_of : (n : ℕ) (qs : List Queue) → AreInPlaceOrder (places_of n qs)
 in_order-places_of n [] = tt
 in_order-places_of n (q ∷ qs) = in_order-with n (place_of q) (places_of n qs) (in_order-places_of n qs)
 

@@ -11,8 +11,8 @@ use Rattle.hk_base.specs.declared.names.Edek.{Edek}
 use Rattle.eek_queues.specs.declared.order.QueuePlace.{QueuePlace}
 use Rattle.eek_queues.specs.declared.rings.Ring.{Ring}
 use Rattle.eek_queues.specs.Queues.{AllQueues, Queue, ready_in, has_queue, set_ready, dropped, put, put_queue}
-use Rattle.eek_queues.specs.Order.{Stands, is_before, with_place, place_of, places_of}
-use Rattle.eek_queues.specs.Kept.{IsKept, Rising, queue_of, queues_of}
+use Rattle.eek_queues.specs.Order.{StandsInOrder, is_before, with_place, place_of, places_of}
+use Rattle.eek_queues.specs.Kept.{AreQueuesKept, AreQueuesRising, queue_of, queues_of}
 use Rattle.eek_queues.proofs.Put.{length-put, map-put, put-insert}
 use Rattle.eek_queues.proofs.Places.{all-at, in_order-places_of}
 use Rattle.eek_queues.proofs.Births.{above-absent, absent-dropped, absent-ready, has-at, other-is, places-dropped, places-put, places-set, ready-at, rising-dropped, rising-put, rising-set, set-at}
@@ -24,7 +24,7 @@ birth-at [] a k d all b = absurd (omega arith)
 birth-at (r ∷ rs) a zero d all b = all.0
 birth-at (r ∷ rs) a (suc k) d all b = birth-at rs a k d all.1 (omega arith)
 
-pub births-rise : (rings : List Ring) → Rising (queues_of rings) → IsNonDecreasingBy (λ r. r.birth) rings
+pub births-rise : (rings : List Ring) → AreQueuesRising (queues_of rings) → IsNonDecreasingBy (λ r. r.birth) rings
 births-rise [] h i j d l b = absurd (omega arith)
 births-rise (r ∷ rs) h zero zero d l b = omega arith
 births-rise (r ∷ rs) h zero (suc j) d l b = omega (arith, birth-at rs r.birth j d h.0 (omega arith))
@@ -49,7 +49,7 @@ absent-past (r ∷ rs) birth h =
     ∙ absent-past rs birth (parted-next r rs birth (length rs) h)
 
 -- a birth whose place has another birth has no queue
-pub absent-place : (rings : List Ring) (birth at : ℕ) (d : Ring) → Rising (queues_of rings) → at < length rings → PartedAt rings birth at → ((get_or rings at d).birth ≡ birth → ⊥) → has_queue (queues_of rings) birth ≡ false
+pub absent-place : (rings : List Ring) (birth at : ℕ) (d : Ring) → AreQueuesRising (queues_of rings) → at < length rings → PartedAt rings birth at → ((get_or rings at d).birth ≡ birth → ⊥) → has_queue (queues_of rings) birth ≡ false
 absent-place [] birth at d h b p n = absurd (omega arith)
 absent-place (r ∷ rs) birth zero d h b p n =
     ap (λ t. cond t true (has_queue (queues_of rs) birth)) (other-is r.birth birth n)
@@ -61,7 +61,7 @@ absent-place (r ∷ rs) birth (suc at) d h b p n =
 -- ---- the ring at an index
 
 pub record IsAt (rings : List Ring) (birth at : ℕ) (ring : Ring) : Type 0 where
-  pub rising : Rising (queues_of rings)
+  pub rising : AreQueuesRising (queues_of rings)
   pub within : at < length rings
   pub here : ring ≡ get_or rings at ring
   pub its_birth : ring.birth ≡ birth
@@ -88,7 +88,7 @@ module _ (rings : List Ring) (birth at : ℕ) (ring : Ring) (h : IsAt rings birt
       ∙ (λ i. set (queues_of rings) at (record { birth = e i; ready = new.ready.items }))
       ∙ set-at (queues_of rings) birth at (queue_of ring) new.ready.items h.rising inside birth-there
 
-remove-rings : (rings : List Ring) (birth at : ℕ) (d : Ring) → Rising (queues_of rings) → at < length rings → (get_or rings at d).birth ≡ birth → queues_of (remove rings at) ≡ dropped (queues_of rings) birth
+remove-rings : (rings : List Ring) (birth at : ℕ) (d : Ring) → AreQueuesRising (queues_of rings) → at < length rings → (get_or rings at d).birth ≡ birth → queues_of (remove rings at) ≡ dropped (queues_of rings) birth
 remove-rings [] birth at d h b e = absurd (omega arith)
 remove-rings (r ∷ rs) birth zero d h b e =
     sym (ap (λ t. cond (not t) (queue_of r ∷ dropped (queues_of rs) birth) (dropped (queues_of rs) birth)) (eq-eqb r.birth birth e)
@@ -109,10 +109,10 @@ insert-ring rings at new b p =
     ∙ map-put (λ (q r : Queue). nat_lt q.birth r.birth) queue_of new rings
 
 -- what `find` and an index give
-pub found : (rings : List Ring) (birth at : ℕ) (ring : Ring) → Rising (queues_of rings) → at < length rings → ring ≡ get_or rings at ring → ((d : Ring) → (get_or rings at d).birth ≡ birth) → IsAt rings birth at ring
+pub found : (rings : List Ring) (birth at : ℕ) (ring : Ring) → AreQueuesRising (queues_of rings) → at < length rings → ring ≡ get_or rings at ring → ((d : Ring) → (get_or rings at d).birth ≡ birth) → IsAt rings birth at ring
 found rings birth at ring r b e f = record { rising = r; within = b; here = e; its_birth = ap (λ (x : Ring). x.birth) e ∙ f ring }
 
-pub has-found : (rings : List Ring) (birth at : ℕ) → Rising (queues_of rings) → at < length rings → ((d : Ring) → (get_or rings at d).birth ≡ birth) → has_queue (queues_of rings) birth ≡ true
+pub has-found : (rings : List Ring) (birth at : ℕ) → AreQueuesRising (queues_of rings) → at < length rings → ((d : Ring) → (get_or rings at d).birth ≡ birth) → has_queue (queues_of rings) birth ≡ true
 has-found [] birth at h b f = absurd (omega arith)
 has-found (r ∷ rs) birth at h b f =
     has-at (queues_of (r ∷ rs)) birth at (queue_of r) h (omega (arith, length-map (r ∷ rs) queue_of, b))
@@ -208,7 +208,7 @@ fewer-dropped (q ∷ qs) birth h = go (q.birth == birth) h (fewer-dropped qs bir
 
 -- ---- the invariant
 
-module _ (size n : ℕ) (rings : List Ring) (places : List QueuePlace) (spare : ℕ) (k : IsKept size n rings places spare) where
+module _ (size n : ℕ) (rings : List Ring) (places : List QueuePlace) (spare : ℕ) (k : AreQueuesKept size n rings places spare) where
   pub room-at : (birth at : ℕ) (ring : Ring) → IsAt rings birth at ring → ring.ready.capacity ≡ size
   room-at birth at ring h = ap (λ (r : Ring). r.ready.capacity) h.here ∙ all-at (λ r. r.ready.capacity ≡ size) rings at ring k.sized h.within
 
@@ -217,7 +217,7 @@ module _ (size n : ℕ) (rings : List Ring) (places : List QueuePlace) (spare : 
       k.order ∙ places-dropped n (queues_of rings) birth k.rising h ∙ (λ i. with_place n (record { count = sym e i; birth = birth }) (places_of n (dropped (queues_of rings) birth)))
 
   -- the queue of a birth has its place in the order, with the number of its ready keys
-  pub stands : (birth count : ℕ) → has_queue (queues_of rings) birth ≡ true → count ≡ length (ready_in (queues_of rings) birth) → Stands n (record { count = count; birth = birth }) places spare
+  pub stands : (birth count : ℕ) → has_queue (queues_of rings) birth ≡ true → count ≡ length (ready_in (queues_of rings) birth) → StandsInOrder n (record { count = count; birth = birth }) places spare
   stands birth count h e =
       record {
         others = places_of n (dropped (queues_of rings) birth);
@@ -227,35 +227,35 @@ module _ (size n : ℕ) (rings : List Ring) (places : List QueuePlace) (spare : 
       }
 
   pub kept-set : (birth at : ℕ) (ring new : Ring) (count : ℕ) (n' : ℕ) (places' : List QueuePlace) (spare' : ℕ) → IsAt rings birth at ring → new.birth ≡ birth → new.ready.capacity ≡ size → count ≡ length new.ready.items
-      → n' ≡ n → places' ≡ with_place n (record { count = count; birth = birth }) (places_of n (dropped (queues_of rings) birth)) → spare ≤ spare' → IsKept size n' (set rings at new) places' spare'
+      → n' ≡ n → places' ≡ with_place n (record { count = count; birth = birth }) (places_of n (dropped (queues_of rings) birth)) → spare ≤ spare' → AreQueuesKept size n' (set rings at new) places' spare'
   kept-set birth at ring new count n' places' spare' h b c e m p s =
       let is : queues_of (set rings at new) ≡ set_ready (queues_of rings) birth new.ready.items = set-ring rings birth at ring h new b in
       let order : places' ≡ places_of n (queues_of (set rings at new)) =
       p ∙ (λ i. with_place n (record { count = e i; birth = birth }) (places_of n (dropped (queues_of rings) birth)))
       ∙ sym (places-set n (queues_of rings) birth new.ready.items k.rising (has-ring rings birth at ring h)) ∙ ap (places_of n) (sym is) in
       record {
-        rising = subst Rising (sym is) (rising-set (queues_of rings) birth new.ready.items k.rising);
+        rising = subst AreQueuesRising (sym is) (rising-set (queues_of rings) birth new.ready.items k.rising);
         sized = all-set (λ r. r.ready.capacity ≡ size) rings at new c k.sized;
         order = order ∙ ap (λ (x : ℕ). places_of x (queues_of (set rings at new))) (sym m);
         room = omega (arith, length-set rings at new, k.room, s);
       }
 
-  pub kept-remove : (birth at : ℕ) (ring : Ring) (n' : ℕ) (places' : List QueuePlace) (spare' : ℕ) → IsAt rings birth at ring → n' ≡ n → places' ≡ places_of n (dropped (queues_of rings) birth) → spare ≤ spare' → IsKept size n' (remove rings at) places' spare'
+  pub kept-remove : (birth at : ℕ) (ring : Ring) (n' : ℕ) (places' : List QueuePlace) (spare' : ℕ) → IsAt rings birth at ring → n' ≡ n → places' ≡ places_of n (dropped (queues_of rings) birth) → spare ≤ spare' → AreQueuesKept size n' (remove rings at) places' spare'
   kept-remove birth at ring n' places' spare' h m p s =
       let is : queues_of (remove rings at) ≡ dropped (queues_of rings) birth = remove-ring rings birth at ring h in
       record {
-        rising = subst Rising (sym is) (rising-dropped (queues_of rings) birth k.rising);
+        rising = subst AreQueuesRising (sym is) (rising-dropped (queues_of rings) birth k.rising);
         sized = all-remove (λ r. r.ready.capacity ≡ size) rings at k.sized;
         order = p ∙ ap (places_of n) (sym is) ∙ ap (λ (x : ℕ). places_of x (queues_of (remove rings at))) (sym m);
         room = omega (arith, length-map (remove rings at) queue_of, length-map rings queue_of, ap length is, length-dropped (queues_of rings) birth, k.room, s);
       }
 
   pub kept-insert : (at : ℕ) (new : Ring) (n' : ℕ) (places' : List QueuePlace) (spare' : ℕ) → has_queue (queues_of rings) new.birth ≡ false → at ≤ length rings → PartedAt rings new.birth at → new.ready.capacity ≡ size
-      → n' ≡ n → places' ≡ with_place n (place_of (queue_of new)) places → suc (length rings) ≤ spare' → IsKept size n' (insert rings at new) places' spare'
+      → n' ≡ n → places' ≡ with_place n (place_of (queue_of new)) places → suc (length rings) ≤ spare' → AreQueuesKept size n' (insert rings at new) places' spare'
   kept-insert at new n' places' spare' h b part c m p s =
       let is : queues_of (insert rings at new) ≡ put_queue (queue_of new) (queues_of rings) = insert-ring rings at new b part in
       record {
-        rising = subst Rising (sym is) (rising-put (queue_of new) (queues_of rings) h k.rising);
+        rising = subst AreQueuesRising (sym is) (rising-put (queue_of new) (queues_of rings) h k.rising);
         sized = all-insert (λ r. r.ready.capacity ≡ size) rings at new c k.sized;
         order = p ∙ ap (with_place n (place_of (queue_of new))) k.order ∙ sym (places-put n (queue_of new) (queues_of rings)) ∙ ap (places_of n) (sym is) ∙ ap (λ (x : ℕ). places_of x (queues_of (insert rings at new))) (sym m);
         room = omega (arith, length-map (insert rings at new) queue_of, length-map rings queue_of, ap length is, length-put (λ (q r : Queue). nat_lt q.birth r.birth) (queue_of new) (queues_of rings), s);

@@ -8,9 +8,9 @@ abbrev pub is_before : QueuePlace → QueuePlace → Bool
 is_before a b = if a.count == b.count then nat_lt a.birth b.birth else nat_lt a.count b.count
 
 -- no place is before an earlier one
-abbrev pub InOrder : List QueuePlace → Type 0
-InOrder [] = Unit {0}
-InOrder (p ∷ ps) = AllByRecursion (λ q. is_before q p ≡ false) ps × InOrder ps
+abbrev pub AreInPlaceOrder : List QueuePlace → Type 0
+AreInPlaceOrder [] = Unit {0}
+AreInPlaceOrder (p ∷ ps) = AllByRecursion (λ q. is_before q p ≡ false) ps × AreInPlaceOrder ps
 
 -- the places with one more, if it is low
 abbrev pub with_place : ℕ → QueuePlace → List QueuePlace → List QueuePlace
@@ -25,8 +25,8 @@ places_of n [] = []
 places_of n (q ∷ qs) = with_place n (place_of q) (places_of n qs)
 
 -- the places are some others and this place, if it is low, and there is room for more than the others
-pub record Stands (n : ℕ) (place : QueuePlace) (places : List QueuePlace) (spare : ℕ) : Type 0 where
+pub record StandsInOrder (n : ℕ) (place : QueuePlace) (places : List QueuePlace) (spare : ℕ) : Type 0 where
   pub others : List QueuePlace
   pub is : places ≡ with_place n place others
-  pub order : InOrder others
+  pub order : AreInPlaceOrder others
   pub room : length others < spare

@@ -1,7 +1,7 @@
 //! The low queues, in the order in which they should be filled.
 ghost use Rattle.std.specs.Prelude.{◌≡◌, ◌<◌, ◌≤◌, [], List, length, slice_get, true, false, vec_capacity, OnOk};
 ghost use Rattle.std.specs.List.Sorted.{IsPartitionPoint};
-ghost use Rattle.eek_queues.specs.Order.{InOrder, Stands, is_before, with_place};
+ghost use Rattle.eek_queues.specs.Order.{AreInPlaceOrder, StandsInOrder, is_before, with_place};
 
 use hk_base::NoMemory;
 use std::alloc::Global;
@@ -66,7 +66,7 @@ impl FillOrder {
 
     /// Adds a queue at its place in the order if it is low. It does not allocate.
     pub fn enter(&mut self, place: QueuePlace)
-        requires order { InOrder self.old.places.items }
+        requires order { AreInPlaceOrder self.old.places.items }
         requires room { length self.old.places.items < vec_capacity self.old.places }
         ensures places { self.new.places.items ≡
             with_place self.old.limit place self.old.places.items }
@@ -81,7 +81,7 @@ impl FillOrder {
 
     /// Removes a queue from its place in the order if it is low. It does not allocate.
     pub fn leave(&mut self, place: QueuePlace)
-        requires { Stands self.old.limit place self.old.places.items
+        requires { StandsInOrder self.old.limit place self.old.places.items
             (vec_capacity self.old.places) }
         ensures places { (others : List QueuePlace) →
             self.old.places.items ≡ with_place self.old.limit place others →
@@ -97,7 +97,7 @@ impl FillOrder {
 
     /// Moves a queue from its place to another. It does not allocate.
     pub fn follow(&mut self, from: QueuePlace, to: QueuePlace)
-        requires { Stands self.old.limit from self.old.places.items (vec_capacity self.old.places) }
+        requires { StandsInOrder self.old.limit from self.old.places.items (vec_capacity self.old.places) }
         ensures places { (others : List QueuePlace) →
             self.old.places.items ≡ with_place self.old.limit from others →
             self.new.places.items ≡ with_place self.old.limit to others }
@@ -111,7 +111,7 @@ impl FillOrder {
 
 /// Returns how many places are before a place.
 fn place_in(places: &Vec<QueuePlace>, place: QueuePlace) -> usize
-    requires { InOrder places.now.items }
+    requires { AreInPlaceOrder places.now.items }
     ensures most { result ≤ length places.now.items }
     ensures parted { IsPartitionPoint (λ p. is_before p place ≡ true)
         (λ p. is_before p place ≡ false) places.now.items result }

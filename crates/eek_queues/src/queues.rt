@@ -28,7 +28,7 @@ pub struct Queues {
 impl Model for Queues {
     ghost use Rattle.std.specs.Prelude.{◌≡◌, min, vec_capacity};
     ghost use Rattle.eek_queues.specs.Queues.{AllQueues};
-    ghost use Rattle.eek_queues.specs.Kept.{IsKept, queues_of};
+    ghost use Rattle.eek_queues.specs.Kept.{AreQueuesKept, queues_of};
 
     ghost Value = { AllQueues };
 
@@ -36,7 +36,7 @@ impl Model for Queues {
         record { size = a.size; watermark = a.watermark; queues = queues_of a.rings.items } };
 
     ghost invariant = { λ a.
-        IsKept a.size a.order.limit a.rings.items a.order.places.items
+        AreQueuesKept a.size a.order.limit a.rings.items a.order.places.items
         (vec_capacity a.order.places) × (a.order.limit ≡ min a.watermark a.size) };
 }
 

@@ -2,7 +2,7 @@
 ghost use Rattle.std.specs.Prelude.{◌≡◌, ◌<◌, ◌≤◌, length, slice_index_or, nat_lt, true, false, IfNone, IfSome};
 ghost use Rattle.std.specs.List.Sorted.{IsPartitionPoint};
 ghost use Rattle.eek_queues.specs.Queues.{has_queue};
-ghost use Rattle.eek_queues.specs.Kept.{Rising, queues_of};
+ghost use Rattle.eek_queues.specs.Kept.{AreQueuesRising, queues_of};
 
 use circular_buffer::HeapCircularBuffer;
 use hk_base::Edek;
@@ -16,7 +16,7 @@ pub struct Ring {
 
 /// Returns how many rings have a smaller birth.
 pub fn place_of_birth(rings: &Vec<Ring>, birth: u64) -> usize
-    requires { Rising (queues_of rings.now.items) }
+    requires { AreQueuesRising (queues_of rings.now.items) }
     ensures most { result ≤ length rings.now.items }
     ensures parted { IsPartitionPoint (λ ring. nat_lt ring.birth birth ≡ true)
         (λ ring. nat_lt ring.birth birth ≡ false) rings.now.items result }
@@ -26,7 +26,7 @@ pub fn place_of_birth(rings: &Vec<Ring>, birth: u64) -> usize
 
 /// Returns the index of the ring with this birth.
 pub fn find(rings: &Vec<Ring>, birth: u64) -> Option<usize>
-    requires { Rising (queues_of rings.now.items) }
+    requires { AreQueuesRising (queues_of rings.now.items) }
     ensures none { IfNone result (has_queue (queues_of rings.now.items) birth ≡ false) }
     ensures within { IfSome result (λ at. at < length rings.now.items) }
     ensures birth { IfSome result

@@ -16,7 +16,7 @@ use Rattle.name_calls.specs.declared.calls.NameReply.TheVariants as reply
 use Rattle.file_orders.specs.Ends.{end_of_keys, end_of_names, end_of_refused}
 pub use Rattle.file_orders.specs.Ends.{IsFailure}
 use Rattle.file_orders.specs.Events.{Leading}
-use Rattle.file_orders.specs.Opening.{Decrypts, Draws, Finishes, Makes, Opens, OpensEdek, OpensShown, asked_in, dek_by, dek_in, finished_in, replied_in, shown_by, shown_in}
+use Rattle.file_orders.specs.Opening.{CreatesFile, Decrypts, Draws, FinishesCreate, OpensEdek, OpensFile, OpensShown, asked_in, dek_by, dek_in, finished_in, replied_in, shown_by, shown_in}
 use Rattle.file_orders.specs.declared.ends.FsEnd.{FsEnd}
 use Rattle.file_orders.specs.declared.ends.FsEnd.TheVariants as end
 use Rattle.file_orders.specs.declared.open.OpenFile.{OpenFile}
@@ -206,7 +206,7 @@ dek_fails (line.Refused why) = tt
 dek_fails line.Unknown = tt
 
 module _ {X : Type 0} (leads : Leading X) where
-  finishes_fail : (replied : Result ℕ FsEnd) (a b : X) (result : Option FsEnd) → Fails replied → Finishes leads replied a result b → FailsIf result
+  finishes_fail : (replied : Result ℕ FsEnd) (a b : X) (result : Option FsEnd) → Fails replied → FinishesCreate leads replied a result b → FailsIf result
   finishes_fail (Err why) a b result f (is, same) = subst FailsIf (sym is) f
   finishes_fail (Ok number) a b result f (answer, led, is) = subst FailsIf (sym is) (finished_fails answer)
 
@@ -214,7 +214,7 @@ module _ {X : Type 0} (leads : Leading X) where
   draws_fail (Err why) a b result f (is, same) = subst FailsIf (sym is) f
   draws_fail (Ok number) a b result f (answer, mid, led, more) = finishes_fail (replied_in answer) mid b result (replied_fails answer) more
 
-  pub makes_fail : (user path : List ℕ) (a b : X) (result : Option FsEnd) → Makes leads user path a result b → FailsIf result
+  pub makes_fail : (user path : List ℕ) (a b : X) (result : Option FsEnd) → CreatesFile leads user path a result b → FailsIf result
   makes_fail user path a b result (inl (answer, mid, led, more)) = draws_fail (asked_in answer) mid b result (asked_fails answer) more
   makes_fail user path a b result (inr (none, same)) = subst FailsIf (sym none) tt
 
@@ -231,7 +231,7 @@ module _ {X : Type 0} (leads : Leading X) where
   shown_fail user (Err why) a b result f (is, same) = subst Fails (sym is) f
   shown_fail user (Ok shown) a b result f opens = edek_fails user shown.id shown.edek a b result opens
 
-  pub opens_fail : (user path : List ℕ) (a b : X) (result : Result OpenFile FsEnd) → Opens leads user path a result b → Fails result
+  pub opens_fail : (user path : List ℕ) (a b : X) (result : Result OpenFile FsEnd) → OpensFile leads user path a result b → Fails result
   opens_fail user path a b result (inl (answer, mid, led, more)) = shown_fail user (shown_in answer) mid b result (shown_fails answer) more
   opens_fail user path a b result (inr (none, same)) = subst Fails (sym none) tt
 

@@ -6,9 +6,9 @@ use Rattle.hk_base.specs.declared.names.Edek.{Edek}
 use Rattle.hk_events.specs.declared.event.Event.{Event}
 use Rattle.hk_events.specs.declared.event.Line.{Line}
 use Rattle.body_stream.specs.Vaults.{VaultState}
-use Rattle.file_orders.specs.Bodies.{Puts, PutsUnless, Reads}
+use Rattle.file_orders.specs.Bodies.{Puts, PutsUnless, ReadsRange}
 use Rattle.file_orders.specs.Events.{Leading}
-use Rattle.file_orders.specs.Opening.{Decrypts, Draws, Finishes, Makes, Opens, OpensEdek, OpensShown, asked_in, replied_in, shown_in}
+use Rattle.file_orders.specs.Opening.{CreatesFile, Decrypts, Draws, FinishesCreate, OpensEdek, OpensFile, OpensShown, asked_in, replied_in, shown_in}
 use Rattle.file_orders.specs.declared.ends.FsEnd.{FsEnd}
 use Rattle.file_orders.specs.declared.open.OpenFile.{OpenFile}
 use Rattle.file_orders.specs.declared.open.ShownFile.{ShownFile}
@@ -27,7 +27,7 @@ module _ {X Y : Type 0} (leads : Leading X) (others : Leading Y) (R : X → Y �
   stays : (a b : X) (y : Y) → R a y → b ≡ a → R b y
   stays a b y r same = subst (λ (x : X). R x y) (sym same) r
 
-  finishes_so : (replied : Result ℕ FsEnd) (a b : X) (y : Y) (result : Option FsEnd) → R a y → Finishes leads replied a result b → FollowsTo R b (λ then. Finishes others replied y result then)
+  finishes_so : (replied : Result ℕ FsEnd) (a b : X) (y : Y) (result : Option FsEnd) → R a y → FinishesCreate leads replied a result b → FollowsTo R b (λ then. FinishesCreate others replied y result then)
   finishes_so (Err why) a b y result r (is, same) = record { then = y; did = (is, refl); follows = stays a b y r same }
   finishes_so (Ok number) a b y result r (answer, led, is) =
       let one = follow a b y _ answer r led in
@@ -40,7 +40,7 @@ module _ {X Y : Type 0} (leads : Leading X) (others : Leading Y) (R : X → Y �
       let two = finishes_so (replied_in answer) mid b one.0 result one.1.1 more in
       record { then = two.then; did = (answer, one.0, one.1.0, two.did); follows = two.follows }
 
-  makes_so : (user path : List ℕ) (a b : X) (y : Y) (result : Option FsEnd) → R a y → Makes leads user path a result b → FollowsTo R b (λ then. Makes others user path y result then)
+  makes_so : (user path : List ℕ) (a b : X) (y : Y) (result : Option FsEnd) → R a y → CreatesFile leads user path a result b → FollowsTo R b (λ then. CreatesFile others user path y result then)
   makes_so user path a b y result r (inl (answer, mid, led, more)) =
       let one = follow a mid y _ answer r led in
       let two = draws_so (asked_in answer) mid b one.0 result one.1.1 more in
@@ -63,7 +63,7 @@ module _ {X Y : Type 0} (leads : Leading X) (others : Leading Y) (R : X → Y �
   opens_shown_so user (Err why) a b y result r (is, same) = record { then = y; did = (is, refl); follows = stays a b y r same }
   opens_shown_so user (Ok shown) a b y result r opens = opens_edek_so user shown.id shown.edek a b y result r opens
 
-  opens_so : (user path : List ℕ) (a b : X) (y : Y) (result : Result OpenFile FsEnd) → R a y → Opens leads user path a result b → FollowsTo R b (λ then. Opens others user path y result then)
+  opens_so : (user path : List ℕ) (a b : X) (y : Y) (result : Result OpenFile FsEnd) → R a y → OpensFile leads user path a result b → FollowsTo R b (λ then. OpensFile others user path y result then)
   opens_so user path a b y result r (inl (answer, mid, led, more)) =
       let one = follow a mid y _ answer r led in
       let two = opens_shown_so user (shown_in answer) mid b one.0 result one.1.1 more in
@@ -84,8 +84,8 @@ module _ {X Y : Type 0} (leads : Leading X) (others : Leading Y) (R : X → Y �
       let two = unless_so p.made user path p.mid b one.then how left left' old new one.follows p.puts in
       record { then = two.then; did = record { mid = one.then; made = p.made; makes = one.did; puts = two.did }; follows = two.follows }
 
-  pub reads_so : (user path : List ℕ) (from count : ℕ) (a b : X) (y : Y) (how : FsEnd) (old new : VaultState) (written now : Option (List ℕ)) → R a y → Reads leads user path from count a how b old new written now
-      → FollowsTo R b (λ then. Reads others user path from count y how then old new written now)
+  pub reads_so : (user path : List ℕ) (from count : ℕ) (a b : X) (y : Y) (how : FsEnd) (old new : VaultState) (written now : Option (List ℕ)) → R a y → ReadsRange leads user path from count a how b old new written now
+      → FollowsTo R b (λ then. ReadsRange others user path from count y how then old new written now)
   reads_so user path from count a b y how old new written now r d =
       let one = opens_so user path a b y d.opened r d.opens in
       record { then = one.then; did = record { opened = d.opened; opens = one.did; sends = d.sends }; follows = one.follows }

@@ -9,7 +9,7 @@ use Rattle.file_orders.specs.declared.ends.FsEnd.TheVariants as end
 use Rattle.file_orders.specs.declared.open.OpenFile.{OpenFile}
 use Rattle.file_orders.specs.Ends.{end_of_body}
 use Rattle.file_orders.specs.Events.{Leading}
-use Rattle.file_orders.specs.Opening.{Makes, Opens}
+use Rattle.file_orders.specs.Opening.{CreatesFile, OpensFile}
 
 -- the input was put as the body of the file, to its end
 pub record PutWhole (file : OpenFile) (how : FsEnd) (left left' : Option (List ℕ)) (old new : VaultState) : Type 0 where
@@ -38,24 +38,24 @@ abbrev pub StoresFile : OpenFile → FsEnd → Option (List ℕ) → Option (Lis
 StoresFile file how left left' old new = PutWhole file how left left' old new ⊎ (PutCut file how left left' old new ⊎ NotPut file how left left' old new)
 
 -- neither the input nor the vault was used
-pub record Untouched (left left' : Option (List ℕ)) (old new : VaultState) : Type 0 where
+pub record UntouchedBody (left left' : Option (List ℕ)) (old new : VaultState) : Type 0 where
   pub unread : left' ≡ left
   pub same : new ≡ old
 
 abbrev pub Stores : Result OpenFile FsEnd → FsEnd → Option (List ℕ) → Option (List ℕ) → VaultState → VaultState → Type 0
-Stores (Err why) how left left' old new = (how ≡ why) × Untouched left left' old new
+Stores (Err why) how left left' old new = (how ≡ why) × UntouchedBody left left' old new
 Stores (Ok file) how left left' old new = StoresFile file how left left' old new
 
 -- the new file is opened, and its body is put, unless it was not made
 abbrev pub PutsUnless : {X : Type 0} → Option FsEnd → Leading X → List ℕ → List ℕ → X → FsEnd → X → Option (List ℕ) → Option (List ℕ) → VaultState → VaultState → Type 0
-PutsUnless (Some why) leads user path a how b left left' old new = (how ≡ why) × (b ≡ a) × Untouched left left' old new
-PutsUnless None leads user path a how b left left' old new = (opened : Result OpenFile FsEnd) × Opens leads user path a opened b × Stores opened how left left' old new
+PutsUnless (Some why) leads user path a how b left left' old new = (how ≡ why) × (b ≡ a) × UntouchedBody left left' old new
+PutsUnless None leads user path a how b left left' old new = (opened : Result OpenFile FsEnd) × OpensFile leads user path a opened b × Stores opened how left left' old new
 
 -- A user puts a file at a path: it is made, and then opened, and its body is put. A refusal ends it.
 pub record Puts {X : Type 0} (leads : Leading X) (user path : List ℕ) (a : X) (how : FsEnd) (b : X) (left left' : Option (List ℕ)) (old new : VaultState) : Type 0 where
   pub mid : X
   pub made : Option FsEnd
-  pub makes : Makes leads user path a made mid
+  pub makes : CreatesFile leads user path a made mid
   pub puts : PutsUnless made leads user path mid how b left left' old new
 
 -- the range was written
@@ -75,7 +75,7 @@ Sends from count (Err why) how old new written now = (how ≡ why) × (now ≡ w
 Sends from count (Ok file) how old new written now = (SentWhole file from count how old written now ⊎ SentCut file from count how old written now) × KeepsBodies old new
 
 -- A user reads a range of the file at a path: it is opened, and then the range is written.
-pub record Reads {X : Type 0} (leads : Leading X) (user path : List ℕ) (from count : ℕ) (a : X) (how : FsEnd) (b : X) (old new : VaultState) (written now : Option (List ℕ)) : Type 0 where
+pub record ReadsRange {X : Type 0} (leads : Leading X) (user path : List ℕ) (from count : ℕ) (a : X) (how : FsEnd) (b : X) (old new : VaultState) (written now : Option (List ℕ)) : Type 0 where
   pub opened : Result OpenFile FsEnd
-  pub opens : Opens leads user path a opened b
+  pub opens : OpensFile leads user path a opened b
   pub sends : Sends from count opened how old new written now

@@ -5,10 +5,10 @@ use Rattle.hk_events.specs.declared.event.Event.TheVariants.{RestartKms, Restart
 use Rattle.hk_events.specs.declared.event.Line.{Line}
 
 -- the event is no restart
-abbrev pub GoesOn : Event → Type 0
-GoesOn RestartKms = ⊥
-GoesOn RestartName = ⊥
-GoesOn _ = ⊤
+abbrev pub IsNoRestart : Event → Type 0
+IsNoRestart RestartKms = ⊥
+IsNoRestart RestartName = ⊥
+IsNoRestart _ = ⊤
 
 -- the events that may happen somewhere, their answers, and where they lead
 abbrev pub Leading : Type 0 → Type 1

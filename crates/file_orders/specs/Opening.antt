@@ -43,19 +43,19 @@ finished_in (line.Refused why) = Some (end_of_names why)
 finished_in _ = Some end.NoMemory
 
 -- the ask is finished by the reply of this number
-abbrev pub Finishes : {X : Type 0} → Leading X → Result ℕ FsEnd → X → Option FsEnd → X → Type 0
-Finishes leads (Err why) a result b = (result ≡ Some why) × (b ≡ a)
-Finishes leads (Ok number) a result b = (answer : Line) × leads a (event.Finish number) answer b × (result ≡ finished_in answer)
+abbrev pub FinishesCreate : {X : Type 0} → Leading X → Result ℕ FsEnd → X → Option FsEnd → X → Type 0
+FinishesCreate leads (Err why) a result b = (result ≡ Some why) × (b ≡ a)
+FinishesCreate leads (Ok number) a result b = (answer : Line) × leads a (event.Finish number) answer b × (result ≡ finished_in answer)
 
 -- the call that the ask of this number wants is made
 abbrev pub Draws : {X : Type 0} → Leading X → Result ℕ FsEnd → X → Option FsEnd → X → Type 0
 Draws leads (Err why) a result b = (result ≡ Some why) × (b ≡ a)
-Draws {X} leads (Ok number) a result b = (answer : Line) × (mid : X) × leads a (event.Draw number) answer mid × Finishes leads (replied_in answer) mid result b
+Draws {X} leads (Ok number) a result b = (answer : Line) × (mid : X) × leads a (event.Draw number) answer mid × FinishesCreate leads (replied_in answer) mid result b
 
 -- A user makes a file at a path: it is asked for, then the call is made that the ask wants, and then the ask is finished. If there is no
 -- memory for the first event, nothing happens.
-abbrev pub Makes : {X : Type 0} → Leading X → List ℕ → List ℕ → X → Option FsEnd → X → Type 0
-Makes {X} leads user path a result b =
+abbrev pub CreatesFile : {X : Type 0} → Leading X → List ℕ → List ℕ → X → Option FsEnd → X → Type 0
+CreatesFile {X} leads user path a result b =
     ((answer : Line) × (mid : X) × leads a (event.AskCreate user path) answer mid × Draws leads (asked_in answer) mid result b)
     ⊎ ((result ≡ Some end.NoMemory) × (b ≡ a))
 
@@ -107,7 +107,7 @@ OpensShown leads user (Ok shown) a result b = OpensEdek leads user shown.id show
 
 -- A user opens the file at a path: it is asked what is there, and then its key is decrypted. If there is no memory for the first event,
 -- nothing happens.
-abbrev pub Opens : {X : Type 0} → Leading X → List ℕ → List ℕ → X → Result OpenFile FsEnd → X → Type 0
-Opens {X} leads user path a result b =
+abbrev pub OpensFile : {X : Type 0} → Leading X → List ℕ → List ℕ → X → Result OpenFile FsEnd → X → Type 0
+OpensFile {X} leads user path a result b =
     ((answer : Line) × (mid : X) × leads a (event.Info user path) answer mid × OpensShown leads user (shown_in answer) mid result b)
     ⊎ ((result ≡ Err end.NoMemory) × (b ≡ a))

@@ -1,7 +1,7 @@
 //! Events of both services.
 ghost use Rattle.hk_events.specs.declared.event.Event.{Event as AnEvent};
 ghost use Rattle.hk_events.specs.declared.event.Line.{Line as Answer};
-ghost use Rattle.file_orders.specs.Events.{GoesOn};
+ghost use Rattle.file_orders.specs.Events.{IsNoRestart};
 
 use hk_events::{Event, Line};
 
@@ -16,7 +16,7 @@ pub trait Events {
     /// Lets an event happen that is no restart. A refusal is also an answer.
     fn happen(&mut self, event: Event) -> Line
         requires ready { ready self.old }
-        requires goes_on { GoesOn event }
+        requires goes_on { IsNoRestart event }
         ensures leads { leads self.old event result self.new }
         ensures ready { ready self.new };
 }

@@ -2,7 +2,7 @@
 ghost use Rattle.std.specs.Prelude.{◌≡◌, IfOk};
 ghost use Rattle.hk_events.specs.declared.event.Event.TheVariants as event;
 ghost use Rattle.kms_calls.specs.declared.calls.KmsCall.TheVariants as call;
-ghost use Rattle.file_orders.specs.Opening.{Decrypts, Draws, Finishes, Makes, Opens, OpensShown, as_sent, asked_in, dek_by, dek_in, file_with, finished_in, kept_under, replied_in, shown_by, shown_in};
+ghost use Rattle.file_orders.specs.Opening.{CreatesFile, Decrypts, Draws, FinishesCreate, OpensFile, OpensShown, as_sent, asked_in, dek_by, dek_in, file_with, finished_in, kept_under, replied_in, shown_by, shown_in};
 
 use crate::ends::{FsEnd, end_of_keys, end_of_names};
 use crate::events::Events;
@@ -106,7 +106,7 @@ fn finished_in(answer: Line) -> Option<FsEnd>
 /// Finishes the ask by the reply of this number.
 fn finish<T: Events>(events: &mut T, replied: Result<u32, FsEnd>) -> Option<FsEnd>
     requires { T.ready events.old }
-    ensures finishes { Finishes T.leads replied events.old result events.new }
+    ensures finishes { FinishesCreate T.leads replied events.old result events.new }
     ensures ready { T.ready events.new }
 {
     match replied {
@@ -138,7 +138,7 @@ pub(crate) fn make_file<T: Events>(
     path: &Text,
 ) -> Option<FsEnd>
     requires { T.ready events.old }
-    ensures makes { Makes T.leads user.now path.now events.old result events.new }
+    ensures makes { CreatesFile T.leads user.now path.now events.old result events.new }
     ensures ready { T.ready events.new }
 {
     match ask_event(alloc, user, path) {
@@ -277,7 +277,7 @@ pub(crate) fn open_file<T: Events>(
     path: &Text,
 ) -> Result<OpenFile, FsEnd>
     requires { T.ready events.old }
-    ensures opens { Opens T.leads user.now path.now events.old result events.new }
+    ensures opens { OpensFile T.leads user.now path.now events.old result events.new }
     ensures ready { T.ready events.new }
 {
     match info_event(alloc, user, path) {

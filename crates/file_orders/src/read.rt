@@ -1,7 +1,7 @@
 //! Reading a range of a file.
 ghost use Rattle.std.specs.Prelude.{◌≡◌, ◌≤◌};
 ghost use Rattle.hk_base.specs.Faults.{Rose};
-ghost use Rattle.file_orders.specs.Bodies.{Reads, Sends};
+ghost use Rattle.file_orders.specs.Bodies.{ReadsRange, Sends};
 ghost use Rattle.std.specs.Prelude.{Ok};
 
 use crate::ends::{FsEnd, end_of_body};
@@ -46,7 +46,7 @@ pub fn read_file<T: Events, V: Vault, K: Sink>(
     out: &mut K,
 ) -> FsEnd
     requires { T.ready events.old }
-    ensures reads { Reads T.leads user.now path.now from count events.old result events.new
+    ensures reads { ReadsRange T.leads user.now path.now from count events.old result events.new
         (V.state vault.old) (V.state vault.new) (K.written out.old) (K.written out.new) }
     ensures ready { T.ready events.new }
     ensures out_later { K.faults out.old ≤ K.faults out.new }

@@ -3,7 +3,7 @@ use Rattle.std.proofs.Common.{◌≡◌, ◌⊎◌, inl, inr, ◌-◌, ℕ, suc,
 use Rattle.hk_base.specs.Disk.{DiskState, Tells, Reads, RunOn}
 use Rattle.hk_base.proofs.Runs.{Going}
 use Rattle.frame_log.specs.Format.{log_of, Found, IsAtRest, IsHalfOpen, IsBeforeOrAfter, IsAsFound, At_rest, Half_open, Opened, IsRecovered, Log_as_found, No_log}
-use Rattle.frame_log.specs.Stands.{Stands, front, Is, IsSound, LeavesFrom}
+use Rattle.frame_log.specs.Stands.{Stands, front, Is, IsSoundFile, LeavesFrom}
 use Rattle.frame_log.specs.declared.log.Log.{Log}
 use Rattle.frame_log.proofs.Reading.{log_shut}
 
@@ -62,17 +62,17 @@ before_or_after_log file payloads payload bytes (inr (inl after)) = inr (0, afte
 before_or_after_log file payloads payload bytes (inr (inr half)) = inl (half.gate, half.now)
 
 -- what a crash leaves while a payload is added is a file that a run may start from
-pub sound_after : (file : ℕ) (payloads : List (List ℕ)) (payload bytes : List ℕ) → IsBeforeOrAfter file payloads payload bytes → IsSound file bytes
+pub sound_after : (file : ℕ) (payloads : List (List ℕ)) (payload bytes : List ℕ) → IsBeforeOrAfter file payloads payload bytes → IsSoundFile file bytes
 sound_after file payloads payload bytes (inl before) = record { payloads = payloads; payload = payload; sound = inl before }
 sound_after file payloads payload bytes (inr (inl after)) = record { payloads = payloads ++ payload ∷ []; payload = payload; sound = inl after }
 sound_after file payloads payload bytes (inr (inr half)) = record { payloads = payloads; payload = payload; sound = inr half }
 
 -- so is what a crash leaves while such a file is opened
-pub sound_found : (file : ℕ) (found bytes : List ℕ) → IsSound file found → IsAsFound file found bytes → IsSound file bytes
+pub sound_found : (file : ℕ) (found bytes : List ℕ) → IsSoundFile file found → IsAsFound file found bytes → IsSoundFile file bytes
 sound_found file found bytes s (At_rest payloads gate is now) = record { payloads = payloads; payload = s.payload; sound = inl now }
 sound_found file found bytes s (Half_open payloads gate other is now same) = half s.sound
   where
-    half : IsAtRest file s.payloads found ⊎ IsHalfOpen file s.payloads (s.payloads ++ s.payload ∷ []) found → IsSound file bytes
+    half : IsAtRest file s.payloads found ⊎ IsHalfOpen file s.payloads (s.payloads ++ s.payload ∷ []) found → IsSoundFile file bytes
     half (inl rest) = let no_gate : suc gate ≡ 0 = cc (is, rest) in absurd (omega arith)
     half (inr h) =
         let one : payloads ≡ s.payloads = cc (is, h.now) in
@@ -83,7 +83,7 @@ sound_found file found bytes s (Half_open payloads gate other is now same) = hal
         }
 sound_found file found bytes s (Opened payloads gate is same) = half s.sound
   where
-    half : IsAtRest file s.payloads found ⊎ IsHalfOpen file s.payloads (s.payloads ++ s.payload ∷ []) found → IsSound file bytes
+    half : IsAtRest file s.payloads found ⊎ IsHalfOpen file s.payloads (s.payloads ++ s.payload ∷ []) found → IsSoundFile file bytes
     half (inl rest) = let no_gate : suc gate ≡ 0 = cc (is, rest) in absurd (omega arith)
     half (inr h) = record { payloads = s.payloads ++ s.payload ∷ []; payload = s.payload; sound = inl (ap (log_of file) same ∙ h.then_on) }
 
@@ -93,6 +93,6 @@ recovered_log file found bytes payloads gate is (Log_as_found held) = held
 recovered_log file found bytes payloads gate is (No_log at none same) = absurd (cc (is, none))
 
 -- so it leaves a file that a run may start from, whatever it returns
-pub sound_recovered : (file : ℕ) (found bytes : List ℕ) → IsSound file found → IsRecovered file found bytes → IsSound file bytes
+pub sound_recovered : (file : ℕ) (found bytes : List ℕ) → IsSoundFile file found → IsRecovered file found bytes → IsSoundFile file bytes
 sound_recovered file found bytes s (Log_as_found held) = sound_found file found bytes s held
-sound_recovered file found bytes s (No_log at none same) = subst (IsSound file) (sym same) s
+sound_recovered file found bytes s (No_log at none same) = subst (IsSoundFile file) (sym same) s

@@ -6,7 +6,7 @@ use Rattle.hk_base.specs.Faults.{Rose}
 use Rattle.hk_base.proofs.Runs.{Going, compose, weaker}
 use Rattle.frame_log.specs.Faults.{start_fault}
 use Rattle.frame_log.specs.Format.{IsAsFound, IsRecovered}
-use Rattle.frame_log.specs.Opens.{FailsAs, FailsFor, Opens}
+use Rattle.frame_log.specs.Opens.{FailsAs, FailsFor, OpensLog}
 use Rattle.frame_log.specs.Stands.{LeavesFrom}
 use Rattle.frame_log.specs.declared.fault.LogFault.{LogFault}
 use Rattle.frame_log.specs.declared.fault.LogFault.TheVariants as log
@@ -55,7 +55,7 @@ module _ {file : ℕ} {Damage : List ℕ → ℕ → Type 0} {Used : List ℕ �
 
   module _ {Left : List ℕ → List ℕ → Type 0} {old new : DiskState} where
     pub opens_for : {fails fails' : StartFault → Type 0} → ((fault : StartFault) → fails' fault → fails fault) → (fails start.StoreFault → fails' start.StoreFault)
-        → Opens file Damage Used Left old new fails → Opens file Damage Used Left old new fails'
+        → OpensLog file Damage Used Left old new fails → OpensLog file Damage Used Left old new fails'
     opens_for f g o = record {
       why = why_for f o.why;
       any_moment = o.any_moment;
@@ -65,17 +65,17 @@ module _ {file : ℕ} {Damage : List ℕ → ℕ → Type 0} {Used : List ℕ �
 
     -- what a call returns that returns what the start did
 
-    pub opens_ok : {T U : Type 0} (x : T) (y : U) → Opens file Damage Used Left old new (λ fault. IsErrOf (Ok x) fault) → Opens file Damage Used Left old new (λ fault. IsErrOf (Ok y) fault)
+    pub opens_ok : {T U : Type 0} (x : T) (y : U) → OpensLog file Damage Used Left old new (λ fault. IsErrOf (Ok x) fault) → OpensLog file Damage Used Left old new (λ fault. IsErrOf (Ok y) fault)
     opens_ok x y o = opens_for (λ fault is. absurd (cc is)) (λ is. absurd (cc is)) o
 
     pub opens_err : {T U : Type 0} (why : StartFault) (first : Result T StartFault) (then : Result U StartFault) → first ≡ Err why → then ≡ Err why
-        → Opens file Damage Used Left old new (λ fault. IsErrOf first fault) → Opens file Damage Used Left old new (λ fault. IsErrOf then fault)
+        → OpensLog file Damage Used Left old new (λ fault. IsErrOf first fault) → OpensLog file Damage Used Left old new (λ fault. IsErrOf then fault)
     opens_err why first then was now o = opens_for (same_fault why first then was now) (same_fault why then first now was start.StoreFault) o
 
 -- less is said of the file
 module _ {file : ℕ} {Damage Damage' : List ℕ → ℕ → Type 0} {Used Used' : List ℕ → Type 0} {Left Left' : List ℕ → List ℕ → Type 0} (old new : DiskState) {fails : StartFault → Type 0} where
   pub opens_as : ((bytes : List ℕ) (at : ℕ) → Damage bytes at → Damage' bytes at) → ((bytes : List ℕ) → Used bytes → Used' bytes) → ((bytes c : List ℕ) → Left bytes c → Left' bytes c)
-      → Opens file Damage Used Left old new fails → Opens file Damage' Used' Left' old new fails
+      → OpensLog file Damage Used Left old new fails → OpensLog file Damage' Used' Left' old new fails
   opens_as damage used left o = record {
     why = record {
       damaged = λ at is telling. damage (old.reads file) at (o.why.damaged at is telling);
@@ -89,8 +89,8 @@ module _ {file : ℕ} {Damage Damage' : List ℕ → ℕ → Type 0} {Used Used'
 
 -- a log was opened, and then calls leave only what the start leaves
 module _ {file : ℕ} {Damage Damage' : List ℕ → ℕ → Type 0} {Used Used' : List ℕ → Type 0} {Left : List ℕ → List ℕ → Type 0} (old mid new : DiskState) {fails fails' : StartFault → Type 0} where
-  pub opens_then : (fails start.StoreFault → ⊥) → Opens file Damage Used Left old mid fails → RunOn file mid new → (Tells old → LeavesOnly file mid new (Left (old.reads file))) → FailsFor file Damage' Used' old new fails'
-      → Opens file Damage' Used' Left old new fails'
+  pub opens_then : (fails start.StoreFault → ⊥) → OpensLog file Damage Used Left old mid fails → RunOn file mid new → (Tells old → LeavesOnly file mid new (Left (old.reads file))) → FailsFor file Damage' Used' old new fails'
+      → OpensLog file Damage' Used' Left old new fails'
   opens_then opened o run moments why = record {
     why = why;
     any_moment = λ telling.
@@ -143,11 +143,11 @@ module _ {file : ℕ} {Damage : List ℕ → ℕ → Type 0} {Used : List ℕ �
 
 -- the start of a store returns what its log did
 module _ {file : ℕ} {Damage : List ℕ → ℕ → Type 0} {Used : List ℕ → Type 0} {Left : List ℕ → List ℕ → Type 0} {old new : DiskState} {T U : Type 0} where
-  pub opens_done : (x : T) (y : U) → Opens file Damage Used Left old new (FailsAs (Ok x)) → Opens file Damage Used Left old new (λ fault. IsErrOf (Ok y) fault)
+  pub opens_done : (x : T) (y : U) → OpensLog file Damage Used Left old new (FailsAs (Ok x)) → OpensLog file Damage Used Left old new (λ fault. IsErrOf (Ok y) fault)
   opens_done x y o = opens_for (λ fault is. absurd (cc is)) (λ is. absurd (log_ok x start.StoreFault is)) o
 
   pub opens_fault : (why : LogFault) (first : Result T LogFault) (then : Result U StartFault) → first ≡ Err why → then ≡ Err (start_fault why)
-      → Opens file Damage Used Left old new (FailsAs first) → Opens file Damage Used Left old new (λ fault. IsErrOf then fault)
+      → OpensLog file Damage Used Left old new (FailsAs first) → OpensLog file Damage Used Left old new (λ fault. IsErrOf then fault)
   opens_fault why first then was now o = opens_for (λ fault is. (why, was, cc (now, is))) (λ is. now ∙ ap Err (ap start_fault (same is.0 is.1) ∙ is.2)) o
     where
       same : (other : LogFault) → first ≡ Err other → why ≡ other

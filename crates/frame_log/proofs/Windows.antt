@@ -3,7 +3,7 @@ use Rattle.std.proofs.Common.{◌≡◌, ℕ, ◌+◌, ◌-◌, ◌≤◌, List,
 use Rattle.std.proofs.lemmas.Bool.{cases_lt}
 use Rattle.std.proofs.lemmas.List.{take_all, take-take, drop-drop, drop-take}
 use Rattle.hk_base.specs.Disk.{piece}
-use Rattle.frame_log.specs.Ahead.{HasBytesOf, Shows}
+use Rattle.frame_log.specs.Ahead.{HasBytesOf, ShowsWindow}
 use Rattle.frame_log.specs.declared.window.Window.{Window}
 
 -- the bytes of a window from an offset on
@@ -17,7 +17,7 @@ inside file bytes from at k le within is =
     ∙ ap (λ (l : List ℕ). take (from + k - at) l) (drop-drop i from file ∙ ap (λ (n : ℕ). drop n file) there)
 
 -- the bytes that `bytes_at` returns are those of the file
-pub shown : (file : List ℕ) (window : Window) (at want : ℕ) → at ≤ length file → Shows file window at want → take want (drop (at - window.from) window.bytes.items) ≡ piece at want file
+pub shown : (file : List ℕ) (window : Window) (at want : ℕ) → at ≤ length file → ShowsWindow file window at want → take want (drop (at - window.from) window.bytes.items) ≡ piece at want file
 shown file window at want place s =
     let k : ℕ = length window.bytes.items in
     let size : length (drop at file) ≡ length file - at = length-drop at file in
@@ -33,8 +33,8 @@ shown file window at want place s =
     ]
 
 -- the same for a file that a read left unchanged
-pub still_shown : (file now : List ℕ) (old new : Window) (at want : ℕ) → now ≡ file → (HasBytesOf now old → Shows now new at want) → HasBytesOf file old → Shows file new at want
-still_shown file now old new at want same shows has = subst (λ (l : List ℕ). Shows l new at want) same (shows (subst (λ (l : List ℕ). HasBytesOf l old) (sym same) has))
+pub still_shown : (file now : List ℕ) (old new : Window) (at want : ℕ) → now ≡ file → (HasBytesOf now old → ShowsWindow now new at want) → HasBytesOf file old → ShowsWindow file new at want
+still_shown file now old new at want same shows has = subst (λ (l : List ℕ). ShowsWindow l new at want) same (shows (subst (λ (l : List ℕ). HasBytesOf l old) (sym same) has))
 
 -- an empty window has the bytes of any file
 pub nothing : (file : List ℕ) (window : Window) → window.bytes.items ≡ [] → HasBytesOf file window

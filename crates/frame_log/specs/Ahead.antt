@@ -11,7 +11,7 @@ abbrev pub HasBytesOf : List ℕ → Window → Type 0
 HasBytesOf file window = window.bytes.items ≡ piece window.from (length window.bytes.items) file
 
 -- the window has `want` bytes of the file from `at` on, or all up to the end of the file
-pub record Shows (file : List ℕ) (window : Window) (at want : ℕ) : Type 0 where
+pub record ShowsWindow (file : List ℕ) (window : Window) (at want : ℕ) : Type 0 where
   pub bytes : HasBytesOf file window
   pub begins : window.from ≤ at
   pub enough : min (at + want) (length file) ≤ window.from + length window.bytes.items

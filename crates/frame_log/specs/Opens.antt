@@ -16,7 +16,7 @@ pub record FailsFor (file : ℕ) (Damage : List ℕ → ℕ → Type 0) (Used : 
   pub cause : fails start.StoreFault → Rose old.faults new.faults
 
 -- A start opens the log of a file, or fails. `Left` says what it leaves of the bytes found.
-pub record Opens (file : ℕ) (Damage : List ℕ → ℕ → Type 0) (Used : List ℕ → Type 0) (Left : List ℕ → List ℕ → Type 0) (old new : DiskState) (fails : StartFault → Type 0) : Type 0 where
+pub record OpensLog (file : ℕ) (Damage : List ℕ → ℕ → Type 0) (Used : List ℕ → Type 0) (Left : List ℕ → List ℕ → Type 0) (old new : DiskState) (fails : StartFault → Type 0) : Type 0 where
   pub why : FailsFor file Damage Used old new fails
   -- a crash at any moment leaves what it might have left before, or what the start leaves
   pub any_moment : Tells old → LeavesOnly file old new (λ c. old.leaves file c ⊎ Left (old.reads file) c)
@@ -29,5 +29,5 @@ abbrev pub FailsAs : {T : Type 0} → Result T LogFault → StartFault → Type 
 FailsAs result fault = (why : LogFault) × IsErrOf result why × (start_fault why ≡ fault)
 
 -- A recovery opens the log alone: the file is damaged only if it is not a log, and no opening is recorded.
-abbrev pub Recovers : ℕ → DiskState → DiskState → (StartFault → Type 0) → Type 0
-Recovers file = Opens file (λ bytes at. log_of file bytes ≡ NoLog at) (λ bytes. ⊥) (IsRecovered file)
+abbrev pub RecoversLog : ℕ → DiskState → DiskState → (StartFault → Type 0) → Type 0
+RecoversLog file = OpensLog file (λ bytes at. log_of file bytes ≡ NoLog at) (λ bytes. ⊥) (IsRecovered file)

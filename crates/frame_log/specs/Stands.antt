@@ -14,7 +14,7 @@ abbrev pub IsShut : List ℕ → List ℕ → Type 0
 IsShut front bytes = (rest : List ℕ) × (bytes ≡ front ++ 0 ∷ rest)
 
 -- the front, any gate byte, the rest of a frame of the payload, a zero byte, and any bytes
-pub record IsReady (front payload bytes : List ℕ) : Type 0 where
+pub record IsFrameReady (front payload bytes : List ℕ) : Type 0 where
   pub gate : ℕ
   pub rest : List ℕ
   pub is : bytes ≡ front ++ gate ∷ (behind payload ++ 0 ∷ rest)
@@ -22,7 +22,7 @@ pub record IsReady (front payload bytes : List ℕ) : Type 0 where
 -- what the file may be, with or without an unsettled payload
 abbrev pub Is : List ℕ → Option (List ℕ) → List ℕ → Type 0
 Is front None bytes = IsShut front bytes
-Is front (Some payload) bytes = IsShut front bytes ⊎ IsReady front payload bytes
+Is front (Some payload) bytes = IsShut front bytes ⊎ IsFrameReady front payload bytes
 
 -- The log has these payloads on the disk, and at most one that is unsettled.
 pub record Stands (disk : DiskState) (log : Log) (payloads : List (List ℕ)) (unsettled : Option (List ℕ)) : Type 0 where
@@ -35,7 +35,7 @@ pub record Stands (disk : DiskState) (log : Log) (payloads : List (List ℕ)) (u
 
 -- A file that a run may start from: a log at rest, or one that has exactly one more frame, and is at rest,
 -- once its end gate byte is set to 1.
-pub record IsSound (file : ℕ) (bytes : List ℕ) : Type 0 where
+pub record IsSoundFile (file : ℕ) (bytes : List ℕ) : Type 0 where
   pub payloads : List (List ℕ)
   pub payload : List ℕ
   pub sound : IsAtRest file payloads bytes ⊎ IsHalfOpen file payloads (payloads ++ payload ∷ []) bytes

@@ -5,7 +5,7 @@ ghost use Rattle.hk_base.specs.Disk.{Tells, Reads, RunOn, LeavesOnly};
 ghost use Rattle.hk_base.specs.Faults.{Rose};
 ghost use Rattle.frame_log.specs.declared.fault.LogFault.TheVariants.{Damaged, StoreFault};
 ghost use Rattle.frame_log.specs.Format.{frames_at, NoLog};
-ghost use Rattle.frame_log.specs.Scan.{IsNext, NextFits, IsScanned};
+ghost use Rattle.frame_log.specs.Scan.{IsNextItem, NextFits, IsScanned};
 
 use crate::LogFault;
 use crate::window::Window;
@@ -48,7 +48,7 @@ fn count_of(head: &[u8]) -> u32
 /// fewer; `left` is the number of bytes from the gate to the end of the file.
 pub(crate) fn next_at(head: &[u8], left: u64) -> Next
     ensures next { (bytes : List ℕ) → left ≡ length bytes → head.now ≡ take 5 bytes →
-        IsNext bytes result }
+        IsNextItem bytes result }
     ensures fits { NextFits left result }
 {
     if head.is_empty() {

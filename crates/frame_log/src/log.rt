@@ -65,7 +65,7 @@ impl Log {
     ghost use Rattle.frame_log.specs.declared.fault.LogFault.TheVariants.{Damaged, StoreFault, NoMemory};
     ghost use Rattle.frame_log.specs.Format.{log_of, Found, NoLog, placed, IsBeforeOrAfter, IsAsFound, IsRecovered};
     ghost use Rattle.frame_log.specs.Scan.{view};
-    ghost use Rattle.frame_log.specs.Opens.{FailsAs, Recovers};
+    ghost use Rattle.frame_log.specs.Opens.{FailsAs, RecoversLog};
     ghost use Rattle.frame_log.specs.Stands.{Stands};
     ghost use Rattle.frame_log.specs.Ahead.{Ahead};
 
@@ -93,7 +93,7 @@ impl Log {
         // Whatever the result, after the first sync of the call a crash leaves the log found, or that log
         // with its end gate read as 1. A file that is not a log stays byte for byte. If that sync failed,
         // nothing was written.
-        ensures opens { Recovers file (D.state disk.old) (D.state disk.new) (FailsAs result) }
+        ensures opens { RecoversLog file (D.state disk.old) (D.state disk.new) (FailsAs result) }
 
         // A crash at any moment leaves what it might have left before, or the log found, or that log
         // with its end gate read as 1.
@@ -125,7 +125,7 @@ impl Log {
         ensures settled { IfOk result (λ r. (r.0.file ≡ file) × (r.0.unsettled ≡ None)) }
 
         // As for `recover`: a crash after the first sync, a crash at any moment.
-        ensures opens { Recovers file (D.state disk.old) (D.state disk.new) (FailsAs result) }
+        ensures opens { RecoversLog file (D.state disk.old) (D.state disk.new) (FailsAs result) }
         ensures any_moment { Tells (D.state disk.old) →
             LeavesOnly file (D.state disk.old) (D.state disk.new)
             (λ c. (D.state disk.old).leaves file c ⊎

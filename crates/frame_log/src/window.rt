@@ -3,7 +3,7 @@ ghost use Rattle.std.specs.Prelude.{◌≡◌, ◌≤◌, ◌<◌, ◌^◌, ◌+
 ghost use Rattle.hk_base.specs.Disk.{Tells, Reads, RunOn, LeavesOnly};
 ghost use Rattle.hk_base.specs.Faults.{Rose};
 ghost use Rattle.frame_log.specs.declared.fault.LogFault.TheVariants.{Damaged, StoreFault};
-ghost use Rattle.frame_log.specs.Ahead.{HasBytesOf, Shows};
+ghost use Rattle.frame_log.specs.Ahead.{HasBytesOf, ShowsWindow};
 
 use crate::LogFault;
 use hk_base::Disk;
@@ -33,7 +33,7 @@ fn read_window<D: Disk>(
     ensures from { IfOk result (λ window. window.from ≡ from) }
     ensures window { IfOk result
         (λ window. Tells (D.state disk.old) →
-        Shows ((D.state disk.old).reads file) window from size) }
+        ShowsWindow ((D.state disk.old).reads file) window from size) }
     ensures fault { (e : ℕ) → IsErrOf result (Damaged e) → ⊥ }
     ensures cause { IsErrOf result StoreFault →
         Rose (D.state disk.old).faults (D.state disk.new).faults }
@@ -91,7 +91,7 @@ impl Window {
         ensures begins { OnOk result (self.new.from ≤ at) }
         ensures shows { OnOk result
             (Tells (D.state disk.old) → HasBytesOf ((D.state disk.old).reads file) self.old →
-            Shows ((D.state disk.old).reads file) self.new at want) }
+            ShowsWindow ((D.state disk.old).reads file) self.new at want) }
         ensures kept { OnErr result (self.new ≡ self.old) }
         ensures fault { (e : ℕ) → IsErrOf result (Damaged e) → ⊥ }
         ensures cause { IsErrOf result StoreFault →

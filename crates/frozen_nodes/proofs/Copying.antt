@@ -13,7 +13,7 @@ use Rattle.inode_tree.specs.Below.{RowView, seen_from, view_of}
 use Rattle.inode_tree.specs.Rows.{Entry, IsRows}
 use Rattle.inode_tree.specs.declared.rows.Row.{Row}
 use Rattle.frozen_nodes.specs.Copies.{AllAtOrBelow, AllPlaced, AreCopied, IsCopy, IsPlaced, no_entry, path_at, view_at}
-use Rattle.frozen_nodes.specs.Forest.{AllBelow, AllNamedAfter, AreKids, AreNamedInOrder, FrozenNode, HaveNames, KeepsNodes, Subtree, kid_rows, node_at, rows_from, rows_of_node, subtree_at, subtrees, under}
+use Rattle.frozen_nodes.specs.Forest.{AllNamedAfter, AreBelow, AreKids, AreNamedInOrder, FrozenNode, HaveNames, KeepsNodes, Subtree, kid_rows, node_at, rows_from, rows_of_node, subtree_at, subtrees, under}
 use Rattle.frozen_nodes.proofs.PathFacts.{all-above, all-joined, drop-all, last-ruled, parent-last, prefix-more, prefix-trans, seen-under, snoc-before}
 use Rattle.frozen_nodes.proofs.Preorder.{child-next, deeper-below, rising-at}
 use Rattle.frozen_nodes.proofs.Subtrees.{name-is, same-kids}
@@ -31,23 +31,23 @@ at-drop (e ∷ rows) (suc k) lt = at-drop rows k (omega arith) ∙ ap (λ (n : �
 abbrev pub all-kept : (ns ms : List FrozenNode) → Type 0
 all-kept ns ms = (k : ℕ) → k < length ns → node_at ms k ≡ node_at ns k
 
-after-kept : (ns ms : List FrozenNode) → all-kept ns ms → (name : List ℕ) (ks : List ℕ) → AllBelow (length ns) ks → AllNamedAfter ns name ks → AllNamedAfter ms name ks
+after-kept : (ns ms : List FrozenNode) → all-kept ns ms → (name : List ℕ) (ks : List ℕ) → AreBelow (length ns) ks → AllNamedAfter ns name ks → AllNamedAfter ms name ks
 after-kept ns ms same name [] b a = tt
 after-kept ns ms same name (k ∷ ks) b a = (ap (λ (m : FrozenNode). is_lt (slice_cmp nat_cmp name m.name)) (same k b.0) ∙ a.0, after-kept ns ms same name ks b.1 a.1)
 
-order-kept : (ns ms : List FrozenNode) → all-kept ns ms → (ks : List ℕ) → AllBelow (length ns) ks → AreNamedInOrder ns ks → AreNamedInOrder ms ks
+order-kept : (ns ms : List FrozenNode) → all-kept ns ms → (ks : List ℕ) → AreBelow (length ns) ks → AreNamedInOrder ns ks → AreNamedInOrder ms ks
 order-kept ns ms same [] b o = tt
 order-kept ns ms same (k ∷ ks) b o = (subst (λ (m : FrozenNode). AllNamedAfter ms m.name ks) (sym (same k b.0)) (after-kept ns ms same (node_at ns k).name ks b.1 o.0), order-kept ns ms same ks b.1 o.1)
 
-names-kept : (ns ms : List FrozenNode) → all-kept ns ms → (ks : List ℕ) → AllBelow (length ns) ks → HaveNames ns ks → HaveNames ms ks
+names-kept : (ns ms : List FrozenNode) → all-kept ns ms → (ks : List ℕ) → AreBelow (length ns) ks → HaveNames ns ks → HaveNames ms ks
 names-kept ns ms same [] b h = tt
 names-kept ns ms same (k ∷ ks) b h = (ap (λ (m : FrozenNode). is_component m.name) (same k b.0) ∙ h.0, names-kept ns ms same ks b.1 h.1)
 
-below-more : (n m : ℕ) (ks : List ℕ) → n ≤ m → AllBelow n ks → AllBelow m ks
+below-more : (n m : ℕ) (ks : List ℕ) → n ≤ m → AreBelow n ks → AreBelow m ks
 below-more n m [] le b = tt
 below-more n m (k ∷ ks) le b = (let lt = b.0 in omega arith, below-more n m ks le b.1)
 
-placed-kept : (rows : List Entry) (at next m : ℕ) (ns ms : List FrozenNode) → next ≤ m → all-kept ns ms → (ks : List ℕ) → AllBelow (length ns) ks → AllPlaced rows at next ns ks → AllPlaced rows at m ms ks
+placed-kept : (rows : List Entry) (at next m : ℕ) (ns ms : List FrozenNode) → next ≤ m → all-kept ns ms → (ks : List ℕ) → AreBelow (length ns) ks → AllPlaced rows at next ns ks → AllPlaced rows at m ms ks
 placed-kept rows at next m ns ms le same [] b a = tt
 placed-kept rows at next m ns ms le same (k ∷ ks) b a = (
   record { place = a.0.place; after = a.0.after; before = let lt = a.0.before in omega arith; path = a.0.path ∙ ap (λ (n : FrozenNode). path_at rows at ++ n.name ∷ []) (sym (same k b.0)) },
@@ -103,7 +103,7 @@ map-joined : (f : Entry → Entry) (xs ys : List Entry) → map f (xs ++ ys) ≡
 map-joined f [] ys = refl
 map-joined f (x ∷ xs) ys = λ i. f x ∷ map-joined f xs ys i
 
-below-joined : (n : ℕ) (ks : List ℕ) (k : ℕ) → AllBelow n ks → k < n → AllBelow n (ks ++ k ∷ [])
+below-joined : (n : ℕ) (ks : List ℕ) (k : ℕ) → AreBelow n ks → k < n → AreBelow n (ks ++ k ∷ [])
 below-joined n [] k b lt = (lt, tt)
 below-joined n (j ∷ ks) k b lt = (b.0, below-joined n ks k b.1 lt)
 

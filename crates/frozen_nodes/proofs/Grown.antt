@@ -6,7 +6,7 @@ use Rattle.std.proofs.lemmas.Bool.{cases_lt}
 use Rattle.std.proofs.lemmas.List.{get_or_push}
 use Rattle.name_calls.specs.Paths.{is_component}
 use Rattle.frozen_nodes.proofs.Subtrees.{rows-stay}
-use Rattle.frozen_nodes.specs.Forest.{AllBelow, AllNamedAfter, AreKids, AreNamedInOrder, FrozenNode, HaveNames, IsForest, KeepsNodes, no_node, node_at}
+use Rattle.frozen_nodes.specs.Forest.{AllNamedAfter, AreBelow, AreKids, AreNamedInOrder, FrozenNode, HaveNames, IsForest, KeepsNodes, no_node, node_at}
 
 pub kept-at : (ns : List FrozenNode) (x : FrozenNode) (k : ℕ) → k < length ns → node_at (ns ++ x ∷ []) k ≡ node_at ns k
 kept-at [] x k lt = absurd (omega arith)
@@ -20,15 +20,15 @@ past-at (n ∷ ns) x zero lt = absurd (omega arith)
 past-at (n ∷ ns) x (suc k) lt = past-at ns x k (omega arith)
 
 module _ (ns : List FrozenNode) (x : FrozenNode) (n : ℕ) (le : n ≤ length ns) where
-  after-kept : (name : List ℕ) (ks : List ℕ) → AllBelow n ks → AllNamedAfter ns name ks → AllNamedAfter (ns ++ x ∷ []) name ks
+  after-kept : (name : List ℕ) (ks : List ℕ) → AreBelow n ks → AllNamedAfter ns name ks → AllNamedAfter (ns ++ x ∷ []) name ks
   after-kept name [] b a = tt
   after-kept name (k ∷ ks) b a = (ap (λ (m : FrozenNode). is_lt (slice_cmp nat_cmp name m.name)) (kept-at ns x k (let w = b.0 in omega arith)) ∙ a.0, after-kept name ks b.1 a.1)
 
-  order-kept : (ks : List ℕ) → AllBelow n ks → AreNamedInOrder ns ks → AreNamedInOrder (ns ++ x ∷ []) ks
+  order-kept : (ks : List ℕ) → AreBelow n ks → AreNamedInOrder ns ks → AreNamedInOrder (ns ++ x ∷ []) ks
   order-kept [] b o = tt
   order-kept (k ∷ ks) b o = (subst (λ (m : FrozenNode). AllNamedAfter (ns ++ x ∷ []) m.name ks) (sym (kept-at ns x k (let w = b.0 in omega arith))) (after-kept (node_at ns k).name ks b.1 o.0), order-kept ks b.1 o.1)
 
-  names-kept : (ks : List ℕ) → AllBelow n ks → HaveNames ns ks → HaveNames (ns ++ x ∷ []) ks
+  names-kept : (ks : List ℕ) → AreBelow n ks → HaveNames ns ks → HaveNames (ns ++ x ∷ []) ks
   names-kept [] b h = tt
   names-kept (k ∷ ks) b h = (ap (λ (m : FrozenNode). is_component m.name) (kept-at ns x k (let w = b.0 in omega arith)) ∙ h.0, names-kept ks b.1 h.1)
 

@@ -9,7 +9,7 @@ use Rattle.std.proofs.lemmas.Slice.Eq.{bytes_eq-Decides}
 use Rattle.std.proofs.lemmas.Cmp.{nat_list_cmp_total, tied_itself}
 use Rattle.inode_tree.specs.Listing.{children}
 use Rattle.inode_tree.specs.Rows.{Entry}
-use Rattle.frozen_nodes.specs.Forest.{AllBelow, AllNamedAfter, AreNamedInOrder, FrozenNode, Subtree, child_at, kid_named, kid_rows, node_at, under}
+use Rattle.frozen_nodes.specs.Forest.{AllNamedAfter, AreBelow, AreNamedInOrder, FrozenNode, Subtree, child_at, kid_named, kid_rows, node_at, under}
 use Rattle.frozen_nodes.proofs.Steps.{AllDeep, children-append, deep-append, deep-under, inside, inside-append, inside-under, none-deeper}
 
 not-itself : (x : List ℕ) → is_lt (slice_cmp nat_cmp x x) ≡ true → ⊥
@@ -36,7 +36,7 @@ none-named ns [] x a = refl
 none-named ns (k ∷ ks) x a = ap (λ (t : Bool). cond t (Some k) (kid_named ns ks x)) (differ-turned x (node_at ns k).name a.0) ∙ none-named ns ks x a.1
 
 -- a kid that is found is one of the kids
-pub kid-below : (ns : List FrozenNode) (n : ℕ) (ks : List ℕ) (x : List ℕ) (k : ℕ) → AllBelow n ks → kid_named ns ks x ≡ Some k → k < n
+pub kid-below : (ns : List FrozenNode) (n : ℕ) (ks : List ℕ) (x : List ℕ) (k : ℕ) → AreBelow n ks → kid_named ns ks x ≡ Some k → k < n
 kid-below ns n [] x k b h = cc
 kid-below ns n (j ∷ ks) x k b h = go (bytes_eq (node_at ns j).name x) (kid-below ns n ks x k b.1) h
   where
@@ -68,7 +68,7 @@ module _ (ns : List FrozenNode) (at : ℕ → Subtree) (named : (k : ℕ) → (a
 
 -- the children of a directory are its kids
 pub children-kids : (ns : List FrozenNode) (at : ℕ → Subtree) (n : ℕ) (ks : List ℕ) → ((k : ℕ) → (at k).name ≡ (node_at ns k).name)
-    → ((k : ℕ) → k < n → (es : List Entry) × AllDeep es × ((at k).rows ≡ record { path = []; row = (node_at ns k).row } ∷ es)) → AllBelow n ks
+    → ((k : ℕ) → k < n → (es : List Entry) × AllDeep es × ((at k).rows ≡ record { path = []; row = (node_at ns k).row } ∷ es)) → AreBelow n ks
     → children (kid_rows at ks) [] ≡ map (child_at ns) ks
 children-kids ns at n [] named own b = refl
 children-kids ns at n (k ∷ ks) named own b =

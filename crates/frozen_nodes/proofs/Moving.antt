@@ -4,7 +4,7 @@ use Rattle.std.specs.Prelude.{slice_get, slice_set}
 use Rattle.std.specs.Ordering.{is_lt, nat_cmp}
 use Rattle.std.specs.Cmp.Lexicographic.{slice_cmp}
 use Rattle.name_calls.specs.Paths.{is_component}
-use Rattle.frozen_nodes.specs.Forest.{AllBelow, AllNamedAfter, AreKids, AreNamedInOrder, FrozenNode, HaveNames, IsForest, KeepsNodes, kid_rows, node_at, rows_from, rows_of_node, subtree_at, subtrees, under}
+use Rattle.frozen_nodes.specs.Forest.{AllNamedAfter, AreBelow, AreKids, AreNamedInOrder, FrozenNode, HaveNames, IsForest, KeepsNodes, kid_rows, node_at, rows_from, rows_of_node, subtree_at, subtrees, under}
 use Rattle.frozen_nodes.specs.Moves.{AllMoved, AllReached, AreNumbers, IsAmong, IsMoved, IsReached, LeadsTo}
 use Rattle.std.proofs.lemmas.Bool.{cases_lt}
 use Rattle.frozen_nodes.proofs.Subtrees.{name-is, rows-by-kids}
@@ -45,7 +45,7 @@ numbers-set old ns numbers n j a is k m found = go numbers n k (λ e. a k m e) f
 -- the kids of the copy
 
 module _ (old new : List FrozenNode) where
-  below-new : (ks js : List ℕ) → AllMoved old new ks js → AllBelow (length new) js
+  below-new : (ks js : List ℕ) → AllMoved old new ks js → AreBelow (length new) js
   below-new [] [] a = tt
   below-new [] (j ∷ js) a = absurd a
   below-new (k ∷ ks) [] a = tt

@@ -4,7 +4,7 @@ use Rattle.std.specs.Prelude.{if◌then◌else◌}
 use Rattle.std.specs.List.{AllByRecursion}
 use Rattle.std.proofs.lemmas.Bool.{cases_lt}
 use Rattle.frozen_nodes.specs.Forest.{FrozenNode, Subtree, kid_rows, rows_from, subtree_at, subtree_of, subtrees_after, under}
-use Rattle.frozen_nodes.specs.Kept.{AreClosed, IsKept, kept, kept_from, new_number, renumbered}
+use Rattle.frozen_nodes.specs.Kept.{AreKidsMarked, IsKidKept, kept, kept_from, new_number, renumbered}
 use Rattle.frozen_nodes.proofs.Subtrees.{at-last, at-push, longer}
 
 module _ (mark : ℕ → Bool) where
@@ -33,17 +33,17 @@ module _ (mark : ℕ → Bool) where
         omega (arith, step_true i now, equal)
   ]
 
-  kids_same : (i : ℕ) (done slid : List Subtree) → ((k : ℕ) → k < i → mark k ≡ true → subtree_at slid (new_number mark k) ≡ subtree_at done k) → (ks : List ℕ) → AllByRecursion (IsKept mark i) ks
+  kids_same : (i : ℕ) (done slid : List Subtree) → ((k : ℕ) → k < i → mark k ≡ true → subtree_at slid (new_number mark k) ≡ subtree_at done k) → (ks : List ℕ) → AllByRecursion (IsKidKept mark i) ks
       → kid_rows (subtree_at slid) (map (new_number mark) ks) ≡ kid_rows (subtree_at done) ks
   kids_same i done slid same [] all = refl
   kids_same i done slid same (k ∷ ks) all = λ j. map (under (same k all.0.below all.0.marked j).name) (same k all.0.below all.0.marked j).rows ++ kids_same i done slid same ks all.1 j
 
-  slide : (ns : List FrozenNode) (i : ℕ) (done slid : List Subtree) → length done ≡ i → length slid ≡ new_number mark i → ((k : ℕ) → k < i → mark k ≡ true → subtree_at slid (new_number mark k) ≡ subtree_at done k) → AreClosed mark i ns
+  slide : (ns : List FrozenNode) (i : ℕ) (done slid : List Subtree) → length done ≡ i → length slid ≡ new_number mark i → ((k : ℕ) → k < i → mark k ≡ true → subtree_at slid (new_number mark k) ≡ subtree_at done k) → AreKidsMarked mark i ns
       → (k : ℕ) → k < i + length ns → mark k ≡ true → subtree_at (subtrees_after slid (kept_from mark i ns)) (new_number mark k) ≡ subtree_at (subtrees_after done ns) k
   slide [] i done slid long short same closed k lt is = same k (omega arith) is
   slide (n ∷ ns) i done slid long short same closed k lt is = go (slide ns (suc i)) (mark i) refl
     where
-      go : ((d s : List Subtree) → length d ≡ suc i → length s ≡ new_number mark (suc i) → ((j : ℕ) → j < suc i → mark j ≡ true → subtree_at s (new_number mark j) ≡ subtree_at d j) → AreClosed mark (suc i) ns
+      go : ((d s : List Subtree) → length d ≡ suc i → length s ≡ new_number mark (suc i) → ((j : ℕ) → j < suc i → mark j ≡ true → subtree_at s (new_number mark j) ≡ subtree_at d j) → AreKidsMarked mark (suc i) ns
           → (j : ℕ) → j < suc i + length ns → mark j ≡ true → subtree_at (subtrees_after s (kept_from mark (suc i) ns)) (new_number mark j) ≡ subtree_at (subtrees_after d ns) j)
           → (b : Bool) → mark i ≡ b → subtree_at (subtrees_after slid (if b then renumbered mark n ∷ kept_from mark (suc i) ns else kept_from mark (suc i) ns)) (new_number mark k) ≡ subtree_at (subtrees_after (done ++ subtree_of done n ∷ []) ns) k
       go further true now =
@@ -77,6 +77,6 @@ module _ (mark : ℕ → Bool) where
             | inr late ↦ let at : j ≡ i = omega arith in let here : mark i ≡ true = ap mark (sym at) ∙ marked in absurd (cc (here, now))
           ]
 
-  pub rows-slid : (ns : List FrozenNode) → AreClosed mark 0 ns → (k : ℕ) → k < length ns → mark k ≡ true → rows_from (kept mark ns) (new_number mark k) ≡ rows_from ns k
+  pub rows-slid : (ns : List FrozenNode) → AreKidsMarked mark 0 ns → (k : ℕ) → k < length ns → mark k ≡ true → rows_from (kept mark ns) (new_number mark k) ≡ rows_from ns k
   unfolding rows_from
   rows-slid ns closed k lt is = ap (λ (s : Subtree). s.rows) (slide ns 0 [] [] refl refl (λ j less marked. absurd (omega arith)) closed k (omega arith) is)

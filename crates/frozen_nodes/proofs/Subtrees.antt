@@ -1,7 +1,7 @@
 -- The rows at and below a node are its own row and those of its kids.
 use Rattle.std.proofs.Common.{◌≡◌, ℕ, ◌+◌, ◌<◌, ◌≤◌, zero, suc, List, [], ◌∷◌, ◌++◌, length, map, refl, sym, ◌∙◌, ap, arith, length-append}
 use Rattle.std.proofs.lemmas.List.{get_or_push}
-use Rattle.frozen_nodes.specs.Forest.{AllBelow, FrozenNode, IsForest, Subtree, kid_rows, no_node, no_subtree, node_at, rows_from, rows_of_node, subtree_at, subtree_of, subtrees, subtrees_after, under}
+use Rattle.frozen_nodes.specs.Forest.{AreBelow, FrozenNode, IsForest, Subtree, kid_rows, no_node, no_subtree, node_at, rows_from, rows_of_node, subtree_at, subtree_of, subtrees, subtrees_after, under}
 
 pub at-push : (done : List Subtree) (x : Subtree) (k : ℕ) → k < length done → subtree_at (done ++ x ∷ []) k ≡ subtree_at done k
 at-push [] x k lt = absurd (omega arith)
@@ -24,11 +24,11 @@ pub stays : (ns : List FrozenNode) (done : List Subtree) (k : ℕ) → k < lengt
 stays [] done k lt = refl
 stays (n ∷ ns) done k lt = stays ns (done ++ subtree_of done n ∷ []) k (omega (arith, longer done (subtree_of done n))) ∙ at-push done (subtree_of done n) k lt
 
-pub same-kids : (f g : ℕ → Subtree) (n : ℕ) (ks : List ℕ) → ((k : ℕ) → k < n → f k ≡ g k) → AllBelow n ks → kid_rows f ks ≡ kid_rows g ks
+pub same-kids : (f g : ℕ → Subtree) (n : ℕ) (ks : List ℕ) → ((k : ℕ) → k < n → f k ≡ g k) → AreBelow n ks → kid_rows f ks ≡ kid_rows g ks
 same-kids f g n [] same b = refl
 same-kids f g n (k ∷ ks) same b = λ j. map (under (same k b.0 j).name) (same k b.0 j).rows ++ same-kids f g n ks same b.1 j
 
-here : (ns : List FrozenNode) (done : List Subtree) (x : FrozenNode) (n : ℕ) → length done ≡ n → AllBelow n x.kids
+here : (ns : List FrozenNode) (done : List Subtree) (x : FrozenNode) (n : ℕ) → length done ≡ n → AreBelow n x.kids
     → subtree_at (subtrees_after (done ++ subtree_of done x ∷ []) ns) n ≡ subtree_of (subtrees_after (done ++ subtree_of done x ∷ []) ns) x
 here ns done x n e b =
     stays ns (done ++ subtree_of done x ∷ []) n (omega (arith, e, longer done (subtree_of done x)))
@@ -40,7 +40,7 @@ here ns done x n e b =
         sym (stays ns (done ++ subtree_of done x ∷ []) k (omega (arith, e, lt, longer done (subtree_of done x)))
         ∙ at-push done (subtree_of done x) k (omega (arith, e, lt)))
 
-found : (ns : List FrozenNode) (done : List Subtree) (m n : ℕ) → n ≡ length done + m → m < length ns → AllBelow n (node_at ns m).kids
+found : (ns : List FrozenNode) (done : List Subtree) (m n : ℕ) → n ≡ length done + m → m < length ns → AreBelow n (node_at ns m).kids
     → subtree_at (subtrees_after done ns) n ≡ subtree_of (subtrees_after done ns) (node_at ns m)
 found [] done m n e lt b = absurd (omega arith)
 found (x ∷ ns) done zero n e lt b = here ns done x n (omega arith) b
@@ -87,7 +87,7 @@ subtree-stays ns x k lt =
     ∙ at-push (subtrees ns) (subtree_of (subtrees ns) x) k (omega (arith, lt, count-is ns []))
 
 -- the rows of a new node
-pub rows-new : (ns : List FrozenNode) (x : FrozenNode) → IsForest (ns ++ x ∷ []) → AllBelow (length ns) x.kids → rows_from (ns ++ x ∷ []) (length ns) ≡ rows_of_node ns x
+pub rows-new : (ns : List FrozenNode) (x : FrozenNode) → IsForest (ns ++ x ∷ []) → AreBelow (length ns) x.kids → rows_from (ns ++ x ∷ []) (length ns) ≡ rows_of_node ns x
 unfolding rows_of_node
 rows-new ns x forest below =
     rows-are (ns ++ x ∷ []) forest (length ns) (omega (arith, length-append ns (x ∷ [])))

@@ -8,7 +8,7 @@ use Rattle.inode_tree.specs.declared.rows.Row.{Row}
 use Rattle.inode_tree.specs.Listing.{children}
 use Rattle.inode_tree.specs.Rows.{is_dir, is_dir_at, is_marked, row_at}
 use Rattle.name_calls.specs.declared.listing.Child.{Child}
-use Rattle.frozen_nodes.specs.Forest.{AllBelow, FrozenNode, HaveNames, IsForest, child_at, kid_named, node_at, node_below, rows_from}
+use Rattle.frozen_nodes.specs.Forest.{AreBelow, FrozenNode, HaveNames, IsForest, child_at, kid_named, node_at, node_below, rows_from}
 use Rattle.frozen_nodes.proofs.Found.{children-found, lower, row-found, zone-below, zone-here}
 use Rattle.frozen_nodes.proofs.ZoneSteps.{depth, or_depth, own_depth}
 
@@ -25,7 +25,7 @@ pub at-end : (ns : List FrozenNode) (n : ℕ) (p : List (List ℕ)) (k : ℕ) �
 at-end ns n p k le = ap (node_below ns n) (drop_all k p le)
 
 -- kids come before their node
-pub below-at : (n : ℕ) (ks : List ℕ) (j d : ℕ) → AllBelow n ks → j < length ks → get_or ks j d < n
+pub below-at : (n : ℕ) (ks : List ℕ) (j d : ℕ) → AreBelow n ks → j < length ks → get_or ks j d < n
 below-at n [] j d b h = absurd (omega arith)
 below-at n (k ∷ ks) zero d b h = b.0
 below-at n (k ∷ ks) (suc j) d b h = below-at n ks j d b.1 (omega arith)

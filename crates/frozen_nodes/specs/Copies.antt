@@ -4,7 +4,7 @@ use Rattle.inode_tree.specs.Below.{RowView, seen_from, view_of}
 use Rattle.inode_tree.specs.Rows.{Entry}
 use Rattle.name_calls.specs.Paths.{is_prefix, last_name}
 use Rattle.frozen_nodes.specs.Forest.{AreKids, FrozenNode, KeepsNodes, kid_rows, no_node, node_at, rows_from, subtree_at, subtrees}
-use Rattle.frozen_nodes.specs.Packed.{ForestRoom, HasRoom}
+use Rattle.frozen_nodes.specs.Packed.{ForestRoom, HasForestRoom}
 
 abbrev pub no_entry : Entry
 no_entry = record { path = []; row = no_node.row }
@@ -64,7 +64,7 @@ pub record HasRoomUpTo (at end : ℕ) (room : ForestRoom) : Type 0 where
   pub bytes_fit : 255 * end ≤ room.bytes + 255 * at
 
 -- the room has become less by what copies of the rows up to the next place need
-pub record IsSpent (at next : ℕ) (old new : ForestRoom) : Type 0 where
+pub record IsRoomSpent (at next : ℕ) (old new : ForestRoom) : Type 0 where
   pub nodes_less : old.nodes + at ≤ new.nodes + next
   pub kids_less : old.kids + at + 1 ≤ new.kids + next
   pub bytes_less : old.bytes + 255 * at ≤ new.bytes + 255 * next
@@ -75,7 +75,7 @@ pub record CopyRoom : Type 0 where
 
 -- there is memory for copies of so many rows
 pub record FitsCopies (rows : ℕ) (room : ForestRoom) (buffer : CopyRoom) : Type 0 where
-  pub nodes_fit : HasRoom rows rows (255 * rows) room
+  pub nodes_fit : HasForestRoom rows rows (255 * rows) room
   pub kids_fit : rows ≤ buffer.kids
 
 -- the rows at and below a path are those from a place up to an end

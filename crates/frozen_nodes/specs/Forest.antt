@@ -69,9 +69,9 @@ pub record KeepsNodes (old new : List FrozenNode) : Type 0 where
   pub nodes : (n : ℕ) → n < length old → node_at new n ≡ node_at old n
   pub rows : (n : ℕ) → n < length old → rows_from new n ≡ rows_from old n
 
-abbrev pub AllBelow : ℕ → List ℕ → Type 0
-AllBelow n [] = ⊤
-AllBelow n (k ∷ ks) = (k < n) × AllBelow n ks
+abbrev pub AreBelow : ℕ → List ℕ → Type 0
+AreBelow n [] = ⊤
+AreBelow n (k ∷ ks) = (k < n) × AreBelow n ks
 
 -- each of the nodes has a name after the given one
 abbrev pub AllNamedAfter : List FrozenNode → List ℕ → List ℕ → Type 0
@@ -91,7 +91,7 @@ HaveNames ns (k ∷ ks) = (is_component (node_at ns k).name ≡ true) × HaveNam
 -- numbers that can be the kids of the n-th node
 pub record AreKids (ns : List FrozenNode) (n : ℕ) (ks : List ℕ) : Type 0 where
   -- each comes before the node
-  pub below : AllBelow n ks
+  pub below : AreBelow n ks
   -- their names rise
   pub order : AreNamedInOrder ns ks
   -- and keep the rule

@@ -20,11 +20,11 @@ abbrev pub kept : (ℕ → Bool) → List FrozenNode → List FrozenNode
 kept mark ns = kept_from mark 0 ns
 
 -- a kid of the i-th node comes before it, and is marked
-pub record IsKept (mark : ℕ → Bool) (i k : ℕ) : Type 0 where
+pub record IsKidKept (mark : ℕ → Bool) (i k : ℕ) : Type 0 where
   pub below : k < i
   pub marked : mark k ≡ true
 
 -- the kids of each marked node are marked
-abbrev pub AreClosed : (ℕ → Bool) → ℕ → List FrozenNode → Type 0
-AreClosed mark i [] = ⊤
-AreClosed mark i (n ∷ ns) = (mark i ≡ true → AllByRecursion (IsKept mark i) n.kids) × AreClosed mark (suc i) ns
+abbrev pub AreKidsMarked : (ℕ → Bool) → ℕ → List FrozenNode → Type 0
+AreKidsMarked mark i [] = ⊤
+AreKidsMarked mark i (n ∷ ns) = (mark i ≡ true → AllByRecursion (IsKidKept mark i) n.kids) × AreKidsMarked mark (suc i) ns

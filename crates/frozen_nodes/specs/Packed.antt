@@ -43,7 +43,7 @@ pub record ForestState : Type 0 where
   pub room : ForestRoom
 
 -- there is memory for so many more nodes, kids and bytes of names
-pub record HasRoom (nodes kids bytes : ℕ) (room : ForestRoom) : Type 0 where
+pub record HasForestRoom (nodes kids bytes : ℕ) (room : ForestRoom) : Type 0 where
   pub nodes_fit : nodes ≤ room.nodes
   pub kids_fit : kids ≤ room.kids
   pub bytes_fit : bytes ≤ room.bytes

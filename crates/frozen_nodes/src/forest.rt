@@ -1,7 +1,7 @@
 //! The nodes of all snapshots.
 ghost use Rattle.std.specs.Prelude.{◌≡◌, ◌+◌, ◌<◌, ◌≤◌, ◌++◌, ◌∷◌, [], length, vec_capacity, vec_len, ◌↔◌, IfOk, IsOk, IsTrue, OnOk, OnErr};
 ghost use Rattle.frozen_nodes.specs.Forest.{AreKids, IsForest, KeepsNodes, node_at, rows_from, rows_of_node};
-ghost use Rattle.frozen_nodes.specs.Packed.{AllInside, HasRoom, IsLess, nodes_in};
+ghost use Rattle.frozen_nodes.specs.Packed.{AllInside, HasForestRoom, IsLess, nodes_in};
 
 use crate::nodes::{Node, part};
 use crate::same::{are_same_bytes, are_same_numbers, is_same_row};
@@ -175,8 +175,8 @@ impl Forest {
     /// nodes. The nodes are unchanged in either case.
     pub fn reserve(&mut self, nodes: usize, kids: usize, bytes: usize) -> Result<(), NoMemory>
         ensures same { self.new.nodes ≡ self.old.nodes }
-        ensures ok { OnOk result (HasRoom nodes kids bytes self.new.room) }
-        ensures room { HasRoom nodes kids bytes self.old.room → IsOk result }
+        ensures ok { OnOk result (HasForestRoom nodes kids bytes self.new.room) }
+        ensures room { HasForestRoom nodes kids bytes self.old.room → IsOk result }
     {
         if nodes > MOST_NODES - self.nodes.len() {
             return Err(NoMemory);
@@ -192,7 +192,7 @@ impl Forest {
         requires kids { AreKids self.old.nodes (length self.old.nodes) kids.now }
         requires few { length kids.now ≤ 4294967295 }
         requires short { length name.now ≤ 255 }
-        requires room { HasRoom 1 (length kids.now) (length name.now) self.old.room }
+        requires room { HasForestRoom 1 (length kids.now) (length name.now) self.old.room }
         ensures nodes { self.new.nodes ≡
             self.old.nodes ++ record { name = name.now; row = row; kids = kids.now } ∷ [] }
         ensures number { result ≡ length self.old.nodes }
@@ -229,7 +229,7 @@ impl Forest {
             (record { name = name.now; row = row; kids = kids.now })) }
         ensures others { OnOk result (KeepsNodes self.old.nodes self.new.nodes) }
         ensures err { OnErr result (self.new.nodes ≡ self.old.nodes) }
-        ensures room { HasRoom 1 (length kids.now) (length name.now) self.old.room → IsOk result }
+        ensures room { HasForestRoom 1 (length kids.now) (length name.now) self.old.room → IsOk result }
     {
         self.reserve(1, kids.len(), name.len())?;
         Ok(self.push_reserved(row, name, kids))
@@ -257,7 +257,7 @@ impl Forest {
         requires kids { AreKids self.old.nodes (length self.old.nodes) kids.now }
         requires few { length kids.now ≤ 4294967295 }
         requires short { length name.now ≤ 255 }
-        requires room { HasRoom 1 (length kids.now) (length name.now) self.old.room }
+        requires room { HasForestRoom 1 (length kids.now) (length name.now) self.old.room }
         ensures within { result < length self.new.nodes }
         ensures node { node_at self.new.nodes result ≡
             record { name = name.now; row = row; kids = kids.now } }

@@ -39,7 +39,7 @@ pub record IsPass {Q R S : Type 0} (step : S → Q → R → S → Type 0) (allo
   pub legal : LegalOf step allows me.0.start me.0.seen
 
 -- the first seat of a table, which has the turn
-pub record IsOpened {Q R S : Type 0} (sound : S → Type 0) (table at : TableId) (me : Me ⊤ (View Q R S)) (core : S) : Type 0 where
+pub record IsSeatOpened {Q R S : Type 0} (sound : S → Type 0) (table at : TableId) (me : Me ⊤ (View Q R S)) (core : S) : Type 0 where
   pub words : table.words ≡ 1
   pub here : at ≡ table
   pub me_is : me ≡ (first_view core, [])

@@ -23,14 +23,14 @@ pub struct Opened<C: Core> {
 }
 
 impl<C: Core> Model for Opened<C> {
-    ghost use Rattle.hist_cell.specs.Turn.{Unnamed, IsOpened};
+    ghost use Rattle.hist_cell.specs.Turn.{Unnamed, IsSeatOpened};
 
     ghost Value = { Unnamed C };
 
     ghost view = { λ o. record { table = o.table.shared.table_id; core = o.core } };
 
     ghost invariant = { λ o.
-        IsOpened C.sound o.table.shared.table_id o.turn.table_id o.turn.me o.core };
+        IsSeatOpened C.sound o.table.shared.table_id o.turn.table_id o.turn.me o.core };
 }
 
 impl<C: Core + Drop> Opened<C> {

@@ -10,9 +10,9 @@ use Rattle.hk_events.specs.declared.event.Event.{Event}
 use Rattle.prop_text.specs.SizeValues.{SizeValues}
 use Rattle.world_run.specs.declared.fault.WorldFault.{WorldFault}
 use Rattle.world_run.specs.Acknowledged.{Acknowledged, LeavesBoth, RunBoth}
-use Rattle.world_run.specs.Keeps.{Begins, LeftByStarts}
+use Rattle.world_run.specs.Keeps.{BeginsFirstWorld, LeftByStarts}
 use Rattle.world_run.specs.Ledger.{Hidden}
-use Rattle.world_run.specs.Linked.{DrawsApart, LinkedWorld, WordsApart}
+use Rattle.world_run.specs.Linked.{AreDrawsApart, LinkedWorld, WordsApart}
 use Rattle.world_run.specs.Starts.{FailsAt, OpensBoth}
 use Rattle.world_run.specs.World.{RunningWorld, WorldState, first_world, world_of}
 use Rattle.world_run.proofs.StartLemmas.{both-for, fails-at, fails-so}
@@ -23,7 +23,7 @@ use Rattle.hk_runs.specs.Run.{FilesOpenThroughout, History, IsHidden, RestsAfter
 use Rattle.hk_runs.proofs.LivedLemmas.{leaves_on, weaker}
 
 -- what may be hidden before a run is hidden beside the first world, which is linked, and whose zone files open
-first_hidden : (sizes : SizeValues) (old new : DiskState) (r : RunningWorld) → Begins sizes old new r → Tells old → (h : Hidden) → HiddenBefore old h → IsHidden (world_of r) h
+first_hidden : (sizes : SizeValues) (old new : DiskState) (r : RunningWorld) → BeginsFirstWorld sizes old new r → Tells old → (h : Hidden) → HiddenBefore old h → IsHidden (world_of r) h
 first_hidden sizes old new r b tells h before =
     subst (IsHidden (world_of r)) (sym before.is) (record { linked = b.linked tells before.past before.sound; files_open = b.files_open tells before.past before.sound })
 
@@ -42,7 +42,7 @@ in_weaker A B f done first words (x ∷ earlier) image (inl left) = inl (rests_w
 in_weaker A B f done first words (x ∷ earlier) image (inr (inl left)) = inr (inl (left.0, λ h is. left.1 h (f h is)))
 in_weaker A B f done first words (x ∷ earlier) image (inr (inr left)) = inr (inr (in_weaker A B f done first words earlier image left))
 
-module _ (sizes : SizeValues) (old mid new : DiskState) (r : RunningWorld) (b : Begins sizes old mid r) (tells : Tells old) (words : ℕ → ℕ) (h : History) (Cut : Event → Type 0) (done : Acknowledged) where
+module _ (sizes : SizeValues) (old mid new : DiskState) (r : RunningWorld) (b : BeginsFirstWorld sizes old mid r) (tells : Tells old) (words : ℕ → ℕ) (h : History) (Cut : Event → Type 0) (done : Acknowledged) where
   linked : (x : Hidden) → HiddenBefore old x → LinkedWorld (world_of r) x
   linked x before = (first_hidden sizes old mid r b tells x before).linked
 
@@ -71,10 +71,10 @@ module _ (sizes : SizeValues) (old mid new : DiskState) (r : RunningWorld) (b : 
   promise_kept opens x before = subst (λ (w : WorldState). FilesOpenThroughout x w words h) b.first (opens x (first_hidden sizes old mid r b tells x before))
 
   -- and its draws stay apart
-  pub apart_kept : ((x : Hidden) → LinkedWorld (world_of r) x → DrawsApart x → StayApart x (world_of r) words h) → (x : Hidden) → HiddenBefore old x → WordsApart x → StayApart x (first_world sizes b.table b.names) words h
+  pub apart_kept : ((x : Hidden) → LinkedWorld (world_of r) x → AreDrawsApart x → StayApart x (world_of r) words h) → (x : Hidden) → HiddenBefore old x → WordsApart x → StayApart x (first_world sizes b.table b.names) words h
   apart_kept stay x before apart =
       subst (λ (w : WorldState). StayApart x w words h) b.first
-      (stay x (linked x before) (subst DrawsApart (sym before.is) (b.draws_apart tells before.past before.sound (subst WordsApart before.is apart))))
+      (stay x (linked x before) (subst AreDrawsApart (sym before.is) (b.draws_apart tells before.past before.sound (subst WordsApart before.is apart))))
 
 -- why a start failed
 pub not_opened : (old new : DiskState) (result : Result RunningWorld WorldFault) (why : WorldFault) → IsErrOf result why → OpensBoth old new (λ file fault. IsErrOf result (record { file = file; fault = fault }))

@@ -10,7 +10,7 @@ use Rattle.hk_base.specs.Reading.{IsMore}
 use Rattle.frame_log.specs.declared.fault.StartFault.{StartFault}
 use Rattle.frame_log.specs.declared.fault.StartFault.TheVariants as start
 use Rattle.prop_text.specs.declared.lines.PropLine.{PropLine}
-use Rattle.replay_text.specs.Events.{IsBad, Spells, longest_line}
+use Rattle.replay_text.specs.Events.{IsBad, SpellsLine, longest_line}
 use Rattle.replay_text.specs.Transcript.{line_text}
 use Rattle.hk_events.specs.declared.event.Event.{Event}
 use Rattle.hk_events.specs.declared.event.Event.TheVariants as event
@@ -24,15 +24,15 @@ use Rattle.command_io.specs.declared.lines.LineEnd.{LineEnd}
 use Rattle.command_io.specs.declared.lines.LineEnd.TheVariants as line_end
 use Rattle.command_io.specs.declared.ends.ReplayEnd.{ReplayEnd}
 use Rattle.command_io.specs.declared.ends.ReplayEnd.TheVariants as ended
-use Rattle.hk_runs.specs.declared.stage.LineOutcome.{LineOutcome}
-use Rattle.hk_runs.specs.declared.stage.LineOutcome.TheVariants.{Played, BadLine, Unread, Unanswered, Unwritten, Unopened}
+use Rattle.hk_runs.specs.declared.session.LineOutcome.{LineOutcome}
+use Rattle.hk_runs.specs.declared.session.LineOutcome.TheVariants.{Played, BadLine, Unread, Unanswered, Unwritten, Unopened}
 use Rattle.command_io.specs.Lines.{is_line, is_lf, line_used, lines_of, text_of}
-use Rattle.hk_runs.specs.Logs.{LeftByStop, ReadsAs, SurvivesStop}
+use Rattle.hk_runs.specs.Logs.{HoldsLogsOf, LeftByStop, SurvivesStop}
 use Rattle.hk_runs.specs.PlayedLines.{PlayedLine, events_of_lines, lines_in, transcript}
 use Rattle.hk_runs.specs.Run.{History, hidden_in, logged_in, world_after}
 use Rattle.command_io.specs.Ends.{ended_by}
-use Rattle.hk_runs.specs.Replay.{BadNext, BeginsWithin, ComesNext, CutAt, HasProperties, IsCut, IsSpent, IsPrinted, NextSpells, ReadsAt, RestartStops, Starts, Stops, longest_input}
-use Rattle.hk_runs.specs.Steps.{Caused, HasLists, LinePlayed, Next, NextSo, PlaysEvent, PlaysSo, Ran, Read, Stand, StaysQuiet, StopsAtRestart, StopsReading, Untouched, View, counts, end_of_play}
+use Rattle.hk_runs.specs.Replay.{BadNext, BeginsWithin, ComesNext, CutAt, HasProperties, IsCutShort, IsOpeningSpent, IsPrinted, NextSpells, ReadsLogsAt, RestartStops, StartsWith, StopsAt, longest_input}
+use Rattle.hk_runs.specs.Steps.{Caused, HasLists, LinePlayed, Next, NextSo, PlaysEvent, PlaysSo, Ran, Read, ReplayStand, StaysQuiet, StopsAtRestart, StopsReading, Untouched, View, counts, end_of_play}
 use Rattle.hk_runs.proofs.HistoryLemmas.{Begin, Course, SoFar, count_more, course_event, course_quiet, course_untouched, event_line, quiet_line, so_far_event, so_far_quiet}
 use Rattle.hk_runs.proofs.LivedLemmas.{Lived, has_lists, leaves_on, rests_after, run_on, tells_now, weaker}
 use Rattle.command_io.proofs.SplitLemmas.{split_text, split_last, split_on, split_ended, parts, count_lf}
@@ -50,7 +50,7 @@ record IsAhead (left ahead : Option (List ℕ)) (lines : List (List ℕ)) : Type
   whole : IsTrue (list_all is_line lines)
   consumed : Consumes left ahead (text_of lines)
 
-starts : (left ahead : Option (List ℕ)) (lines : List (List ℕ)) → IsAhead left ahead lines → (all : List ℕ) → left ≡ Some all → Starts all lines
+starts : (left ahead : Option (List ℕ)) (lines : List (List ℕ)) → IsAhead left ahead lines → (all : List ℕ) → left ≡ Some all → StartsWith all lines
 starts left ahead lines so all is =
     let rest = after_text left ahead (text_of lines) so.consumed all is in
     (lines_of rest.0, ap lines_of rest.2 ∙ split_text lines rest.0 so.whole)
@@ -67,7 +67,7 @@ next_is left before ahead lines line so is consumed all telling =
 
 -- the same of the last line, and the input is not too long
 last_is : (left before ahead : Option (List ℕ)) (lines : List (List ℕ)) (line : List ℕ) (used0 used : ℕ) → IsAhead left before lines → is_line line ≡ true → Consumes before ahead line → used0 ≡ length (text_of lines)
-    → used ≡ used0 + length line → used ≤ 2 ^ 40 → IsAtEnd ahead → (all : List ℕ) → left ≡ Some all → Stops ended.Done all (lines ++ line ∷ [])
+    → used ≡ used0 + length line → used ≤ 2 ^ 40 → IsAtEnd ahead → (all : List ℕ) → left ≡ Some all → StopsAt ended.Done all (lines ++ line ∷ [])
 last_is left before ahead lines line used0 used so is consumed used0_is used_is bounded end all telling =
     let rest = after_text left ahead _ (Consumes-trans left before ahead _ _ so.consumed consumed) all telling in
     let none : rest.0 ≡ [] = subst IsAtEnd rest.1 end in
@@ -80,7 +80,7 @@ last_is left before ahead lines line used0 used so is consumed used0_is used_is 
 record IsNext (left : Option (List ℕ)) (lines : List (List ℕ)) (line : List ℕ) : Type 0 where
   next : (all : List ℕ) → left ≡ Some all → (more : List (List ℕ)) × (lines_of all ≡ lines ++ line ∷ more)
 
-begins : (left : Option (List ℕ)) (lines : List (List ℕ)) (line : List ℕ) → IsNext left lines line → (all : List ℕ) → left ≡ Some all → Starts all (lines ++ line ∷ [])
+begins : (left : Option (List ℕ)) (lines : List (List ℕ)) (line : List ℕ) → IsNext left lines line → (all : List ℕ) → left ≡ Some all → StartsWith all (lines ++ line ∷ [])
 begins left lines line n all telling = let next = n.next all telling in (next.0, next.1 ∙ sym (append_assoc lines (line ∷ []) next.0))
 
 too_long_is_bad : (line : List ℕ) → longest_line < length line → IsBad line
@@ -121,7 +121,7 @@ past left before ahead lines line used0 used so is consumed used0_is used_is lon
 
 -- the place where the replay stops
 
-reads_at : (stop : ReplayEnd) (left : Option (List ℕ)) (lines : List (List ℕ)) (d : DiskState) (done : Acknowledged) (w : WorldState) → ReadsAs d done w → ReadsAt stop left lines d done w
+reads_at : (stop : ReplayEnd) (left : Option (List ℕ)) (lines : List (List ℕ)) (d : DiskState) (done : Acknowledged) (w : WorldState) → HoldsLogsOf d done w → ReadsLogsAt stop left lines d done w
 reads_at ended.Done left lines d done w r = r
 reads_at (ended.AclRefused number) left lines d done w r = r
 reads_at (ended.AclRepeated number) left lines d done w r = r
@@ -157,7 +157,7 @@ IsPlain : ReplayEnd → Type 0
 IsPlain stop = ((left : Option (List ℕ)) (lines : List (List ℕ)) (w : WorldState) → RestartStops stop left lines w) × HasProperties stop
 
 ran : (props : List PropLine) (old new : DiskState) (b : Begin) (v : View) (count : ℕ) (stop : ReplayEnd) (played : List PlayedLine) → Course props old new b v played → count ≡ length (lines_in played) → (text : List ℕ) (now : Option (List ℕ)) → IsPlain stop
-    → Appends b.written now text → IsPrinted stop text (transcript (events_of_lines played)) → ((all : List ℕ) → b.left ≡ Some all → Stops stop all (lines_in played))
+    → Appends b.written now text → IsPrinted stop text (transcript (events_of_lines played)) → ((all : List ℕ) → b.left ≡ Some all → StopsAt stop all (lines_in played))
     → Ran props old new b.world b.words v.words b.left b.written now stop count
 unfolding IsPlain
 ran props old new b v count stop played so counted text now plain wrote printed here = record {
@@ -187,26 +187,26 @@ ran props old new b v count stop played so counted text now plain wrote printed 
     h = events_of_lines played
 
 -- before a line is played
-stops_before : (props : List PropLine) (old mid new : DiskState) (b : Begin) (s : Stand) (stop : ReplayEnd) (v : View) (so : SoFar props old mid b s) → Untouched mid new s.view v → IsPlain stop
-    → ((all : List ℕ) → b.left ≡ Some all → Stops stop all (lines_in so.played)) → Ran props old new b.world b.words v.words b.left b.written v.written stop s.count
+stops_before : (props : List PropLine) (old mid new : DiskState) (b : Begin) (s : ReplayStand) (stop : ReplayEnd) (v : View) (so : SoFar props old mid b s) → Untouched mid new s.view v → IsPlain stop
+    → ((all : List ℕ) → b.left ≡ Some all → StopsAt stop all (lines_in so.played)) → Ran props old new b.world b.words v.words b.left b.written v.written stop s.count
 stops_before props old mid new b s stop v so u plain here =
     let printed : List ℕ = transcript (events_of_lines so.played) in
     ran props old new b v s.count stop so.played (course_untouched props old mid new b s.view v so.played so.course u) so.counted printed v.written plain
     (subst (λ (x : View). Appends b.written x.written printed) (sym u.same) so.wrote) (all_printed stop printed printed refl) here
 
 -- after a quiet line
-stops_quiet : (props : List PropLine) (old mid new : DiskState) (b : Begin) (s : Stand) (stop : ReplayEnd) (line : List ℕ) (v : View) (so : SoFar props old mid b s) → StaysQuiet mid new s.view line v → is_line line ≡ true → IsPlain stop
-    → ((all : List ℕ) → b.left ≡ Some all → Stops stop all (lines_in so.played ++ line ∷ [])) → Ran props old new b.world b.words v.words b.left b.written v.written stop (s.count + 1)
+stops_quiet : (props : List PropLine) (old mid new : DiskState) (b : Begin) (s : ReplayStand) (stop : ReplayEnd) (line : List ℕ) (v : View) (so : SoFar props old mid b s) → StaysQuiet mid new s.view line v → is_line line ≡ true → IsPlain stop
+    → ((all : List ℕ) → b.left ≡ Some all → StopsAt stop all (lines_in so.played ++ line ∷ [])) → Ran props old new b.world b.words v.words b.left b.written v.written stop (s.count + 1)
 stops_quiet props old mid new b s stop line v so stays is plain here =
     let printed : List ℕ = transcript (events_of_lines so.played) in
     ran props old new b v (s.count + 1) stop (quiet_line line ∷ so.played) (course_quiet props old mid new b s.view v line so.played so.course stays is) (count_more s.count (lines_in so.played) line so.counted) printed v.written plain
     (subst (λ (x : View). Appends b.written x.written printed) (sym stays.untouched.same) so.wrote) (all_printed stop printed printed refl) here
 
 -- after a line whose event happened, of whose answer this much was written
-stops_behind : (props : List PropLine) (old mid new : DiskState) (b : Begin) (s : Stand) (stop : ReplayEnd) (line : List ℕ) (v : View) (text : List ℕ) (so : SoFar props old mid b s) → (plays : PlaysEvent props mid new s.view line v)
+stops_behind : (props : List PropLine) (old mid new : DiskState) (b : Begin) (s : ReplayStand) (stop : ReplayEnd) (line : List ℕ) (v : View) (text : List ℕ) (so : SoFar props old mid b s) → (plays : PlaysEvent props mid new s.view line v)
     → is_line line ≡ true → IsPlain stop → Appends s.view.written v.written text
     → IsPrinted stop (transcript (events_of_lines so.played) ++ text) (transcript (events_of_lines so.played) ++ line_text (s.view.events + 1) plays.reply)
-    → ((all : List ℕ) → b.left ≡ Some all → Stops stop all (lines_in so.played ++ line ∷ []))
+    → ((all : List ℕ) → b.left ≡ Some all → StopsAt stop all (lines_in so.played ++ line ∷ []))
     → Ran props old new b.world b.words v.words b.left b.written v.written stop (s.count + 1)
 stops_behind props old mid new b s stop line v text so plays is plain wrote printed here =
     let before : List ℕ = transcript (events_of_lines so.played) in
@@ -245,7 +245,7 @@ which_restart (event.Deliver n) file r = absurd r
 which_restart (event.GiveUp n) file r = absurd r
 
 -- the last opening of its log is used
-spent_is : (left : Option (List ℕ)) (lines : List (List ℕ)) (e : Event) (file : ℕ) (w : WorldState) (kept : Bool) → is_restart e file → ComesNext left lines e → last_opening w e kept ≡ 4294967295 → IsSpent left lines w
+spent_is : (left : Option (List ℕ)) (lines : List (List ℕ)) (e : Event) (file : ℕ) (w : WorldState) (kept : Bool) → is_restart e file → ComesNext left lines e → last_opening w e kept ≡ 4294967295 → IsOpeningSpent left lines w
 spent_is left lines e file w kept r next is =
     ⊎_elim
     (λ keys. inl ((kept, ap (λ (x : Event). last_opening w x kept) (sym keys.0) ∙ is), subst (ComesNext left lines) keys.0 next))
@@ -254,7 +254,7 @@ spent_is left lines e file w kept r next is =
 
 -- what an end by a fault of a log is
 
-unread : (file : ℕ) (f : StartFault) (left : Option (List ℕ)) (lines : List (List ℕ)) (d : DiskState) (done : Acknowledged) (w : WorldState) → IsCut left lines → ReadsAt (ended_by file f) left lines d done w
+unread : (file : ℕ) (f : StartFault) (left : Option (List ℕ)) (lines : List (List ℕ)) (d : DiskState) (done : Acknowledged) (w : WorldState) → IsCutShort left lines → ReadsLogsAt (ended_by file f) left lines d done w
 unread zero (start.Damaged at) left lines d done w cut = tt
 unread (suc n) (start.Damaged at) left lines d done w cut = tt
 unread file start.StoreFault left lines d done w cut = tt
@@ -268,7 +268,7 @@ has file start.StoreFault = tt
 has file start.NoMemory = tt
 has file start.Spent = tt
 
-why_stopped : (file : ℕ) (f : StartFault) (left : Option (List ℕ)) (lines : List (List ℕ)) (w : WorldState) → ((at : ℕ) → f ≡ start.Damaged at → ⊥) → (f ≡ start.Spent → IsSpent left lines w) → RestartStops (ended_by file f) left lines w
+why_stopped : (file : ℕ) (f : StartFault) (left : Option (List ℕ)) (lines : List (List ℕ)) (w : WorldState) → ((at : ℕ) → f ≡ start.Damaged at → ⊥) → (f ≡ start.Spent → IsOpeningSpent left lines w) → RestartStops (ended_by file f) left lines w
 why_stopped file (start.Damaged at) left lines w never spent = absurd (never at refl)
 why_stopped file start.StoreFault left lines w never spent = tt
 why_stopped file start.NoMemory left lines w never spent = tt
@@ -292,34 +292,34 @@ stop_left Cut e file w done image r cut left =
 
 -- the place of the input at a restart of either service
 
-keys_next : (f : StartFault) (all : List ℕ) (lines : List (List ℕ)) → NextSpells all lines event.RestartKms → Stops (ended_by 0 f) all lines
+keys_next : (f : StartFault) (all : List ℕ) (lines : List (List ℕ)) → NextSpells all lines event.RestartKms → StopsAt (ended_by 0 f) all lines
 keys_next (start.Damaged at) all lines next = next
 keys_next start.StoreFault all lines next = inl next
 keys_next start.NoMemory all lines (line, more, is, spells) = (line ∷ more, is)
 keys_next start.Spent all lines next = inl next
 
-names_next : (f : StartFault) (all : List ℕ) (lines : List (List ℕ)) → NextSpells all lines event.RestartName → Stops (ended_by 1 f) all lines
+names_next : (f : StartFault) (all : List ℕ) (lines : List (List ℕ)) → NextSpells all lines event.RestartName → StopsAt (ended_by 1 f) all lines
 names_next (start.Damaged at) all lines next = next
 names_next start.StoreFault all lines next = inr next
 names_next start.NoMemory all lines (line, more, is, spells) = (line ∷ more, is)
 names_next start.Spent all lines next = inr next
 
-restart_next : (e : Event) (file : ℕ) (f : StartFault) (all : List ℕ) (lines : List (List ℕ)) → is_restart e file → NextSpells all lines e → Stops (ended_by file f) all lines
+restart_next : (e : Event) (file : ℕ) (f : StartFault) (all : List ℕ) (lines : List (List ℕ)) → is_restart e file → NextSpells all lines e → StopsAt (ended_by file f) all lines
 restart_next e file f all lines r next =
     ⊎_elim
-    (λ keys. subst (λ (n : ℕ). Stops (ended_by n f) all lines) (sym keys.1) (keys_next f all lines (subst (NextSpells all lines) keys.0 next)))
-    (λ names. subst (λ (n : ℕ). Stops (ended_by n f) all lines) (sym names.1) (names_next f all lines (subst (NextSpells all lines) names.0 next)))
+    (λ keys. subst (λ (n : ℕ). StopsAt (ended_by n f) all lines) (sym keys.1) (keys_next f all lines (subst (NextSpells all lines) keys.0 next)))
+    (λ names. subst (λ (n : ℕ). StopsAt (ended_by n f) all lines) (sym names.1) (names_next f all lines (subst (NextSpells all lines) names.0 next)))
     (which_restart e file r)
 
 -- the line that comes next spells this event
-spelled_next : (left : Option (List ℕ)) (lines : List (List ℕ)) (line : List ℕ) (e : Event) → IsNext left lines line → Spells line e → ComesNext left lines e
+spelled_next : (left : Option (List ℕ)) (lines : List (List ℕ)) (line : List ℕ) (e : Event) → IsNext left lines line → SpellsLine line e → ComesNext left lines e
 spelled_next left lines line e next spells = λ all telling. let n = next.next all telling in (line, n.0, n.1, spells)
 
 -- it is a restart of either service
-cut_next : (left : Option (List ℕ)) (lines : List (List ℕ)) (e : Event) (file : ℕ) → is_restart e file → ComesNext left lines e → IsCut left lines
+cut_next : (left : Option (List ℕ)) (lines : List (List ℕ)) (e : Event) (file : ℕ) → is_restart e file → ComesNext left lines e → IsCutShort left lines
 cut_next left lines e file r next = ⊎_elim (λ keys. inl (subst (ComesNext left lines) keys.0 next)) (λ names. inr (subst (ComesNext left lines) names.0 next)) (which_restart e file r)
 
-stops_at_restart : (props : List PropLine) (old mid new : DiskState) (b : Begin) (s : Stand) (line : List ℕ) (fault : WorldFault) (v : View) (so : SoFar props old mid b s) → StopsAtRestart mid new s.view line fault v
+stops_at_restart : (props : List PropLine) (old mid new : DiskState) (b : Begin) (s : ReplayStand) (line : List ℕ) (fault : WorldFault) (v : View) (so : SoFar props old mid b s) → StopsAtRestart mid new s.view line fault v
     → Appends s.view.written v.written [] → IsNext b.left (lines_in so.played) line → Ran props old new b.world b.words v.words b.left b.written v.written (ended_by fault.file fault.fault) s.count
 stops_at_restart props old mid new b s line fault v so at wrote next = record {
   played = so.played;
@@ -339,7 +339,7 @@ stops_at_restart props old mid new b s line fault v so at wrote next = record {
   restart = λ tells. why_stopped fault.file fault.fault b.left lines (world_after (world_of b.world) h) (at.fails.never_damaged (tells_now old mid lived.run tells))
       (λ is.
       let last = at.fails.spent is (tells_now old mid lived.run tells) in
-      subst (IsSpent b.left lines) lived.world_is (spent_is b.left lines at.restart fault.file (world_of s.view.world) last.0 at.fails.restart comes last.1));
+      subst (IsOpeningSpent b.left lines) lived.world_is (spent_is b.left lines at.restart fault.file (world_of s.view.world) last.0 at.fails.restart comes last.1));
   has_properties = has fault.file fault.fault;
   stops = λ all telling. restart_next at.restart fault.file fault.fault all lines at.fails.restart (comes all telling);
   text = transcript h;
@@ -381,8 +381,8 @@ the_end : (a b : ReplayEnd) → Some a ≡ Some b → a ≡ b
 the_end a b is = cc
 
 -- a line that was played, or not, ends the replay
-line_stops : (props : List PropLine) (old mid new : DiskState) (b : Begin) (s : Stand) (line : List ℕ) (last : Bool) (v : View) (count : ℕ) (stop : ReplayEnd) (so : SoFar props old mid b s) → LinePlayed props mid new s.view line last (Some stop) v s.count count
-    → is_line line ≡ true → IsNext b.left (lines_in so.played) line → (last ≡ true → (all : List ℕ) → b.left ≡ Some all → Stops ended.Done all (lines_in so.played ++ line ∷ []))
+line_stops : (props : List PropLine) (old mid new : DiskState) (b : Begin) (s : ReplayStand) (line : List ℕ) (last : Bool) (v : View) (count : ℕ) (stop : ReplayEnd) (so : SoFar props old mid b s) → LinePlayed props mid new s.view line last (Some stop) v s.count count
+    → is_line line ≡ true → IsNext b.left (lines_in so.played) line → (last ≡ true → (all : List ℕ) → b.left ≡ Some all → StopsAt ended.Done all (lines_in so.played ++ line ∷ []))
     → (0 < length line → BeginsWithin (lines_in so.played)) → Ran props old new b.world b.words v.words b.left b.written v.written stop count
 unfolding IsPlain
 line_stops props old mid new b s line last v count stop so p is next whole within = go p.play last p.plays p.result_is p.counted whole
@@ -397,12 +397,12 @@ line_stops props old mid new b s line last v count stop so p is next whole withi
     Goal n e = Ran props old new b.world b.words v.words b.left b.written v.written e n
 
     played : StaysQuiet mid new s.view line v ⊎ ((plays : PlaysEvent props mid new s.view line v) × Appends s.view.written v.written (line_text (s.view.events + 1) plays.reply))
-        → ((all : List ℕ) → b.left ≡ Some all → Stops ended.Done all (lines ++ line ∷ [])) → Goal (s.count + 1) ended.Done
+        → ((all : List ℕ) → b.left ≡ Some all → StopsAt ended.Done all (lines ++ line ∷ [])) → Goal (s.count + 1) ended.Done
     played (inl stays) whole = stops_quiet props old mid new b s ended.Done line v so stays is ((λ left lines w. tt), tt) whole
     played (inr (plays, wrote)) whole = stops_behind props old mid new b s ended.Done line v (line_text (s.view.events + 1) plays.reply) so plays is ((λ left lines w. tt), tt) wrote refl whole
 
     go : (play : LineOutcome) (last : Bool) → PlaysSo props mid new s.view line play v → Some stop ≡ end_of_play last play → count ≡ s.count + counts play
-        → (last ≡ true → (all : List ℕ) → b.left ≡ Some all → Stops ended.Done all (lines ++ line ∷ [])) → Ran props old new b.world b.words v.words b.left b.written v.written stop count
+        → (last ≡ true → (all : List ℕ) → b.left ≡ Some all → StopsAt ended.Done all (lines ++ line ∷ [])) → Ran props old new b.world b.words v.words b.left b.written v.written stop count
     go Played false p is_end n whole = absurd cc
     go Played true p is_end n whole = subst (λ (e : ReplayEnd). Goal count e) (sym (the_end stop ended.Done is_end)) (subst (λ (k : ℕ). Goal k ended.Done) (sym n) (played p (whole refl)))
     go BadLine last (bad, u) is_end n whole =
@@ -443,11 +443,11 @@ line_stops props old mid new b s line last v count stop so p is next whole withi
         no_end true = refl
         no_end false = refl
 
-ahead_of : (props : List PropLine) (old mid : DiskState) (b : Begin) (s : Stand) (so : SoFar props old mid b s) → IsAhead b.left s.ahead (lines_in so.played)
+ahead_of : (props : List PropLine) (old mid : DiskState) (b : Begin) (s : ReplayStand) (so : SoFar props old mid b s) → IsAhead b.left s.ahead (lines_in so.played)
 ahead_of props old mid b s so = record { whole = so.course.whole; consumed = so.consumed }
 
 -- the next line ends the replay
-pub next_stops : (props : List PropLine) (old mid new : DiskState) (b : Begin) (s s' : Stand) (stop : ReplayEnd) → SoFar props old mid b s → Next props mid new s (Some stop) s' → Ran props old new b.world b.words s'.view.words b.left b.written s'.view.written stop s'.count
+pub next_stops : (props : List PropLine) (old mid new : DiskState) (b : Begin) (s s' : ReplayStand) (stop : ReplayEnd) → SoFar props old mid b s → Next props mid new s (Some stop) s' → Ran props old new b.world b.words s'.view.words b.left b.written s'.view.written stop s'.count
 unfolding IsPlain
 next_stops props old mid new b s s' stop so n = go n.how n.read n.next
   where
@@ -462,13 +462,13 @@ next_stops props old mid new b s s' stop so n = go n.how n.read n.next
     begins_within used longer used_is bounded some = omega (arith, so.used_is, longer, used_is, bounded, some)
 
     ends : (e : ReplayEnd) → IsPlain e → StopsReading mid new s.view s'.view s.count s'.count e (Some stop)
-        → ((all : List ℕ) → b.left ≡ Some all → Stops e all lines) → Ran props old new b.world b.words s'.view.words b.left b.written s'.view.written stop s'.count
+        → ((all : List ℕ) → b.left ≡ Some all → StopsAt e all lines) → Ran props old new b.world b.words s'.view.words b.left b.written s'.view.written stop s'.count
     ends e plain r here =
         subst (λ (x : ReplayEnd). Ran props old new b.world b.words s'.view.words b.left b.written s'.view.written x s'.count) (sym (the_end stop e r.result_is))
         (subst (λ (k : ℕ). Ran props old new b.world b.words s'.view.words b.left b.written s'.view.written e k) (sym r.counted) (before e plain r here))
       where
         before : (e : ReplayEnd) → IsPlain e → StopsReading mid new s.view s'.view s.count s'.count e (Some stop)
-            → ((all : List ℕ) → b.left ≡ Some all → Stops e all lines) → Ran props old new b.world b.words s'.view.words b.left b.written s'.view.written e s.count
+            → ((all : List ℕ) → b.left ≡ Some all → StopsAt e all lines) → Ran props old new b.world b.words s'.view.words b.left b.written s'.view.written e s.count
         before e plain r here = stops_before props old mid new b s e s'.view so r.untouched plain here
 
     go : (how : LineEnd) → Read s how n.line s' → NextSo props mid new s how n.line (Some stop) s' → Ran props old new b.world b.words s'.view.words b.left b.written s'.view.written stop s'.count
@@ -486,12 +486,12 @@ next_stops props old mid new b s s' stop so n = go n.how n.read n.next
     go line_end.NoMemory read r = ends ended.NoMemory ((λ left lines w. tt), tt) r (λ all telling. starts b.left s.ahead lines ahead all telling)
 
 -- the next line was played, and the replay goes on
-pub record GoesFurther (props : List PropLine) (old new : DiskState) (b : Begin) (s s' : Stand) : Type 0 where
+pub record GoesFurther (props : List PropLine) (old new : DiskState) (b : Begin) (s s' : ReplayStand) : Type 0 where
   pub so_far : SoFar props old new b s'
   pub further : s.used < s'.used
   pub counted : s'.count ≡ s.count + 1
 
-pub next_goes_on : (props : List PropLine) (old mid new : DiskState) (b : Begin) (s s' : Stand) → SoFar props old mid b s → Next props mid new s None s' → GoesFurther props old new b s s'
+pub next_goes_on : (props : List PropLine) (old mid new : DiskState) (b : Begin) (s s' : ReplayStand) → SoFar props old mid b s → Next props mid new s None s' → GoesFurther props old new b s s'
 next_goes_on props old mid new b s s' so n = go n.how n.read n.next
   where
     quiet_or_event : StaysQuiet mid new s.view n.line s'.view ⊎ ((plays : PlaysEvent props mid new s.view n.line s'.view) × Appends s.view.written s'.view.written (line_text (s.view.events + 1) plays.reply))
@@ -532,10 +532,10 @@ next_goes_on props old mid new b s s' so n = go n.how n.read n.next
 -- under properties that the lists stand for
 
 -- the same for all of them
-abbrev pub SoFarUnder : DiskState → DiskState → Begin → Stand → Type 0
+abbrev pub SoFarUnder : DiskState → DiskState → Begin → ReplayStand → Type 0
 SoFarUnder old new b s = (props : List PropLine) → HasLists b.world props → SoFar props old new b s
 
-pub stands_under : (old mid : DiskState) (b : Begin) (s : Stand) → SoFarUnder old mid b s → (props : List PropLine) × HasLists b.world props
+pub stands_under : (old mid : DiskState) (b : Begin) (s : ReplayStand) → SoFarUnder old mid b s → (props : List PropLine) × HasLists b.world props
     → (Tells old → (done : Acknowledged) × HoldsLogs old b.world done) → Tells mid → (done : Acknowledged) × HoldsLogs mid s.view.world done
 stands_under old mid b s so some stands tells =
     let here = so some.0 some.1 in
@@ -544,16 +544,16 @@ stands_under old mid b s so some stands tells =
     let before = stands telling in
     (also before.0 (logged_in (events_of_lines here.played)), lived.stands telling before.0 before.1)
 
-pub lists_under : (old mid : DiskState) (b : Begin) (s : Stand) → SoFarUnder old mid b s → (props : List PropLine) × HasLists b.world props → (props : List PropLine) × HasLists s.view.world props
+pub lists_under : (old mid : DiskState) (b : Begin) (s : ReplayStand) → SoFarUnder old mid b s → (props : List PropLine) × HasLists b.world props → (props : List PropLine) × HasLists s.view.world props
 lists_under old mid b s so some = (some.0, has_lists b.world s.view.world some.0 (so some.0 some.1).course.lived.lists some.1)
 
-pub goes_on_under : (old mid new : DiskState) (b : Begin) (s s' : Stand) → SoFarUnder old mid b s → ((props : List PropLine) → HasLists s.view.world props → Next props mid new s None s')
+pub goes_on_under : (old mid new : DiskState) (b : Begin) (s s' : ReplayStand) → SoFarUnder old mid b s → ((props : List PropLine) → HasLists s.view.world props → Next props mid new s None s')
     → (props : List PropLine) → HasLists b.world props → GoesFurther props old new b s s'
 goes_on_under old mid new b s s' so next props has =
     let here = so props has in
     next_goes_on props old mid new b s s' here (next props (has_lists b.world s.view.world props here.course.lived.lists has))
 
-pub stops_under : (old mid new : DiskState) (b : Begin) (s s' : Stand) (stop : ReplayEnd) → SoFarUnder old mid b s → ((props : List PropLine) → HasLists s.view.world props → Next props mid new s (Some stop) s')
+pub stops_under : (old mid new : DiskState) (b : Begin) (s s' : ReplayStand) (stop : ReplayEnd) → SoFarUnder old mid b s → ((props : List PropLine) → HasLists s.view.world props → Next props mid new s (Some stop) s')
     → (props : List PropLine) → HasLists b.world props → Ran props old new b.world b.words s'.view.words b.left b.written s'.view.written stop s'.count
 stops_under old mid new b s s' stop so next props has =
     let here = so props has in

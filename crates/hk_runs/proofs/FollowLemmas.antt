@@ -3,7 +3,7 @@ use Rattle.std.proofs.Common.{◌≡◌, inl, inr, ℕ, List, [], ◌∷◌, ◌
 use Rattle.std.specs.Prelude.{Some}
 use Rattle.hk_base.specs.declared.ended.Ended.{Ended}
 use Rattle.hk_serve.specs.Ends.{Ends}
-use Rattle.hk_serve.specs.Exchanges.{AsksInOrder, Exchange, Leaves, NoCall, Outcome, Replied, Stand, WentOn, bytes_in}
+use Rattle.hk_serve.specs.Exchanges.{AsksInOrder, Exchange, Leaves, NoCall, Replied, RequestOutcome, Stand, WentOn, bytes_in}
 use Rattle.hk_serve.specs.Served.{AreRequestsOf, Served, last_request}
 use Rattle.hk_serve.specs.Transactions.{Answering, Transaction}
 
@@ -18,7 +18,7 @@ abbrev pub beside : {D E : Type 0} → Stand D → E → Stand E
 beside stand e = record { ahead = stand.ahead; desk = e; written = stand.written }
 
 leaves_so : {D E : Type 0} (answers : Answering D) (others : Answering E) (R : D → E → Type 0) → Follows answers others R
-    → (d : D) (e : E) (outcome : Outcome) (next : D) → R d e → Leaves answers d outcome next → (then : E) × (Leaves others e outcome then × R next then)
+    → (d : D) (e : E) (outcome : RequestOutcome) (next : D) → R d e → Leaves answers d outcome next → (then : E) × (Leaves others e outcome then × R next then)
 leaves_so answers others R follows d e (Replied user done) next r leaves = follows d e user done next r leaves
 leaves_so answers others R follows d e (NoCall fault) next r same = (e, (refl, subst (λ x. R x e) (sym same) r))
 

@@ -12,14 +12,14 @@ use Rattle.prop_text.specs.declared.props.Props.{Props}
 use Rattle.world_run.specs.Acknowledged.{Acknowledged, LeavesBoth}
 use Rattle.world_run.specs.Keeps.{LeftByStarts}
 use Rattle.world_run.specs.Kept.{IsKnownLater}
-use Rattle.world_run.specs.Ledger.{Draw, Hidden, Ledger, Past, Starts, drawn_before, hidden_after, past_of}
-use Rattle.world_run.specs.Linked.{DrawsApart, SoundFiles, StartsSound, WordsApart}
+use Rattle.world_run.specs.Ledger.{Draw, FilesAtSubmission, Hidden, Ledger, Past, drawn_before, hidden_after, past_of}
+use Rattle.world_run.specs.Linked.{AreDrawsApart, SoundFiles, StartsSound, WordsApart}
 use Rattle.world_run.specs.Promise.{In}
 use Rattle.world_run.specs.World.{WorldState, first_world}
 use Rattle.world_run.proofs.KeptLemmas.{image_kept}
 use Rattle.world_run.proofs.PastLemmas.{deposit-past, draw-past, serve-past}
 use Rattle.command_io.specs.declared.ends.ReplayEnd.{ReplayEnd}
-use Rattle.hk_runs.specs.Headline.{ConnectionKeepsFiles, HasVerdict, Headline, IsPart, KeepsFiles, Lasts, NothingHappened, WorldKept, known_after}
+use Rattle.hk_runs.specs.Headline.{ConnectionKeepsFiles, HasVerdict, Headline, IsPartOf, KeepsFiles, Lasts, NothingHappened, WorldKept, known_after}
 use Rattle.hk_runs.specs.KeyFacts.{FactOfDisk, FactOfLog, FactOfTable, KeyFact}
 use Rattle.hk_runs.specs.Logs.{HiddenBefore, NoRestart, OnDisk, SurvivesLast, SurvivesUntil, opened_logs}
 use Rattle.hk_runs.specs.Pipe.{Converses, Pipe, PipeUnder}
@@ -72,18 +72,18 @@ later_on a b c p q = record {
   entries = p.entries ++ q.entries;
   ledger = q.ledger ∙ ap (λ (l : Ledger). l ++ q.entries) p.ledger ∙ append_assoc a.ledger p.entries q.entries;
   begun = p.begun ++ q.begun;
-  starts = q.starts ∙ ap (λ (l : Starts). l ++ q.begun) p.starts ∙ append_assoc a.starts p.begun q.begun;
+  starts = q.starts ∙ ap (λ (l : FilesAtSubmission). l ++ q.begun) p.starts ∙ append_assoc a.starts p.begun q.begun;
 }
 
 -- parts of a history
 
-part_more : (x : Happened) (part history : History) → IsPart part history → IsPart part (x ∷ history)
+part_more : (x : Happened) (part history : History) → IsPartOf part history → IsPartOf part (x ∷ history)
 part_more x part history is = (x ∷ is.0, ap (λ (l : History). x ∷ l) is.1)
 
-pub whole : (history : History) → IsPart history history
+pub whole : (history : History) → IsPartOf history history
 whole history = ([], refl)
 
-pub nothing : (history : History) → IsPart [] history
+pub nothing : (history : History) → IsPartOf [] history
 nothing history = (history, sym (append-nil history))
 
 module _ (before : Hidden) (first : WorldState) (words : ℕ → ℕ) where
@@ -98,7 +98,7 @@ module _ (before : Hidden) (first : WorldState) (words : ℕ → ℕ) where
   hidden_at (x ∷ part) [] opens = opens.0
   hidden_at part (x ∷ more) opens = hidden_at part more opens.1
 
-  apart_at : (part more : History) → StayApart before first words (more ++ part) → DrawsApart (hidden_in before first words part)
+  apart_at : (part more : History) → StayApart before first words (more ++ part) → AreDrawsApart (hidden_in before first words part)
   apart_at [] [] apart = apart
   apart_at (x ∷ part) [] apart = apart.0
   apart_at part (x ∷ more) apart = apart_at part more apart.1
@@ -114,10 +114,10 @@ runs_at : (lines : List PropLine) (tells : Type 0) (first : WorldState) (words :
 runs_at lines tells first words before h earlier [] runs = runs.0
 runs_at lines tells first words before h earlier (x ∷ more) runs = runs_at lines tells first words before h earlier more runs.1
 
-judged_at : (lines : List PropLine) (tells : Type 0) (first : WorldState) (words : ℕ → ℕ) (before : ℕ) (history : History) → Runs lines tells first words before history → (h : Happened) (earlier : History) → IsPart (h ∷ earlier) history
+judged_at : (lines : List PropLine) (tells : Type 0) (first : WorldState) (words : ℕ → ℕ) (before : ℕ) (history : History) → Runs lines tells first words before history → (h : Happened) (earlier : History) → IsPartOf (h ∷ earlier) history
     → HasVerdict lines (world_after first earlier) h.event h.reply
 judged_at lines tells first words before history runs h earlier part =
-    step_judged lines (world_after first earlier) (behind (drawn_in earlier) words) h.now _ h.reply h.drawn h.logged h.world tells h.event
+    step_judged lines (world_after first earlier) (behind (drawn_in earlier) words) h.now _ tells h.reply h.drawn h.logged h.world h.event
     (runs_at lines tells first words before h earlier part.0 (subst (Runs lines tells first words before) part.1 runs)).step.step
 
 -- worlds and images
@@ -131,7 +131,7 @@ world_kept w h is kept_keys kept_names = record { files_open = is.files_open kep
 
 -- files that a crash leaves are sound with what is known after some part of a history
 abbrev SoundIn : Past → WorldState → (ℕ → ℕ) → History → Image → Type 0
-SoundIn past first words history c = (part : History) × IsPart part history × SoundFiles (known_after past first words part) c
+SoundIn past first words history c = (part : History) × IsPartOf part history × SoundFiles (known_after past first words part) c
 
 module _ (old : DiskState) (past : Past) (sound : StartsSound old past) (first : WorldState) (words : ℕ → ℕ) (done : Acknowledged) (c : Image) where
   before_is : HiddenBefore old (drawn_before past)
@@ -191,7 +191,7 @@ module _ (past : Past) (props : Props) (old new : DiskState) (words : ℕ → �
   found : (fact : KeyFact) → FactOfDisk old fact → FactOfTable fact table
   found fact holds = start_finds old fact holds (ends.reads tells) disk.commands table disk.keys
 
-  worlds : (part : History) → IsPart part history → WorldKept (known_after past first words part) (world_after first part)
+  worlds : (part : History) → IsPartOf part history → WorldKept (known_after past first words part) (world_after first part)
   worlds part is =
       world_kept (world_after first part) (hidden_in (drawn_before past) first words part)
       (hidden_at (drawn_before past) first words part is.0 (subst (FilesOpenThroughout (drawn_before past) first words) is.1 (k.promise tells (drawn_before past) before)))

@@ -9,7 +9,7 @@ use Rattle.replay_text.specs.Transcript.{line_text}
 use Rattle.world_run.specs.World.{RunningWorld}
 use Rattle.command_io.specs.Lines.{is_line, text_of}
 use Rattle.hk_runs.specs.PlayedLines.{AreSpelled, PlayedLine, events_of_lines, lines_in, transcript}
-use Rattle.hk_runs.specs.Steps.{PlaysEvent, Stand, StaysQuiet, Untouched, View}
+use Rattle.hk_runs.specs.Steps.{PlaysEvent, ReplayStand, StaysQuiet, Untouched, View}
 use Rattle.hk_runs.proofs.LivedLemmas.{Lived, happened_in, lived_more, lived_nothing, lived_untouched}
 use Rattle.command_io.proofs.SplitLemmas.{text_more, whole_more}
 
@@ -28,7 +28,7 @@ pub record Course (props : List PropLine) (old new : DiskState) (b : Begin) (v :
   pub whole : IsTrue (list_all is_line (lines_in played))
 
 -- between two lines: what was used of the input, and what was written
-pub record SoFar (props : List PropLine) (old new : DiskState) (b : Begin) (s : Stand) : Type 0 where
+pub record SoFar (props : List PropLine) (old new : DiskState) (b : Begin) (s : ReplayStand) : Type 0 where
   pub played : List PlayedLine
   pub course : Course props old new b s.view played
   pub counted : s.count ≡ length (lines_in played)
@@ -36,7 +36,7 @@ pub record SoFar (props : List PropLine) (old new : DiskState) (b : Begin) (s : 
   pub used_is : s.used ≡ length (text_of (lines_in played))
   pub wrote : Appends b.written s.view.written (transcript (events_of_lines played))
 
-pub nothing_yet : (props : List PropLine) (d : DiskState) (b : Begin) (s : Stand) → s.view.world ≡ b.world → ((k : ℕ) → s.view.words k ≡ b.words k) → s.view.events ≡ 0 → s.count ≡ 0 → s.used ≡ 0
+pub nothing_yet : (props : List PropLine) (d : DiskState) (b : Begin) (s : ReplayStand) → s.view.world ≡ b.world → ((k : ℕ) → s.view.words k ≡ b.words k) → s.view.events ≡ 0 → s.count ≡ 0 → s.used ≡ 0
     → Consumes b.left s.ahead [] → Appends b.written s.view.written [] → SoFar props d d b s
 nothing_yet props d b s world words events count used consumed wrote = record {
   played = [];
@@ -93,7 +93,7 @@ pub count_more : (count : ℕ) (lines : List (List ℕ)) (line : List ℕ) → c
 count_more count lines line counted = omega (arith, counted, length-append lines (line ∷ []))
 
 -- the next line was ended, and this was written of it
-so_far_line : (props : List PropLine) (old mid new : DiskState) (b : Begin) (s : Stand) (x : PlayedLine) (v : View) (ahead : Option (List ℕ)) (used : ℕ) (so : SoFar props old mid b s) → Course props old new b v (x ∷ so.played)
+so_far_line : (props : List PropLine) (old mid new : DiskState) (b : Begin) (s : ReplayStand) (x : PlayedLine) (v : View) (ahead : Option (List ℕ)) (used : ℕ) (so : SoFar props old mid b s) → Course props old new b v (x ∷ so.played)
     → Appends b.written v.written (transcript (events_of_lines (x ∷ so.played))) → Consumes s.ahead ahead (x.line ++ 10 ∷ []) → used ≡ s.used + length (x.line ++ 10 ∷ [])
     → SoFar props old new b (record { view = v; ahead = ahead; used = used; count = s.count + 1 })
 so_far_line props old mid new b s x v ahead used so course wrote consumed used_is = record {
@@ -108,14 +108,14 @@ so_far_line props old mid new b s x v ahead used so course wrote consumed used_i
     lines : List (List ℕ)
     lines = lines_in so.played
 
-pub so_far_quiet : (props : List PropLine) (old mid new : DiskState) (b : Begin) (s : Stand) (line : List ℕ) (v : View) (ahead : Option (List ℕ)) (used : ℕ) → SoFar props old mid b s → StaysQuiet mid new s.view line v
+pub so_far_quiet : (props : List PropLine) (old mid new : DiskState) (b : Begin) (s : ReplayStand) (line : List ℕ) (v : View) (ahead : Option (List ℕ)) (used : ℕ) → SoFar props old mid b s → StaysQuiet mid new s.view line v
     → is_line line ≡ true → Consumes s.ahead ahead (line ++ 10 ∷ []) → used ≡ s.used + length (line ++ 10 ∷ [])
     → SoFar props old new b (record { view = v; ahead = ahead; used = used; count = s.count + 1 })
 so_far_quiet props old mid new b s line v ahead used so stays is consumed used_is =
     so_far_line props old mid new b s (quiet_line line) v ahead used so (course_quiet props old mid new b s.view v line so.played so.course stays is)
     (subst (λ (x : View). Appends b.written x.written (transcript (events_of_lines so.played))) (sym stays.untouched.same) so.wrote) consumed used_is
 
-pub so_far_event : (props : List PropLine) (old mid new : DiskState) (b : Begin) (s : Stand) (line : List ℕ) (v : View) (ahead : Option (List ℕ)) (used : ℕ) → SoFar props old mid b s → (plays : PlaysEvent props mid new s.view line v)
+pub so_far_event : (props : List PropLine) (old mid new : DiskState) (b : Begin) (s : ReplayStand) (line : List ℕ) (v : View) (ahead : Option (List ℕ)) (used : ℕ) → SoFar props old mid b s → (plays : PlaysEvent props mid new s.view line v)
     → Appends s.view.written v.written (line_text (s.view.events + 1) plays.reply) → is_line line ≡ true → Consumes s.ahead ahead (line ++ 10 ∷ []) → used ≡ s.used + length (line ++ 10 ∷ [])
     → SoFar props old new b (record { view = v; ahead = ahead; used = used; count = s.count + 1 })
 so_far_event props old mid new b s line v ahead used so plays wrote is consumed used_is =

@@ -13,7 +13,7 @@ use Rattle.prop_text.specs.declared.faults.PropFault.{PropFault}
 use Rattle.prop_text.specs.declared.faults.PropFault.TheVariants as prop_fault
 use Rattle.hk_events.specs.declared.event.Event.{Event}
 use Rattle.world_run.specs.Acknowledged.{Acknowledged, LeavesBoth, RunBoth, also}
-use Rattle.world_run.specs.Keeps.{Begins, LeftByStarts}
+use Rattle.world_run.specs.Keeps.{BeginsFirstWorld, LeftByStarts}
 use Rattle.world_run.specs.Starts.{FailsAt, OpensBoth}
 use Rattle.world_run.specs.World.{RunningWorld, WorldState, first_world}
 use Rattle.command_io.specs.declared.ends.ReplayEnd.{ReplayEnd}
@@ -25,7 +25,7 @@ use Rattle.hk_runs.specs.Logs.{OnDisk, opened_logs}
 use Rattle.hk_runs.specs.PlayedLines.{events_of_lines, lines_in, transcript}
 use Rattle.hk_runs.specs.Run.{History, Runs, logged_in, world_after}
 use Rattle.command_io.specs.Ends.{Closes, ended_by, ended_by_props, ended_by_text, last_line, status_of}
-use Rattle.hk_runs.specs.Replay.{CutAt, IsPrinted, Played, ReadsAt, Replay, ReplayUnder, RestartStops, Says}
+use Rattle.hk_runs.specs.Replay.{CutAt, IsPrinted, Played, ReadsLogsAt, Replay, ReplayUnder, RestartStops, SaysEnd}
 use Rattle.hk_runs.specs.Steps.{Caused, Ran}
 use Rattle.hk_runs.proofs.BeganLemmas.{apart_kept, last_kept, promise_kept, survives_kept}
 use Rattle.hk_runs.proofs.LivedLemmas.{tells_now}
@@ -36,7 +36,7 @@ use Rattle.hk_runs.proofs.LivedLemmas.{tells_now}
 record Wrote (stop how : ReplayEnd) (lines : ℕ) (printed : List ℕ) (written now : Option (List ℕ)) : Type 0 where
   text : List ℕ
   wrote : Appends written now text
-  says : Says stop how lines printed text
+  says : SaysEnd stop how lines printed text
 
 closed : (stop how : ReplayEnd) (lines : ℕ) (printed body : List ℕ) (written mid now : Option (List ℕ)) → IsPrinted stop body printed → Appends written mid body → Closes stop lines mid now how → Wrote stop how lines printed written now
 closed stop how lines printed body written mid now is wrote c = go c.writes
@@ -111,7 +111,7 @@ has_read same_disk same old new acls acls' words words' left written now how pro
 
 -- lines were played
 
-pub played : (props : Props) (same : Type 0) (old mid new : DiskState) (r : RunningWorld) (words words' : ℕ → ℕ) (left written between now : Option (List ℕ)) (stop how : ReplayEnd) (count : ℕ) → Begins props.sizes old mid r
+pub played : (props : Props) (same : Type 0) (old mid new : DiskState) (r : RunningWorld) (words words' : ℕ → ℕ) (left written between now : Option (List ℕ)) (stop how : ReplayEnd) (count : ℕ) → BeginsFirstWorld props.sizes old mid r
     → (Tells old → LeavesBoth old mid (LeftByStarts old)) → RunBoth old mid
     → Ran props.lines mid new r words words' left written between stop count → Closes stop count between now how → ReplayUnder props same old new words words' left written now how
 played props same old mid new r words words' left written between now stop how count b moments run ran c =
@@ -166,7 +166,7 @@ played props same old mid new r words words' left written between now stop how c
       on_disk = disk;
       promise = λ tells. promise_kept props.sizes old mid new r b tells words h Cut (found tells) (ran.promise (tells_now old mid run tells));
       apart = λ tells. apart_kept props.sizes old mid new r b tells words h Cut (found tells) (ran.apart (tells_now old mid run tells));
-      reads = λ tells. subst (λ (v : WorldState). ReadsAt stop left lines_played new (also (found tells) (logged_in h)) (world_after v h)) b.first (ran.kept (tells_now old mid run tells) b.rests (found tells) (b.log tells).holds).reads;
+      reads = λ tells. subst (λ (v : WorldState). ReadsLogsAt stop left lines_played new (also (found tells) (logged_in h)) (world_after v h)) b.first (ran.kept (tells_now old mid run tells) b.rests (found tells) (b.log tells).holds).reads;
       restart = λ tells. subst (λ (v : WorldState). RestartStops stop left lines_played (world_after v h)) b.first (ran.restart (tells_now old mid run tells));
       stops = ran.stops;
       has_properties = ran.has_properties;

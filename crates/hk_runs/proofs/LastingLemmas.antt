@@ -5,7 +5,7 @@ use Rattle.hk_base.specs.Disk.{DiskState, Image}
 use Rattle.key_rows.specs.declared.rows.KeyCommand.{KeyCommand}
 use Rattle.key_rows.specs.declared.rows.KeyCommand.TheVariants.{Opened, Create, Roll, Delete}
 use Rattle.key_rows.specs.declared.rows.KeyRow.{KeyRow}
-use Rattle.key_rows.specs.Sound.{IsTable}
+use Rattle.key_rows.specs.Sound.{IsKeyTable}
 use Rattle.key_rows.specs.Table.{Table, after, applies, no_keys}
 use Rattle.kms_store.specs.Replay.{HasRoomForBirths}
 use Rattle.kms_store.specs.Store.{AKeyOpening, Applies, IsKeyLog, IsLeftByStart, is_key_opening, settled_commands, settled_table}
@@ -48,7 +48,7 @@ holds_opened : (sizes : SizeValues) (t : Table) (fact : KeyFact) → FactOfTable
 holds_opened sizes t fact h = (inl h.born, h.holds)
 
 -- what is known of a service whose table was found in a log
-opened_births : (sizes : SizeValues) (t : Table) → IsTable t → HasRoomForBirths t → KeepsBirths (service_after_opening (no_queues sizes) t)
+opened_births : (sizes : SizeValues) (t : Table) → IsKeyTable t → HasRoomForBirths t → KeepsBirths (service_after_opening (no_queues sizes) t)
 opened_births sizes t is room = record { ready = record { rising = is.births; births = omega (arith, room); counter = omega arith; waits = tt; ready = tt }; waits = tt }
 
 -- in each world on the way

@@ -8,5 +8,5 @@ pub mod LastLemmas
 pub mod LastingLemmas
 pub mod LivedLemmas
 pub mod PipeLemmas
-pub mod StageLemmas
+pub mod SessionLemmas
 pub mod VerdictLemmas

@@ -11,7 +11,7 @@ use Rattle.world_run.specs.Acknowledged.{Acknowledged, HoldsLogs, LeavesBoth, Ru
 use Rattle.world_run.specs.World.{RunningWorld, WorldState, world_of}
 use Rattle.world_run.specs.Ledger.{Hidden, hidden_after, past_of}
 use Rattle.world_run.specs.Keeps.{LinkedStep, RestsNow, Steps}
-use Rattle.world_run.specs.Linked.{DrawsApart, LinkedWorld, SoundFiles}
+use Rattle.world_run.specs.Linked.{AreDrawsApart, LinkedWorld, SoundFiles}
 use Rattle.world_run.specs.Own.{SurvivesAtRest, SurvivesEvent}
 use Rattle.world_run.specs.Promise.{ZoneFilesOpen}
 use Rattle.world_run.proofs.KeySteps.{known-world}
@@ -63,7 +63,7 @@ pub has_lists : (r r' : RunningWorld) (props : List PropLine) → SameLists r r'
 has_lists r r' props same has = subst (λ (l : Lists). AreListsOf l props) (sym same) has
 
 -- the draws by the end of a history are apart
-apart_last : (before : Hidden) (first : WorldState) (words : ℕ → ℕ) (history : History) → StayApart before first words history → DrawsApart (hidden_in before first words history)
+apart_last : (before : Hidden) (first : WorldState) (words : ℕ → ℕ) (history : History) → StayApart before first words history → AreDrawsApart (hidden_in before first words history)
 apart_last before first words [] apart = apart
 apart_last before first words (x ∷ earlier) apart = apart.0
 
@@ -72,7 +72,7 @@ pub record Lived (props : List PropLine) (old new : DiskState) (first : RunningW
   pub runs : Runs props (Tells old) (world_of first) words old.faults history
   pub linked : Tells old → (h : Hidden) → LinkedWorld (world_of first) h → LinkedWorld (world_of r) (hidden_in h (world_of first) words history)
   pub files_open : Tells old → (h : Hidden) → IsHidden (world_of first) h → FilesOpenThroughout h (world_of first) words history
-  pub draws_apart : Tells old → (h : Hidden) → LinkedWorld (world_of first) h → DrawsApart h → StayApart h (world_of first) words history
+  pub draws_apart : Tells old → (h : Hidden) → LinkedWorld (world_of first) h → AreDrawsApart h → StayApart h (world_of first) words history
   pub stands : Tells old → (done : Acknowledged) → HoldsLogs old first done → HoldsLogs new r (also done (logged_in history))
   pub survives : Tells old → (done : Acknowledged) → HoldsLogs old first done → LeavesBoth old new (SurvivesIn done (LinkedWorld (world_of first)) (world_of first) words history)
   pub rests : RestsNow old first → RestsNow new r
@@ -163,7 +163,7 @@ lived_more props old mid new first r r' words words' words'' earlier now e reply
     so.files_open telling h hidden,
   );
   draws_apart = λ telling h linked apart. (
-    subst DrawsApart (same_hidden (then h))
+    subst AreDrawsApart (same_hidden (then h))
         (s.step.draws_apart (known-world e (Tells mid) (tells_now old mid so.run telling)) (then h) (so.linked telling h linked) (apart_last h one words earlier (so.draws_apart telling h linked apart)).words),
     so.draws_apart telling h linked apart,
   );

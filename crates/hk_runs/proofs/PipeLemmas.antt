@@ -10,16 +10,16 @@ use Rattle.prop_text.specs.declared.props.Props.{Props}
 use Rattle.hk_events.specs.declared.event.Event.TheVariants as event
 use Rattle.world_run.specs.Acknowledged.{Acknowledged, LeavesBoth, RunBoth}
 use Rattle.world_run.specs.World.{RunningWorld, WorldState, first_world, world_of}
-use Rattle.world_run.specs.Drives.{Course, IsCourse, Leading, Leads, Standing, next_event, standing_after}
-use Rattle.world_run.specs.Keeps.{Begins, LeftByStarts}
+use Rattle.world_run.specs.Drives.{Course, IsCourse, Leads, Standing, WorldLeading, next_event, standing_after}
+use Rattle.world_run.specs.Keeps.{BeginsFirstWorld, LeftByStarts}
 use Rattle.hk_base.specs.declared.ended.Ended.{Ended}
 use Rattle.hk_base.specs.declared.ended.Ended.TheVariants as ended
 use Rattle.hk_serve.specs.Served.{Served}
 use Rattle.hk_serve.specs.Transactions.{Transaction}
 use Rattle.world_desk.specs.Orders.{AnsweredEvent, Follow, IsDrive, IsOrder, submitted}
-use Rattle.world_desk.specs.Worlds.{DrivesOn, Happens, LeadsOn, Passes, events_in}
+use Rattle.world_desk.specs.Worlds.{DrivesOn, HappensAtDesk, LeadsOn, Passes, events_in}
 use Rattle.http_wire.specs.Reading.{ahead}
-use Rattle.hk_runs.specs.Pipe.{Asks, Converses, Pipe, PipeUnder, answered_in, connection_status}
+use Rattle.hk_runs.specs.Pipe.{Converses, IsTransactionOf, Pipe, PipeUnder, answered_in, connection_status}
 use Rattle.hk_runs.specs.Logs.{NoRestart, opened_logs}
 use Rattle.command_io.specs.Ends.{ended_by, ended_by_props}
 use Rattle.command_io.proofs.UsageLemmas.{end_is_no_usage}
@@ -68,11 +68,11 @@ grown state to_come props o now earlier a (p ∷ course) so leads =
     }
 
 -- a drive is a course, whose events follow one another
-leads_along : {D W : Type 0} (leads : Leading D W) (path : List ℕ) (a : Standing D W) (course : Course D W) → IsCourse leads path a course → LeadsOn leads a course
+leads_along : {D W : Type 0} (leads : WorldLeading D W) (path : List ℕ) (a : Standing D W) (course : Course D W) → IsCourse leads path a course → LeadsOn leads a course
 leads_along leads path a [] is = tt
 leads_along leads path a (p ∷ course) is = (is.1, leads_along leads path a course is.2)
 
-follow_along : {D W : Type 0} (leads : Leading D W) (path : List ℕ) (a : Standing D W) (course : Course D W) → IsCourse leads path a course → Follow (event.Walk path) (next_event path) (events_in course)
+follow_along : {D W : Type 0} (leads : WorldLeading D W) (path : List ℕ) (a : Standing D W) (course : Course D W) → IsCourse leads path a course → Follow (event.Walk path) (next_event path) (events_in course)
 follow_along leads path a [] is = tt
 follow_along leads path a (p ∷ []) is = (is.0, tt)
 follow_along leads path a (p ∷ (q ∷ course)) is = (is.0, follow_along leads path a (q ∷ course) is.2)
@@ -106,7 +106,7 @@ driven {D} {W} state to_come props o now earlier (Some zone) a b so drives =
 -- one transaction more: what it adds to the history
 pub record AskedMore {D W : Type 0} (state : D → DiskState) (to_come : W → ℕ → ℕ) (props : List PropLine) (o : Opened) (earlier : History) (user : List ℕ) (done : Transaction) (b : Standing D W) : Type 0 where
   pub later : History
-  pub asks : Asks earlier user done later
+  pub asks : IsTransactionOf earlier user done later
   pub talked : TalksAs state to_come props o b later
 
 asked_more : {D W : Type 0} (state : D → DiskState) (to_come : W → ℕ → ℕ) (props : List PropLine) (o : Opened) (now : ℕ) (earlier : History) (user : List ℕ) (done : Transaction) (a b : Standing D W)
@@ -134,8 +134,8 @@ asked_more {D} {W} state to_come props o now earlier user done a b so passes =
 
 -- a connection was served, once both logs were opened
 pub converses : {D W : Type 0} (state : D → DiskState) (to_come : W → ℕ → ℕ) (props : Props) (old : DiskState) (v v' : Standing D W) (left left' written now : Option (List ℕ)) (unused : List ℕ) (how : Ended)
-    → Begins props.sizes old (state v.disk) v.world → (Tells old → LeavesBoth old (state v.disk) (LeftByStarts old)) → RunBoth old (state v.disk) → HasLists v.world props.lines
-    → Served (Happens state to_come) (record { ahead = left; desk = v; written = written }) (record { ahead = ahead unused left'; desk = v'; written = now }) how
+    → BeginsFirstWorld props.sizes old (state v.disk) v.world → (Tells old → LeavesBoth old (state v.disk) (LeftByStarts old)) → RunBoth old (state v.disk) → HasLists v.world props.lines
+    → Served (HappensAtDesk state to_come) (record { ahead = left; desk = v; written = written }) (record { ahead = ahead unused left'; desk = v'; written = now }) how
     → Converses props old (state v'.disk) (to_come v.words) (to_come v'.words) left left' written now how
 converses {D} {W} state to_come props old v v' left left' written now unused how b moments run has served = record {
   table = b.table;
@@ -183,8 +183,8 @@ converses {D} {W} state to_come props old v v' left left' written now unused how
     o : Opened
     o = record { disk = mid; services = v.world; words = words }
 
-    so : ServedSo Asks (TalksAs state to_come props.lines o) (record { ahead = left; desk = v; written = written }) (record { ahead = ahead unused left'; desk = v'; written = now }) how []
-    so = served_so (Happens state to_come) Asks (TalksAs state to_come props.lines o)
+    so : ServedSo IsTransactionOf (TalksAs state to_come props.lines o) (record { ahead = left; desk = v; written = written }) (record { ahead = ahead unused left'; desk = v'; written = now }) how []
+    so = served_so (HappensAtDesk state to_come) IsTransactionOf (TalksAs state to_come props.lines o)
         (λ d e user done next r happens.
         let passes = happens.passes props.lines (has_lists v.world d.world props.lines r.lists has) in
         let more = asked_more state to_come props.lines o happens.now e user done d next r passes in

@@ -25,7 +25,7 @@ use Rattle.prop_text.specs.declared.props.Props.{Props}
 use Rattle.world_run.specs.Batches.{batch_call}
 use Rattle.world_run.specs.Kept.{FilesKept, ImageKept, IsKnownLater}
 use Rattle.world_run.specs.Ledger.{Past, drawn_before, past_of}
-use Rattle.world_run.specs.Linked.{DrawsApart, StartsSound, WordsApart}
+use Rattle.world_run.specs.Linked.{AreDrawsApart, StartsSound, WordsApart}
 use Rattle.world_run.specs.Verdicts.{IsJudged}
 use Rattle.world_run.specs.World.{WorldState, first_world, numbered}
 use Rattle.command_io.specs.Environment.{Environment}
@@ -43,8 +43,8 @@ abbrev pub WorldKept : Past → WorldState → Type 0
 WorldKept known w = (kept_keys kept_names : Bool) → FilesKept known (settled kept_keys w.keys).table.rows (settled_names kept_names w.names).table
 
 -- what had happened by some moment of a history
-abbrev pub IsPart : History → History → Type 0
-IsPart part history = (more : History) × (history ≡ more ++ part)
+abbrev pub IsPartOf : History → History → Type 0
+IsPartOf part history = (more : History) × (history ≡ more ++ part)
 
 -- what is known of earlier runs and of this part of the present one: which file got which draw, and which files each re-encryption began with
 abbrev pub known_after : Past → WorldState → (ℕ → ℕ) → History → Past
@@ -73,27 +73,27 @@ HasVerdict lines w _ outcome = ⊤
 
 -- A fact of a key lasts: it is true in each world on the way, in each key log that a crash leaves since, and in the end.
 pub record Lasts (old new : DiskState) (first : WorldState) (history : History) (fact : KeyFact) : Type 0 where
-  pub worlds : (part : History) → IsPart part history → FactOfWorld (world_after first part) fact
+  pub worlds : (part : History) → IsPartOf part history → FactOfWorld (world_after first part) fact
   pub on_disk : LastsOnDisk old new fact
 
 -- What holds of a history of events from the first world on, under the properties of these lines, while the disk went from `old` to
 -- `new`: `past` is what is known of earlier runs, and these words were to come.
 pub record Headline (past : Past) (lines : List PropLine) (old new : DiskState) (words : ℕ → ℕ) (first : WorldState) (history : History) : Type 0 where
   -- in each world on the way
-  pub worlds : (part : History) → IsPart part history → WorldKept (known_after past first words part) (world_after first part)
+  pub worlds : (part : History) → IsPartOf part history → WorldKept (known_after past first words part) (world_after first part)
   -- in each pair of files that a crash at any moment since the start may leave, with the draws of some part of the history
-  pub images : (c : Image) → new.left_since old.moment c → (part : History) × IsPart part history × ImageKept (known_after past first words part) c
+  pub images : (c : Image) → new.left_since old.moment c → (part : History) × IsPartOf part history × ImageKept (known_after past first words part) c
   -- each call is denied exactly if the access control lists deny it
-  pub verdicts : (h : Happened) (earlier : History) → IsPart (h ∷ earlier) history → HasVerdict lines (world_after first earlier) h.event h.reply
+  pub verdicts : (h : Happened) (earlier : History) → IsPartOf (h ∷ earlier) history → HasVerdict lines (world_after first earlier) h.event h.reply
   -- the next run may start from the files as they are left in the end
   pub again : StartsSound new (known_after past first words history)
   -- what is known after a part stays known after each later part, and in the end
-  pub grows : (part later : History) → IsPart part later → IsPart later history → IsKnownLater (known_after past first words part) (known_after past first words later)
+  pub grows : (part later : History) → IsPartOf part later → IsPartOf later history → IsKnownLater (known_after past first words part) (known_after past first words later)
   -- A key's materials last while the key exists, and what it opened it opens. So an encrypted key that was copied still opens when no file
   -- has it any more.
   pub lasts : (fact : KeyFact) → FactOfDisk old fact → Lasts old new first history fact
   -- and if no two draws of earlier runs have a random word in common, no two draws have one
-  pub apart : WordsApart (drawn_before past) → (part : History) → IsPart part history → DrawsApart (hidden_in (drawn_before past) first words part)
+  pub apart : WordsApart (drawn_before past) → (part : History) → IsPartOf part history → AreDrawsApart (hidden_in (drawn_before past) first words part)
 
 -- if the disk tells its content, and with whatever may be known of earlier runs, for a run may start from its files then
 abbrev pub FromSoundFiles : DiskState → (Past → ℕ → Type 0) → ℕ → Type 0

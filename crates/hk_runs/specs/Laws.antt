@@ -9,7 +9,7 @@ use Rattle.world_run.specs.Ledger.{Draw, Past, drawn_before}
 use Rattle.world_run.specs.Linked.{StartsSound, WordsApart}
 use Rattle.world_run.specs.Promise.{In, edek_of}
 use Rattle.world_run.specs.World.{WorldState}
-use Rattle.hk_runs.specs.Headline.{Headline, IsPart, known_after}
+use Rattle.hk_runs.specs.Headline.{Headline, IsPartOf, known_after}
 use Rattle.hk_runs.specs.KeyFacts.{FactOfDisk, KeyFact, OpensKey}
 use Rattle.hk_runs.specs.Run.{History}
 
@@ -46,11 +46,11 @@ FollowsRun old new next = (run : RunFrom old new) → ((c : Image) → IsImage n
 -- some part of it.
 abbrev pub FollowsCrash : DiskState → DiskState → DiskState → Type 0
 FollowsCrash old new next =
-    (run : RunFrom old new) (image : Image) → new.left_since old.moment image → HasFiles next image → (part : History) × IsPart part run.history × StartsSound next (known_in run part)
+    (run : RunFrom old new) (image : Image) → new.left_since old.moment image → HasFiles next image → (part : History) × IsPartOf part run.history × StartsSound next (known_in run part)
 
 -- draws with no word in common before a run have none in what is known after a part of it
 abbrev pub DrawsStayApart : DiskState → DiskState → Type 0
-DrawsStayApart old new = (run : RunFrom old new) (part : History) → WordsApart (drawn_before run.past) → IsPart part run.history → WordsApart (drawn_before (known_in run part))
+DrawsStayApart old new = (run : RunFrom old new) (part : History) → WordsApart (drawn_before run.past) → IsPartOf part run.history → WordsApart (drawn_before (known_in run part))
 
 -- A fact of a key before a run is one on a disk with the files that the run left in the end.
 abbrev pub FactsLast : DiskState → DiskState → DiskState → Type 0

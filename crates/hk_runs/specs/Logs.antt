@@ -67,5 +67,5 @@ pub record OnDisk (old new : DiskState) (words : ℕ → ℕ) (sizes : SizeValue
   pub last : (image : Image) → IsImage new image → SurvivesLast Cut (opened_logs commands table ops names) (HiddenBefore old) (first_world sizes table names) words history image
 
 -- the disk holds both logs of the records acknowledged by now, beside those that are pending in this world
-abbrev pub ReadsAs : DiskState → Acknowledged → WorldState → Type 0
-ReadsAs new done w = (r : RunningWorld) × (world_of r ≡ w) × HoldsLogs new r done
+abbrev pub HoldsLogsOf : DiskState → Acknowledged → WorldState → Type 0
+HoldsLogsOf new done w = (r : RunningWorld) × (world_of r ≡ w) × HoldsLogs new r done

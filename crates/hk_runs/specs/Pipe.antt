@@ -24,7 +24,7 @@ use Rattle.world_desk.specs.Orders.{AnsweredEvent, AreEventsOf}
 use Rattle.command_io.specs.Environment.{Environment}
 use Rattle.command_io.specs.declared.props.PropsFault.{PropsFault}
 use Rattle.command_io.specs.Properties.{HasPropsFault, ReadsProperties}
-use Rattle.hk_runs.specs.Logs.{HiddenBefore, NoRestart, OnDisk, ReadsAs, opened_logs}
+use Rattle.hk_runs.specs.Logs.{HiddenBefore, HoldsLogsOf, NoRestart, OnDisk, opened_logs}
 use Rattle.command_io.specs.Ends.{ended_by, ended_by_props, status_of}
 use Rattle.hk_runs.specs.Run.{FilesOpenThroughout, Happened, History, Runs, StayApart, behind, drawn_in, faults_after, logged_in, world_after}
 
@@ -34,7 +34,7 @@ answered_in history = map (λ (h : Happened). (h.event, h.reply)) history
 
 -- A transaction of a user is the next events of a history, all at one moment: those of its call or its order, which have its reply, and
 -- after a submission those of the drive that it is followed by.
-pub record Asks (earlier : History) (user : List ℕ) (done : Transaction) (later : History) : Type 0 where
+pub record IsTransactionOf (earlier : History) (user : List ℕ) (done : Transaction) (later : History) : Type 0 where
   pub now : ℕ
   pub happened : History
   pub at_once : AllByRecursion (λ (h : Happened). h.now ≡ now) happened
@@ -50,7 +50,7 @@ pub record Converses (props : Props) (old new : DiskState) (words words' : ℕ �
   pub before : ℕ
   pub history : History
   pub unused : List ℕ
-  pub served : Served Asks (record { ahead = left; desk = []; written = written }) (record { ahead = ahead unused left'; desk = history; written = now }) how
+  pub served : Served IsTransactionOf (record { ahead = left; desk = []; written = written }) (record { ahead = ahead unused left'; desk = history; written = now }) how
   pub runs : Runs props.lines (Tells old) (first_world props.sizes table names) words before history
   -- the words to come are those after the words that its events drew
   pub rest : (k : ℕ) → words' k ≡ behind (drawn_in history) words k
@@ -60,7 +60,7 @@ pub record Converses (props : Props) (old new : DiskState) (words words' : ℕ �
   pub on_disk : Tells old → OnDisk old new words props.sizes table names history NoRestart
   pub promise : Tells old → (h : Hidden) → HiddenBefore old h → FilesOpenThroughout h (first_world props.sizes table names) words history
   pub apart : Tells old → (h : Hidden) → HiddenBefore old h → WordsApart h → StayApart h (first_world props.sizes table names) words history
-  pub reads : (tells : Tells old) → let found = on_disk tells in ReadsAs new (also (opened_logs found.commands table found.ops names) (logged_in history)) (world_after (first_world props.sizes table names) history)
+  pub reads : (tells : Tells old) → let found = on_disk tells in HoldsLogsOf new (also (opened_logs found.commands table found.ops names) (logged_in history)) (world_after (first_world props.sizes table names) history)
 
 -- the status of a connection
 abbrev pub connection_status : Ended → ℕ
@@ -73,14 +73,14 @@ connection_status ReadFault = 7
 connection_status WriteFault = 8
 
 -- The properties could not be read, and nothing else was done: `same` says that all else is as it was.
-pub record RefusesProperties (same : Type 0) (acls : Option (List ℕ)) (status : ℕ) : Type 0 where
+pub record CannotReadProperties (same : Type 0) (acls : Option (List ℕ)) (status : ℕ) : Type 0 where
   pub fault : PropsFault
   pub has_fault : HasPropsFault acls fault
   pub untouched : same
   pub status_is : status ≡ status_of (ended_by_props fault)
 
 -- A log could not be opened, and nothing was read or written: `same` says that all but the disk is as it was.
-pub record CannotOpen (same : Type 0) (old new : DiskState) (status : ℕ) : Type 0 where
+pub record CannotOpenLog (same : Type 0) (old new : DiskState) (status : ℕ) : Type 0 where
   pub file : ℕ
   pub fault : StartFault
   pub not_opened : OpensBoth old new (FailsAt file fault)
@@ -95,7 +95,7 @@ pub record Connects (props : Props) (old new : DiskState) (words words' : ℕ �
 
 -- Under these properties, both logs were opened and the connection served, or a log could not be opened.
 abbrev pub PipeUnder : Props → Type 0 → DiskState → DiskState → (ℕ → ℕ) → (ℕ → ℕ) → Option (List ℕ) → Option (List ℕ) → Option (List ℕ) → Option (List ℕ) → ℕ → Type 0
-PipeUnder props same old new words words' left left' written now status = CannotOpen same old new status ⊎ Connects props old new words words' left left' written now status
+PipeUnder props same old new words words' left left' written now status = CannotOpenLog same old new status ⊎ Connects props old new words words' left left' written now status
 
 -- The properties were read. Each call is judged by their lines, and the service has their sizes.
 pub record PipesUnder (same : Type 0) (old new : DiskState) (acls acls' : Option (List ℕ)) (words words' : ℕ → ℕ) (left left' written now : Option (List ℕ)) (status : ℕ) : Type 0 where
@@ -107,7 +107,7 @@ pub record PipesUnder (same : Type 0) (old new : DiskState) (acls acls' : Option
 -- and nothing is written of that. `same_disk` says that the disk is unchanged, and `same` that all else is, except for the properties.
 abbrev pub Pipe : Type 0 → Type 0 → DiskState → DiskState → Option (List ℕ) → Option (List ℕ) → (ℕ → ℕ) → (ℕ → ℕ) → Option (List ℕ) → Option (List ℕ) → Option (List ℕ) → Option (List ℕ) → ℕ → Type 0
 Pipe same_disk same old new acls acls' words words' left left' written now status =
-    RefusesProperties (same_disk × same) acls status ⊎ PipesUnder same old new acls acls' words words' left left' written now status
+    CannotReadProperties (same_disk × same) acls status ⊎ PipesUnder same old new acls acls' words words' left left' written now status
 
 module _ {D A S K W : Type 0} (of_disk : disks.Ghosts D) (of_acls : sources.Ghosts A) (of_input : sources.Ghosts S) (of_out : sinks.Ghosts K) (of_rand : random.Ghosts W) (old new : Environment D A S K W) where
   -- the same over what a command works on; `same_clock` says that the clock is unchanged

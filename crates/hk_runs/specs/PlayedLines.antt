@@ -1,6 +1,6 @@
 -- The lines of a replay, and the events that they spell.
 use Rattle.std.specs.Prelude.{◌≡◌, ℕ, ◌+◌, List, [], ◌∷◌, ◌++◌, length, Option, None, Some}
-use Rattle.replay_text.specs.Events.{IsQuiet, Spells}
+use Rattle.replay_text.specs.Events.{IsQuietLine, SpellsLine}
 use Rattle.replay_text.specs.Transcript.{line_text}
 use Rattle.hk_runs.specs.Run.{Happened, History}
 
@@ -26,8 +26,8 @@ lines_in (x ∷ earlier) = lines_in earlier ++ x.line ∷ []
 
 -- A line spells its event, which comes after `events` others, and whose moment is its number; or it has none, and is quiet.
 abbrev pub IsSpelledBy : ℕ → Option Happened → List ℕ → Type 0
-IsSpelledBy events None line = IsQuiet line
-IsSpelledBy events (Some h) line = Spells line h.event × (h.now ≡ events + 1)
+IsSpelledBy events None line = IsQuietLine line
+IsSpelledBy events (Some h) line = SpellsLine line h.event × (h.now ≡ events + 1)
 
 -- each line that was played spells what happened
 abbrev pub AreSpelled : List PlayedLine → Type 0

@@ -12,7 +12,7 @@ use Rattle.prop_text.specs.declared.props.Props.{Props}
 use Rattle.kms_core.specs.State.{settled}
 use Rattle.name_core.specs.State.{settled as settled_names}
 use Rattle.name_store.specs.Table.{NameTable}
-use Rattle.replay_text.specs.Events.{IsBad, Spells}
+use Rattle.replay_text.specs.Events.{IsBad, SpellsLine}
 use Rattle.hk_events.specs.declared.event.Event.{Event}
 use Rattle.hk_events.specs.declared.event.Event.TheVariants.{RestartKms, RestartName}
 use Rattle.world_run.specs.Acknowledged.{Acknowledged, also}
@@ -27,7 +27,7 @@ use Rattle.command_io.specs.declared.props.PropsFault.{PropsFault}
 use Rattle.command_io.specs.Ends.{ended_by, ended_by_props, last_line}
 use Rattle.command_io.specs.Lines.{is_lf, lines_of, text_of}
 use Rattle.command_io.specs.Properties.{HasPropsFault, ReadsProperties}
-use Rattle.hk_runs.specs.Logs.{HiddenBefore, OnDisk, ReadsAs, opened_logs}
+use Rattle.hk_runs.specs.Logs.{HiddenBefore, HoldsLogsOf, OnDisk, opened_logs}
 use Rattle.hk_runs.specs.PlayedLines.{AreSpelled, PlayedLine, events_of_lines, lines_in, transcript}
 use Rattle.hk_runs.specs.Run.{FilesOpenThroughout, Runs, StayApart, behind, drawn_in, faults_after, logged_in, world_after}
 
@@ -41,8 +41,8 @@ pub record IsPast (all : List ℕ) (lines : ℕ) : Type 0 where
   pub place : count_by is_lf (take longest_input all) ≡ lines
 
 -- the text has these lines first
-abbrev pub Starts : List ℕ → List (List ℕ) → Type 0
-Starts all lines = (after : List (List ℕ)) × (lines_of all ≡ lines ++ after)
+abbrev pub StartsWith : List ℕ → List (List ℕ) → Type 0
+StartsWith all lines = (after : List (List ℕ)) × (lines_of all ≡ lines ++ after)
 
 -- the line after these begins within the longest input
 abbrev pub BeginsWithin : List (List ℕ) → Type 0
@@ -51,25 +51,25 @@ BeginsWithin lines = length (text_of lines) < longest_input
 -- after these lines the next line is a bad one, which begins within the longest input, or the text is too long there
 abbrev pub BadNext : List ℕ → List (List ℕ) → Type 0
 BadNext all lines =
-    ((bad : List ℕ) × (more : List (List ℕ)) × (lines_of all ≡ lines ++ bad ∷ more) × IsBad bad × BeginsWithin lines) ⊎ (Starts all lines × IsPast all (length lines))
+    ((bad : List ℕ) × (more : List (List ℕ)) × (lines_of all ≡ lines ++ bad ∷ more) × IsBad bad × BeginsWithin lines) ⊎ (StartsWith all lines × IsPast all (length lines))
 
 -- after these lines comes one that spells this event
 abbrev pub NextSpells : List ℕ → List (List ℕ) → Event → Type 0
-NextSpells all lines e = (line : List ℕ) × (more : List (List ℕ)) × (lines_of all ≡ lines ++ line ∷ more) × Spells line e
+NextSpells all lines e = (line : List ℕ) × (more : List (List ℕ)) × (lines_of all ≡ lines ++ line ∷ more) × SpellsLine line e
 
 -- after these lines comes a restart of either service
 abbrev pub RestartNext : List ℕ → List (List ℕ) → Type 0
 RestartNext all lines = NextSpells all lines RestartKms ⊎ NextSpells all lines RestartName
 
 -- the place of the input at an end, after these lines
-abbrev pub Stops : ReplayEnd → List ℕ → List (List ℕ) → Type 0
-Stops Done all lines = (lines_of all ≡ lines) × (length all ≤ longest_input)
-Stops BadLine all lines = BadNext all lines
-Stops (DamagedKeys at) all lines = NextSpells all lines RestartKms
-Stops (DamagedNames at) all lines = NextSpells all lines RestartName
-Stops StoreFault all lines = RestartNext all lines
-Stops Spent all lines = RestartNext all lines
-Stops _ all lines = Starts all lines
+abbrev pub StopsAt : ReplayEnd → List ℕ → List (List ℕ) → Type 0
+StopsAt Done all lines = (lines_of all ≡ lines) × (length all ≤ longest_input)
+StopsAt BadLine all lines = BadNext all lines
+StopsAt (DamagedKeys at) all lines = NextSpells all lines RestartKms
+StopsAt (DamagedNames at) all lines = NextSpells all lines RestartName
+StopsAt StoreFault all lines = RestartNext all lines
+StopsAt Spent all lines = RestartNext all lines
+StopsAt _ all lines = StartsWith all lines
 
 -- the text is a prefix of the other
 abbrev pub IsFront : List ℕ → List ℕ → Type 0
@@ -83,7 +83,7 @@ IsPrinted _ text printed = text ≡ printed
 
 -- The replay stopped for the one cause, after `lines` lines, and ended with the other. The answers are followed by the last line of
 -- that cause, or by the one for lack of memory, if there was none for it; or by a prefix of this, and the output failed.
-pub record Says (stop how : ReplayEnd) (lines : ℕ) (printed text : List ℕ) : Type 0 where
+pub record SaysEnd (stop how : ReplayEnd) (lines : ℕ) (printed text : List ℕ) : Type 0 where
   pub body : List ℕ
   pub is_printed : IsPrinted stop body printed
   pub last : ReplayEnd
@@ -97,7 +97,7 @@ pub record BadProperties (same : Type 0) (acls written now : Option (List ℕ)) 
   pub untouched : same
   pub text : List ℕ
   pub wrote : Appends written now text
-  pub says : Says (ended_by_props fault) how 0 [] text
+  pub says : SaysEnd (ended_by_props fault) how 0 [] text
 
 -- the end is none of those that only a fault of the properties brings about
 abbrev pub HasProperties : ReplayEnd → Type 0
@@ -115,25 +115,25 @@ pub record Unopened (same : Type 0) (old new : DiskState) (written now : Option 
   pub untouched : same
   pub text : List ℕ
   pub wrote : Appends written now text
-  pub says : Says (ended_by file fault) how 0 [] text
+  pub says : SaysEnd (ended_by file fault) how 0 [] text
 
 -- if the source tells the input, a line that spells this event comes after these lines
 abbrev pub ComesNext : Option (List ℕ) → List (List ℕ) → Event → Type 0
 ComesNext left lines e = (all : List ℕ) → left ≡ Some all → NextSpells all lines e
 
 -- after these lines of the input comes a restart of either service, which may have been cut short
-abbrev pub IsCut : Option (List ℕ) → List (List ℕ) → Type 0
-IsCut left lines = ComesNext left lines RestartKms ⊎ ComesNext left lines RestartName
+abbrev pub IsCutShort : Option (List ℕ) → List (List ℕ) → Type 0
+IsCutShort left lines = ComesNext left lines RestartKms ⊎ ComesNext left lines RestartName
 
 -- At an end after these lines of the input the disk holds both logs, unless a restart may have been cut short. Want of memory leaves
 -- the logs too, unless a restart comes next.
-abbrev pub ReadsAt : ReplayEnd → Option (List ℕ) → List (List ℕ) → DiskState → Acknowledged → WorldState → Type 0
-ReadsAt (DamagedKeys at) left lines new done w = Unit {0}
-ReadsAt (DamagedNames at) left lines new done w = Unit {0}
-ReadsAt StoreFault left lines new done w = Unit {0}
-ReadsAt NoMemory left lines new done w = ReadsAs new done w ⊎ IsCut left lines
-ReadsAt Spent left lines new done w = Unit {0}
-ReadsAt _ left lines new done w = ReadsAs new done w
+abbrev pub ReadsLogsAt : ReplayEnd → Option (List ℕ) → List (List ℕ) → DiskState → Acknowledged → WorldState → Type 0
+ReadsLogsAt (DamagedKeys at) left lines new done w = Unit {0}
+ReadsLogsAt (DamagedNames at) left lines new done w = Unit {0}
+ReadsLogsAt StoreFault left lines new done w = Unit {0}
+ReadsLogsAt NoMemory left lines new done w = HoldsLogsOf new done w ⊎ IsCutShort left lines
+ReadsLogsAt Spent left lines new done w = Unit {0}
+ReadsLogsAt _ left lines new done w = HoldsLogsOf new done w
 
 -- which restart may have been cut short at an end after these lines of the input: the one that comes next
 abbrev pub CutAt : ReplayEnd → Option (List ℕ) → List (List ℕ) → Event → Type 0
@@ -151,15 +151,15 @@ abbrev pub NamesSpent : WorldState → Type 0
 NamesSpent w = (kept : Bool) × ((settled_names kept w.names).table.opening ≡ 4294967295)
 
 -- the last opening of a log is used, and after these lines of the input comes a restart of the service that this log is of
-abbrev pub IsSpent : Option (List ℕ) → List (List ℕ) → WorldState → Type 0
-IsSpent left lines w = (KeysSpent w × ComesNext left lines RestartKms) ⊎ (NamesSpent w × ComesNext left lines RestartName)
+abbrev pub IsOpeningSpent : Option (List ℕ) → List (List ℕ) → WorldState → Type 0
+IsOpeningSpent left lines w = (KeysSpent w × ComesNext left lines RestartKms) ⊎ (NamesSpent w × ComesNext left lines RestartName)
 
 -- why a restart after these lines of the input could not open its log, if the disk tells its content: it is never damaged, and
 -- spent only with the last opening of that log
 abbrev pub RestartStops : ReplayEnd → Option (List ℕ) → List (List ℕ) → WorldState → Type 0
 RestartStops (DamagedKeys at) left lines w = ⊥
 RestartStops (DamagedNames at) left lines w = ⊥
-RestartStops Spent left lines w = IsSpent left lines w
+RestartStops Spent left lines w = IsOpeningSpent left lines w
 RestartStops _ left lines w = Unit {0}
 
 -- Under these properties, lines of the input were played from the world on that the two logs were found to stand for: their events
@@ -180,9 +180,9 @@ pub record Played (props : Props) (old new : DiskState) (words : ℕ → ℕ) (l
   pub apart : Tells old → (h : Hidden) → HiddenBefore old h → WordsApart h → StayApart h (first_world props.sizes table names) words (events_of_lines played)
   pub reads : (telling : Tells old) → let found = on_disk telling in
       let history = events_of_lines played in
-      ReadsAt stop left (lines_in played) new (also (opened_logs found.commands table found.ops names) (logged_in history)) (world_after (first_world props.sizes table names) history)
+      ReadsLogsAt stop left (lines_in played) new (also (opened_logs found.commands table found.ops names) (logged_in history)) (world_after (first_world props.sizes table names) history)
   pub restart : Tells old → RestartStops stop left (lines_in played) (world_after (first_world props.sizes table names) (events_of_lines played))
-  pub stops : (all : List ℕ) → left ≡ Some all → Stops stop all (lines_in played)
+  pub stops : (all : List ℕ) → left ≡ Some all → StopsAt stop all (lines_in played)
   pub has_properties : HasProperties stop
 
 -- Lines were played: `words` were to come before, and `words'` are to come now.
@@ -194,7 +194,7 @@ pub record PlaysOn (props : Props) (old new : DiskState) (words words' : ℕ →
   pub rest : (k : ℕ) → words' k ≡ behind (drawn_in (events_of_lines played_lines)) words k
   pub text : List ℕ
   pub wrote : Appends written now text
-  pub says : Says stop how (length (lines_in played_lines)) (transcript (events_of_lines played_lines)) text
+  pub says : SaysEnd stop how (length (lines_in played_lines)) (transcript (events_of_lines played_lines)) text
 
 -- Under these properties, a replay of what was left of an input, with these words to come, wrote after the old output,
 -- and this is how it ended; `words'` are to come now. `same` says that input and random source are unchanged.

@@ -9,7 +9,7 @@ use Rattle.world_run.specs.World.{WorldState}
 use Rattle.world_run.specs.Acknowledged.{Acknowledged, also, nothing_acknowledged}
 use Rattle.world_run.specs.Keeps.{LinkedStep, SoundFrom}
 use Rattle.world_run.specs.Ledger.{Hidden, hidden_after}
-use Rattle.world_run.specs.Linked.{DrawsApart, LinkedWorld}
+use Rattle.world_run.specs.Linked.{AreDrawsApart, LinkedWorld}
 use Rattle.world_run.specs.Own.{SurvivesAtRest, SurvivesEvent}
 use Rattle.world_run.specs.Promise.{ZoneFilesOpen}
 
@@ -83,8 +83,8 @@ FilesOpenThroughout before first words (h ∷ earlier) = IsHidden h.world (hidde
 
 -- In each world on the way the draws by then are apart.
 abbrev pub StayApart : Hidden → WorldState → (ℕ → ℕ) → History → Type 0
-StayApart before first words [] = DrawsApart before
-StayApart before first words (h ∷ earlier) = DrawsApart (hidden_in before first words (h ∷ earlier)) × StayApart before first words earlier
+StayApart before first words [] = AreDrawsApart before
+StayApart before first words (h ∷ earlier) = AreDrawsApart (hidden_in before first words (h ∷ earlier)) × StayApart before first words earlier
 
 -- files that the next run may start from, with what is hidden after a history; `Before` says what may have been hidden before it
 abbrev pub SoundAfter : (Hidden → Type 0) → WorldState → (ℕ → ℕ) → History → Image → Type 0

@@ -5,7 +5,7 @@
 mod laws;
 mod pipe;
 mod replay;
-mod stage;
+mod session;
 
 pub use laws::{keys_last_from_run_to_run, runs_follow_one_another};
 pub use pipe::run_pipe;

@@ -6,7 +6,7 @@ ghost use Rattle.command_io.specs.Environment.{environment};
 ghost use Rattle.world_run.specs.World.{RunningWorld};
 ghost use Rattle.hk_base.specs.declared.ended.Ended.{Ended};
 ghost use Rattle.hk_serve.specs.Served.{Served};
-ghost use Rattle.world_desk.specs.Worlds.{Happens, IsReady, connection, standing};
+ghost use Rattle.world_desk.specs.Worlds.{HappensAtDesk, IsDeskReady, connection, standing};
 ghost use Rattle.hk_runs.specs.Headline.{FromSoundFiles, PipeKeeps};
 ghost use Rattle.hk_runs.specs.Pipe.{PipeUnder, Pipes, connection_status};
 
@@ -67,9 +67,9 @@ fn serve_in<S: Source, K: Sink, D: Disk, W: Words, C: Clock>(
     rand: &mut W,
     clock: &mut C,
 ) -> Ended
-    requires { IsReady D.state (standing disk.old world rand.old) }
+    requires { IsDeskReady D.state (standing disk.old world rand.old) }
     ensures served { (unused : List ℕ) × (then : RunningWorld) ×
-        Served (Happens D.state W.to_come)
+        Served (HappensAtDesk D.state W.to_come)
         (connection (S.left input.old) (standing disk.old world rand.old) (K.written out.old))
         (connection (ahead unused (S.left input.new)) (standing disk.new then rand.new)
         (K.written out.new)) result }

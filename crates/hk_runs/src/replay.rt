@@ -12,7 +12,7 @@ ghost use Rattle.hk_runs.specs.Replay.{ReplayUnder, Replays};
 ghost use Rattle.hk_runs.specs.Steps.{Caused, HasLists, Next, PlaysItsLine, Ran, RanToEnd, stand_of};
 ghost use Rattle.command_io.specs.declared.ends.ReplayEnd.{ReplayEnd};
 
-use crate::stage::{LineOutcome, Session};
+use crate::session::{LineOutcome, Session};
 use command_io::{
     LineEnd, ReplayEnd, ended_by, ended_by_props, finish, read_line, read_properties, status_of,
 };
@@ -25,21 +25,21 @@ use world_run::World;
 struct ReplayRun {
     reader: Reader,
     line: ByteList,
-    stage: Session,
+    session: Session,
     count: u64,
 }
 
 impl ReplayRun {
     /// A replay before its first line.
     fn new(alloc: Global, world: World) -> ReplayRun
-        ensures world { result.stage.world ≡ world }
-        ensures fresh { (result.stage.events ≡ 0) × (result.count ≡ 0) × (result.reader.used ≡ 0) ×
+        ensures world { result.session.world ≡ world }
+        ensures fresh { (result.session.events ≡ 0) × (result.count ≡ 0) × (result.reader.used ≡ 0) ×
             (result.reader.bytes ≡ []) }
     {
         ReplayRun {
             reader: Reader::new(),
             line: ByteList::new(alloc),
-            stage: Session {
+            session: Session {
                 alloc,
                 world,
                 events: 0,
@@ -54,10 +54,10 @@ impl ReplayRun {
         let ReplayRun {
             reader,
             line,
-            stage,
+            session,
             count: _,
         } = self;
-        stage.close();
+        session.close();
         drop(reader);
         drop(line);
     }
@@ -70,13 +70,13 @@ impl ReplayRun {
         out: &mut K,
         words: &mut W,
     ) -> ReplayEnd
-        requires fresh { (self.old.stage.events ≡ 0) × (self.old.count ≡ 0) ×
+        requires fresh { (self.old.session.events ≡ 0) × (self.old.count ≡ 0) ×
             (self.old.reader.used ≡ 0) × (self.old.reader.bytes ≡ []) }
-        requires lists { (lines : List PropLine) × HasLists self.old.stage.world lines }
+        requires lists { (lines : List PropLine) × HasLists self.old.session.world lines }
         requires stands { Tells (D.state disk.old) →
-            ((done : Acknowledged) × HoldsLogs (D.state disk.old) self.old.stage.world done) }
-        ensures ran { (lines : List PropLine) → HasLists self.old.stage.world lines →
-            Ran lines (D.state disk.old) (D.state disk.new) self.old.stage.world
+            ((done : Acknowledged) × HoldsLogs (D.state disk.old) self.old.session.world done) }
+        ensures ran { (lines : List PropLine) → HasLists self.old.session.world lines →
+            Ran lines (D.state disk.old) (D.state disk.new) self.old.session.world
             (W.to_come words.old) (W.to_come words.new) (S.left input.old) (K.written out.old)
             (K.written out.new) result self.new.count }
         ensures end { result ≡ ReplayEnd.Done → IsAtEnd (S.left input.new) }
@@ -100,16 +100,16 @@ impl ReplayRun {
         out: &mut K,
         words: &mut W,
     ) -> Option<ReplayEnd>
-        requires few { self.old.stage.events ≤ self.old.count }
+        requires few { self.old.session.events ≤ self.old.count }
         requires count { self.old.count ≤ 2 ^ 40 }
-        requires lists { (lines : List PropLine) × HasLists self.old.stage.world lines }
+        requires lists { (lines : List PropLine) × HasLists self.old.session.world lines }
         requires stands { Tells (D.state disk.old) →
-            ((done : Acknowledged) × HoldsLogs (D.state disk.old) self.old.stage.world done) }
-        ensures next { (lines : List PropLine) → HasLists self.old.stage.world lines →
+            ((done : Acknowledged) × HoldsLogs (D.state disk.old) self.old.session.world done) }
+        ensures next { (lines : List PropLine) → HasLists self.old.session.world lines →
             Next lines (D.state disk.old) (D.state disk.new)
             (stand_of self.old (W.to_come words.old) (S.left input.old) (K.written out.old)) result
             (stand_of self.new (W.to_come words.new) (S.left input.new) (K.written out.new)) }
-        ensures few { self.new.stage.events ≤ self.new.count }
+        ensures few { self.new.session.events ≤ self.new.count }
         ensures small { self.new.reader.used ≤ 2 ^ 40 }
         ensures caused { Caused (S.faults input.old) (S.faults input.new) (K.faults out.old)
             (K.faults out.new) (D.state disk.old).faults (D.state disk.new).faults result }
@@ -133,21 +133,24 @@ impl ReplayRun {
         words: &mut W,
     ) -> Option<ReplayEnd>
         requires short { length self.old.line ≤ 1048576 }
-        requires few { self.old.stage.events ≤ self.old.count }
+        requires few { self.old.session.events ≤ self.old.count }
         requires count { self.old.count ≤ 2 ^ 40 }
         requires stands { Tells (D.state disk.old) →
-            ((done : Acknowledged) × HoldsLogs (D.state disk.old) self.old.stage.world done) }
-        ensures played { (lines : List PropLine) → HasLists self.old.stage.world lines →
+            ((done : Acknowledged) × HoldsLogs (D.state disk.old) self.old.session.world done) }
+        ensures played { (lines : List PropLine) → HasLists self.old.session.world lines →
             PlaysItsLine lines (D.state disk.old) (D.state disk.new) self.old
             (W.to_come words.old) (K.written out.old) last result self.new (W.to_come words.new)
             (K.written out.new) }
         ensures same { (self.new.reader ≡ self.old.reader) × (self.new.line ≡ self.old.line) }
-        ensures few { self.new.stage.events ≤ self.new.count }
+        ensures few { self.new.session.events ≤ self.new.count }
         ensures later { K.faults out.old ≤ K.faults out.new }
         ensures fault { result ≡ Some ReplayEnd.WriteFault →
             Rose (K.faults out.old) (K.faults out.new) }
     {
-        match self.stage.play_line(self.line.as_slice(), disk, out, words) {
+        match self
+            .session
+            .play_line(self.line.as_slice(), disk, out, words)
+        {
             LineOutcome::Played => {
                 self.count += 1;
                 if last { Some(ReplayEnd::Done) } else { None }

@@ -8,7 +8,7 @@ use Rattle.std.proofs.lemmas.Grind.{flat_map-append}
 use Rattle.std.proofs.lemmas.List.Sums.{sum_by-append}
 use Rattle.http_wire.specs.Message.{Message}
 use Rattle.http_wire.specs.Reading.{ahead}
-use Rattle.http_wire.specs.Requests.{Takes}
+use Rattle.http_wire.specs.Requests.{TakesRequest}
 use Rattle.hk_base.specs.declared.ended.Ended.{Ended}
 use Rattle.hk_serve.specs.Ends.{Ends}
 use Rattle.hk_serve.specs.Exchanges.{AsksInOrder, Exchange, Leaves, ReadsInOrder, Stand, WentOn, bytes_in, response_of, responses_of}
@@ -27,8 +27,8 @@ all_more : (P : Exchange → Type 0) (exchanges : List Exchange) (last : Exchang
 all_more P [] last all here = (here, tt)
 all_more P (exchange ∷ more) last all here = (all.0, all_more P more last all.1 here)
 
-reads_more : (old mid new : Option (List ℕ)) (exchanges : List Exchange) (last : Exchange) → ReadsInOrder old exchanges mid → Takes mid new last.request → ReadsInOrder old (exchanges ++ last ∷ []) new
-reads_more old mid new [] last same takes = (new, (subst (λ (o : Option (List ℕ)). Takes o new last.request) same takes, refl))
+reads_more : (old mid new : Option (List ℕ)) (exchanges : List Exchange) (last : Exchange) → ReadsInOrder old exchanges mid → TakesRequest mid new last.request → ReadsInOrder old (exchanges ++ last ∷ []) new
+reads_more old mid new [] last same takes = (new, (subst (λ (o : Option (List ℕ)). TakesRequest o new last.request) same takes, refl))
 reads_more old mid new (exchange ∷ more) last reads takes = (reads.0, (reads.1.0, reads_more reads.0 mid new more last reads.1.1 takes))
 
 asks_more : {D : Type 0} (answers : Answering D) (old mid new : D) (exchanges : List Exchange) (last : Exchange) → AsksInOrder answers old exchanges mid → Leaves answers mid last.outcome new → AsksInOrder answers old (exchanges ++ last ∷ []) new
@@ -82,7 +82,7 @@ served answers old now new bytes how so_far ends =
 
 -- a request was read and answered
 pub turned : {D : Type 0} (answers : Answering D) (bytes bytes' : ℕ) (old new : Stand D) (request : Message) (result : Option Ended)
-    → Takes old.ahead new.ahead request → Answered answers request bytes bytes' old.desk new.desk old.written new.written result → Turns answers bytes bytes' old result new
+    → TakesRequest old.ahead new.ahead request → Answered answers request bytes bytes' old.desk new.desk old.written new.written result → Turns answers bytes bytes' old result new
 turned answers bytes bytes' old new request None takes answered = record {
   exchange = record { request = request; outcome = answered.outcome };
   takes = takes;

@@ -7,7 +7,7 @@ use Rattle.http_wire.specs.Laws.{OneListOfRequests}
 use Rattle.http_wire.specs.Message.{Message}
 use Rattle.hk_base.specs.declared.ended.Ended.{Ended}
 use Rattle.hk_base.specs.declared.ended.Ended.TheVariants as ended
-use Rattle.hk_serve.specs.Laws.{IsOfBytes}
+use Rattle.hk_serve.specs.Laws.{EndsByBytes}
 use Rattle.hk_serve.specs.Served.{AreRequestsOf, IsOfWire}
 
 not_end : (fault : WireFault) → IsOfWire fault → fault ≡ wire.End → ⊥
@@ -22,7 +22,7 @@ not_end wire.EndedEarly (inr answered) end = absurd answered
 not_end wire.ReadFault (inr answered) end = absurd answered
 not_end wire.NoMemory (inr answered) end = absurd answered
 
-pub one_connection : OneListOfRequests → (all : List ℕ) (requests others : List Message) (how other : Ended) → IsOfBytes how → IsOfBytes other → AreRequestsOf all requests how → AreRequestsOf all others other → (requests ≡ others) × (how ≡ other)
+pub one_connection : OneListOfRequests → (all : List ℕ) (requests others : List Message) (how other : Ended) → EndsByBytes how → EndsByBytes other → AreRequestsOf all requests how → AreRequestsOf all others other → (requests ≡ others) × (how ≡ other)
 one_connection unique all requests others ended.End ended.End _ _ one two = ((unique all requests others (Some wire.End) (Some wire.End) one two).0, refl)
 one_connection unique all requests others ended.End ended.Wire _ _ one two =
     let same = (unique all requests others (Some wire.End) (Some two.0) one two.1.1).1 in

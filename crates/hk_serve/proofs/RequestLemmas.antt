@@ -6,12 +6,12 @@ use Rattle.std.specs.List.{AllByRecursion}
 use Rattle.http_wire.specs.declared.faults.WireFault.{WireFault}
 use Rattle.http_wire.specs.declared.faults.WireFault.TheVariants as wire
 use Rattle.http_wire.specs.Message.{Message}
-use Rattle.http_wire.specs.Requests.{Begins, Ended, HasRequests, IsOfBytes, Stops, Takes}
+use Rattle.http_wire.specs.Requests.{BeginsAs, Ended, HasRequests, IsOfBytes, StopsFor, TakesRequest}
 use Rattle.hk_base.specs.declared.ended.Ended.{Ended as End}
 use Rattle.hk_base.specs.declared.ended.Ended.TheVariants as ended
 use Rattle.hk_serve.specs.Ends.{Ends, EndsThere}
 use Rattle.hk_serve.specs.Exchanges.{Exchange, ReadsInOrder, Stand}
-use Rattle.hk_serve.specs.Served.{AreRequestsOf, BeginsWith, IsOfWire, last_request}
+use Rattle.hk_serve.specs.Served.{AreRequestsOf, BeginsWithRequests, IsOfWire, last_request}
 use Rattle.hk_serve.specs.Transactions.{Answering}
 
 -- known bytes stay known
@@ -20,14 +20,14 @@ rest_left all used None taken = absurd taken
 rest_left all used (Some rest) taken = (rest, (refl, taken))
 
 abbrev Begun : List ℕ → Option (List ℕ) → Result Message WireFault → Type 0
-Begun all new outcome = (rest : List ℕ) × ((new ≡ Some rest) × Begins all outcome rest)
+Begun all new outcome = (rest : List ℕ) × ((new ≡ Some rest) × BeginsAs all outcome rest)
 
-begun : (all : List ℕ) (new : Option (List ℕ)) (message : Message) → Takes (Some all) new message → Begun all new (Ok message)
+begun : (all : List ℕ) (new : Option (List ℕ)) (message : Message) → TakesRequest (Some all) new message → Begun all new (Ok message)
 begun all new message takes =
     let left = rest_left all takes.bytes new takes.used in
     (left.0, (left.1.0, record { used = takes.bytes; whole = left.1.1; of_bytes = tt; spells = takes.spells; ended = tt }))
 
-stopped : (all : List ℕ) (new : Option (List ℕ)) (fault : WireFault) → IsOfBytes (Err fault) → Stops (Some all) new fault → Begun all new (Err fault)
+stopped : (all : List ℕ) (new : Option (List ℕ)) (fault : WireFault) → IsOfBytes (Err fault) → StopsFor (Some all) new fault → Begun all new (Err fault)
 stopped all new fault of_bytes stops =
     let left = rest_left all stops.bytes new stops.used in
     (left.0, (left.1.0, record { used = stops.bytes; whole = left.1.1; of_bytes = of_bytes; spells = stops.spells; ended = subst (λ (o : Option (List ℕ)). Ended fault o) left.1.0 stops.ended }))
@@ -47,7 +47,7 @@ all_printed (exchange ∷ more) all now tail last reads kept behind =
     (first.0, first.1.1, subst (λ b. MatchBool b (HasRequests first.0 (map request_of more ++ tail) last) ((map request_of more ++ tail ≡ []) × (last ≡ None))) (sym kept.0) later)
 
 front_answered : (exchanges : List Exchange) (all : List ℕ) (now : Option (List ℕ)) (tail : List Message)
-    → ReadsInOrder (Some all) exchanges now → ((rest : List ℕ) → now ≡ Some rest → BeginsWith rest tail) → BeginsWith all (map request_of exchanges ++ tail)
+    → ReadsInOrder (Some all) exchanges now → ((rest : List ℕ) → now ≡ Some rest → BeginsWithRequests rest tail) → BeginsWithRequests all (map request_of exchanges ++ tail)
 front_answered [] all now tail reads behind = behind all reads
 front_answered (exchange ∷ more) all now tail reads behind =
     let first = begun all reads.0 exchange.request reads.1.0 in
@@ -72,20 +72,20 @@ of_bytes wire.NoMemory (inr is) = absurd is
 
 fault_there : {D : Type 0} (here new : Stand D) (how : End) (there : EndsThere here new how) (fault : WireFault) → there.fault ≡ fault → IsOfBytes (Err fault) → (rest : List ℕ) → here.ahead ≡ Some rest → HasRequests rest [] (Some fault)
 fault_there here new how there fault is of rest tells =
-    let stops : Stops (Some rest) new.ahead fault = subst (λ (o : Option (List ℕ)). Stops o new.ahead fault) tells (subst (λ (f : WireFault). Stops here.ahead new.ahead f) is there.stops) in
+    let stops : StopsFor (Some rest) new.ahead fault = subst (λ (o : Option (List ℕ)). StopsFor o new.ahead fault) tells (subst (λ (f : WireFault). StopsFor here.ahead new.ahead f) is there.stops) in
     let first = stopped rest new.ahead fault of stops in
     (first.0, first.1.1)
 
-last_closed : {D : Type 0} (here new : Stand D) (message : Message) → Takes here.ahead new.ahead message → message.keep ≡ false → (rest : List ℕ) → here.ahead ≡ Some rest → HasRequests rest (message ∷ []) None
+last_closed : {D : Type 0} (here new : Stand D) (message : Message) → TakesRequest here.ahead new.ahead message → message.keep ≡ false → (rest : List ℕ) → here.ahead ≡ Some rest → HasRequests rest (message ∷ []) None
 last_closed here new message takes closed rest tells =
-    let first = begun rest new.ahead message (subst (λ (o : Option (List ℕ)). Takes o new.ahead message) tells takes) in
+    let first = begun rest new.ahead message (subst (λ (o : Option (List ℕ)). TakesRequest o new.ahead message) tells takes) in
     let more : List Message = [] in
     let last : Option WireFault = None in
     (first.0, first.1.1, subst (λ b. MatchBool b (HasRequests first.0 more last) ((more ≡ []) × (last ≡ None))) (sym closed) (refl, refl))
 
-last_front : {D : Type 0} (here new : Stand D) (message : Message) → Takes here.ahead new.ahead message → (rest : List ℕ) → here.ahead ≡ Some rest → BeginsWith rest (message ∷ [])
+last_front : {D : Type 0} (here new : Stand D) (message : Message) → TakesRequest here.ahead new.ahead message → (rest : List ℕ) → here.ahead ≡ Some rest → BeginsWithRequests rest (message ∷ [])
 last_front here new message takes rest tells =
-    let first = begun rest new.ahead message (subst (λ (o : Option (List ℕ)). Takes o new.ahead message) tells takes) in
+    let first = begun rest new.ahead message (subst (λ (o : Option (List ℕ)). TakesRequest o new.ahead message) tells takes) in
     (first.0, (first.1.1, tt))
 
 of_wire : {D : Type 0} (here new : Stand D) (there : EndsThere here new ended.Wire) → IsOfWire there.fault

@@ -3,7 +3,7 @@ use Rattle.std.proofs.Common.{◌≡◌, inl, inr, ℕ, List, [], ◌∷◌, ◌
 use Rattle.std.specs.Prelude.{Some}
 use Rattle.hk_base.specs.declared.ended.Ended.{Ended}
 use Rattle.hk_serve.specs.Ends.{Ends}
-use Rattle.hk_serve.specs.Exchanges.{AsksInOrder, Exchange, Leaves, NoCall, Outcome, Replied, Stand, WentOn, bytes_in}
+use Rattle.hk_serve.specs.Exchanges.{AsksInOrder, Exchange, Leaves, NoCall, Replied, RequestOutcome, Stand, WentOn, bytes_in}
 use Rattle.hk_serve.specs.Served.{AreRequestsOf, Served, last_request}
 use Rattle.hk_serve.specs.Transactions.{Answering, Transaction}
 
@@ -14,7 +14,7 @@ Shows {D} view answers happens = (old new : D) (user : List ℕ) (done : Transac
 abbrev pub seen : {D V : Type 0} → (D → V) → Stand D → Stand V
 seen view stand = record { ahead = stand.ahead; desk = view stand.desk; written = stand.written }
 
-leaves_seen : {D V : Type 0} (view : D → V) (answers : Answering D) (happens : Answering V) → Shows view answers happens → (old new : D) (outcome : Outcome) → Leaves answers old outcome new → Leaves happens (view old) outcome (view new)
+leaves_seen : {D V : Type 0} (view : D → V) (answers : Answering D) (happens : Answering V) → Shows view answers happens → (old new : D) (outcome : RequestOutcome) → Leaves answers old outcome new → Leaves happens (view old) outcome (view new)
 leaves_seen view answers happens shows old new (Replied user done) leaves = shows old new user done leaves
 leaves_seen view answers happens shows old new (NoCall fault) leaves = ap view leaves
 
@@ -66,7 +66,7 @@ served_seen view answers happens shows old new how served =
 abbrev pub Keeps : {D X : Type 0} → (D → X) → Answering D → Type 0
 Keeps {D} part answers = (old new : D) (user : List ℕ) (done : Transaction) → answers old user done new → part new ≡ part old
 
-leaves_kept : {D X : Type 0} (part : D → X) (answers : Answering D) → Keeps part answers → (old new : D) (outcome : Outcome) → Leaves answers old outcome new → part new ≡ part old
+leaves_kept : {D X : Type 0} (part : D → X) (answers : Answering D) → Keeps part answers → (old new : D) (outcome : RequestOutcome) → Leaves answers old outcome new → part new ≡ part old
 leaves_kept part answers keeps old new (Replied user done) leaves = keeps old new user done leaves
 leaves_kept part answers keeps old new (NoCall fault) leaves = ap part leaves
 

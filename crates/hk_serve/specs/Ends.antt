@@ -4,7 +4,7 @@ use Rattle.std.specs.Io.KnownBytes.{Appends}
 use Rattle.hk_base.specs.Writing.{WroteFront}
 use Rattle.http_wire.specs.declared.faults.WireFault.{WireFault}
 use Rattle.http_wire.specs.declared.faults.WireFault.TheVariants as wire
-use Rattle.http_wire.specs.Requests.{Stops, Takes}
+use Rattle.http_wire.specs.Requests.{StopsFor, TakesRequest}
 use Rattle.http_wire.specs.Responses.{response_text}
 use Rattle.hk_base.specs.declared.ended.Ended.{Ended}
 use Rattle.hk_base.specs.declared.ended.Ended.TheVariants as ended
@@ -36,29 +36,29 @@ wire_text wire.ReadFault = []
 wire_text wire.NoMemory = []
 
 -- the fault is one of the bytes, and gets a response
-abbrev pub IsAnswered : WireFault → Type 0
-IsAnswered wire.BadHead = ⊤
-IsAnswered wire.HeadTooLong = ⊤
-IsAnswered wire.BadLength = ⊤
-IsAnswered wire.BodyTooLong = ⊤
-IsAnswered wire.Chunked = ⊤
-IsAnswered wire.End = ⊥
-IsAnswered wire.EndedEarly = ⊥
-IsAnswered wire.ReadFault = ⊥
-IsAnswered wire.NoMemory = ⊥
+abbrev pub GetsResponse : WireFault → Type 0
+GetsResponse wire.BadHead = ⊤
+GetsResponse wire.HeadTooLong = ⊤
+GetsResponse wire.BadLength = ⊤
+GetsResponse wire.BodyTooLong = ⊤
+GetsResponse wire.Chunked = ⊤
+GetsResponse wire.End = ⊥
+GetsResponse wire.EndedEarly = ⊥
+GetsResponse wire.ReadFault = ⊥
+GetsResponse wire.NoMemory = ⊥
 
 abbrev pub wire_response : WireFault → List ℕ
 wire_response fault = response_text (wire_status fault) (wire_text fault)
 
 -- how the connection ends if there is no request: what is written, and the end that goes with it
-abbrev pub EndsFor : WireFault → Option (List ℕ) → Option (List ℕ) → Ended → Type 0
-EndsFor fault written now ended.End = (fault ≡ wire.End) × (now ≡ written)
-EndsFor fault written now ended.Wire = ((fault ≡ wire.EndedEarly) × (now ≡ written)) ⊎ (IsAnswered fault × Appends written now (wire_response fault))
-EndsFor fault written now ended.ReadFault = (fault ≡ wire.ReadFault) × (now ≡ written)
-EndsFor fault written now ended.WriteFault = IsAnswered fault × WroteFront written now (wire_response fault)
-EndsFor fault written now ended.NoMemory = ((fault ≡ wire.NoMemory) ⊎ IsAnswered fault) × (now ≡ written)
-EndsFor fault written now ended.Closed = ⊥
-EndsFor fault written now ended.TooLong = ⊥
+abbrev pub EndsConnection : WireFault → Option (List ℕ) → Option (List ℕ) → Ended → Type 0
+EndsConnection fault written now ended.End = (fault ≡ wire.End) × (now ≡ written)
+EndsConnection fault written now ended.Wire = ((fault ≡ wire.EndedEarly) × (now ≡ written)) ⊎ (GetsResponse fault × Appends written now (wire_response fault))
+EndsConnection fault written now ended.ReadFault = (fault ≡ wire.ReadFault) × (now ≡ written)
+EndsConnection fault written now ended.WriteFault = GetsResponse fault × WroteFront written now (wire_response fault)
+EndsConnection fault written now ended.NoMemory = ((fault ≡ wire.NoMemory) ⊎ GetsResponse fault) × (now ≡ written)
+EndsConnection fault written now ended.Closed = ⊥
+EndsConnection fault written now ended.TooLong = ⊥
 
 -- how the connection ends after a request, if the requests up to it had this number of bytes: what is written of its
 -- response, and the end that goes with it
@@ -74,7 +74,7 @@ EndsAfter bytes exchange written now ended.ReadFault = ⊥
 -- The connection ended after a last request. `bytes` counts those of the requests before it.
 pub record EndsBehind {D : Type 0} (answers : Answering D) (bytes : ℕ) (old new : Stand D) (how : Ended) : Type 0 where
   pub last : Exchange
-  pub takes : Takes old.ahead new.ahead last.request
+  pub takes : TakesRequest old.ahead new.ahead last.request
   pub comes : ComesOf last.request last.outcome
   pub leaves : Leaves answers old.desk last.outcome new.desk
   pub ends : EndsAfter (bytes + last.request.size) last old.written new.written how
@@ -82,9 +82,9 @@ pub record EndsBehind {D : Type 0} (answers : Answering D) (bytes : ℕ) (old ne
 -- The connection ended without another request.
 pub record EndsThere {D : Type 0} (old new : Stand D) (how : Ended) : Type 0 where
   pub fault : WireFault
-  pub stops : Stops old.ahead new.ahead fault
+  pub stops : StopsFor old.ahead new.ahead fault
   pub unasked : new.desk ≡ old.desk
-  pub ends : EndsFor fault old.written new.written how
+  pub ends : EndsConnection fault old.written new.written how
 
 abbrev pub Ends : {D : Type 0} → Answering D → ℕ → Stand D → Stand D → Ended → Type 0
 Ends answers bytes old new how = EndsBehind answers bytes old new how ⊎ EndsThere old new how

@@ -3,7 +3,7 @@ use Rattle.std.specs.Prelude.{◌≡◌, ℕ, ◌<◌, ◌^◌, Bool, true, fals
 use Rattle.std.specs.List.{AllByRecursion}
 use Rattle.std.specs.Io.KnownBytes.{Appends}
 use Rattle.http_wire.specs.Message.{Message, is_head}
-use Rattle.http_wire.specs.Requests.{Takes}
+use Rattle.http_wire.specs.Requests.{TakesRequest}
 use Rattle.http_wire.specs.Responses.{head_text, response_text}
 use Rattle.kms_rest.specs.declared.faults.RestFault.{RestFault}
 use Rattle.kms_rest.specs.declared.faults.RestFault.TheVariants as keys_fault
@@ -20,34 +20,34 @@ pub data ServiceFault : Type 0 where
   NamesFault : (fault : NameRestFault) → ServiceFault
 
 -- the outcome of a request: a transaction of a user, or why it is not one
-pub data Outcome : Type 0 where
-  Replied : (user : List ℕ) (done : Transaction) → Outcome
-  NoCall : (fault : ServiceFault) → Outcome
+pub data RequestOutcome : Type 0 where
+  Replied : (user : List ℕ) (done : Transaction) → RequestOutcome
+  NoCall : (fault : ServiceFault) → RequestOutcome
 
 -- a request and its outcome
 pub record Exchange : Type 0 where
   pub request : Message
-  pub outcome : Outcome
+  pub outcome : RequestOutcome
 
 -- the key management service has no route with the path of the request, so the request is for the namesystem
 abbrev pub IsForNames : Message → Type 0
 IsForNames request = Says request (Err keys_fault.NoRoute)
 
 -- the outcome belongs to the request
-abbrev pub ComesOf : Message → Outcome → Type 0
+abbrev pub ComesOf : Message → RequestOutcome → Type 0
 ComesOf request (Replied user (OfKeys asked reply)) = Says request (Ok (user, asked))
 ComesOf request (Replied user (OfNames asked reply)) = IsForNames request × names_requests.Says request (Ok (user, asked))
 ComesOf request (NoCall (KeysFault fault)) = Says request (Err fault) × ¬ (fault ≡ keys_fault.NoRoute)
 ComesOf request (NoCall (NamesFault fault)) = IsForNames request × names_requests.Says request (Err fault)
 
 -- the status of the response for an outcome
-abbrev pub status_of : Outcome → ℕ
+abbrev pub status_of : RequestOutcome → ℕ
 status_of (Replied user done) = transaction_status done
 status_of (NoCall (KeysFault fault)) = fault_status fault
 status_of (NoCall (NamesFault fault)) = names.fault_status fault
 
 -- the body of that response
-abbrev pub body_of : Outcome → List ℕ
+abbrev pub body_of : RequestOutcome → List ℕ
 body_of (Replied user done) = transaction_body done
 body_of (NoCall (KeysFault fault)) = fault_text fault
 body_of (NoCall (NamesFault fault)) = names.fault_text fault
@@ -62,7 +62,7 @@ abbrev pub response_of : Exchange → List ℕ
 response_of exchange = sent_text (is_head exchange.request) (status_of exchange.outcome) (body_of exchange.outcome)
 
 -- how the desk changes: by the transaction, or not at all if there is none
-abbrev pub Leaves : {D : Type 0} → Answering D → D → Outcome → D → Type 0
+abbrev pub Leaves : {D : Type 0} → Answering D → D → RequestOutcome → D → Type 0
 Leaves answers old (Replied user done) new = answers old user done new
 Leaves answers old (NoCall fault) new = new ≡ old
 
@@ -74,7 +74,7 @@ AsksInOrder {D} answers old (exchange ∷ more) new = (next : D) × (Leaves answ
 -- the requests are read one after another, and each byte is used once
 abbrev pub ReadsInOrder : Option (List ℕ) → List Exchange → Option (List ℕ) → Type 0
 ReadsInOrder old [] new = new ≡ old
-ReadsInOrder old (exchange ∷ more) new = (next : Option (List ℕ)) × (Takes old next exchange.request × ReadsInOrder next more new)
+ReadsInOrder old (exchange ∷ more) new = (next : Option (List ℕ)) × (TakesRequest old next exchange.request × ReadsInOrder next more new)
 
 -- the number of bytes of the requests together
 abbrev pub bytes_in : List Exchange → ℕ

@@ -6,15 +6,15 @@ use Rattle.hk_base.specs.declared.ended.Ended.TheVariants as ended
 use Rattle.hk_serve.specs.Served.{AreRequestsOf}
 
 -- the bytes end the connection, not the outside and not their count
-abbrev pub IsOfBytes : Ended → Type 0
-IsOfBytes ended.End = ⊤
-IsOfBytes ended.Wire = ⊤
-IsOfBytes ended.Closed = ⊤
-IsOfBytes ended.TooLong = ⊥
-IsOfBytes ended.ReadFault = ⊥
-IsOfBytes ended.WriteFault = ⊥
-IsOfBytes ended.NoMemory = ⊥
+abbrev pub EndsByBytes : Ended → Type 0
+EndsByBytes ended.End = ⊤
+EndsByBytes ended.Wire = ⊤
+EndsByBytes ended.Closed = ⊤
+EndsByBytes ended.TooLong = ⊥
+EndsByBytes ended.ReadFault = ⊥
+EndsByBytes ended.WriteFault = ⊥
+EndsByBytes ended.NoMemory = ⊥
 
 -- if the bytes end a connection, they have one list of requests and one end
 abbrev pub OneConnection : Type 0
-OneConnection = (all : List ℕ) (requests others : List Message) (how other : Ended) → IsOfBytes how → IsOfBytes other → AreRequestsOf all requests how → AreRequestsOf all others other → (requests ≡ others) × (how ≡ other)
+OneConnection = (all : List ℕ) (requests others : List Message) (how other : Ended) → EndsByBytes how → EndsByBytes other → AreRequestsOf all requests how → AreRequestsOf all others other → (requests ≡ others) × (how ≡ other)

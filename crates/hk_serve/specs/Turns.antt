@@ -5,17 +5,17 @@ use Rattle.hk_base.specs.Writing.{WroteFront}
 use Rattle.http_wire.specs.declared.faults.SendFault.{SendFault}
 use Rattle.http_wire.specs.declared.faults.SendFault.TheVariants as send
 use Rattle.http_wire.specs.Message.{Message}
-use Rattle.http_wire.specs.Requests.{Takes}
+use Rattle.http_wire.specs.Requests.{TakesRequest}
 use Rattle.http_wire.specs.Responses.{IsStatus}
 use Rattle.http_wire.specs.declared.responses.Response.{Response}
 use Rattle.hk_base.specs.declared.ended.Ended.{Ended}
 use Rattle.hk_base.specs.declared.ended.Ended.TheVariants as ended
 use Rattle.hk_serve.specs.Ends.{Ends, EndsAfter}
-use Rattle.hk_serve.specs.Exchanges.{ComesOf, Exchange, Leaves, Outcome, Stand, body_of, response_of, status_of}
+use Rattle.hk_serve.specs.Exchanges.{ComesOf, Exchange, Leaves, RequestOutcome, Stand, body_of, response_of, status_of}
 use Rattle.hk_serve.specs.Transactions.{Answering}
 
 -- The response belongs to an outcome.
-pub record Responds (outcome : Outcome) (response : Response) : Type 0 where
+pub record Responds (outcome : RequestOutcome) (response : Response) : Type 0 where
   pub known : IsStatus response.status
   pub status : response.status ≡ status_of outcome
   pub body : response.body ≡ body_of outcome
@@ -38,7 +38,7 @@ AnswersSo exchange bytes bytes' written now (Some how) = EndsAfter (bytes + exch
 
 -- A request was answered.
 pub record Answered {D : Type 0} (answers : Answering D) (request : Message) (bytes bytes' : ℕ) (desk desk' : D) (written now : Option (List ℕ)) (result : Option Ended) : Type 0 where
-  pub outcome : Outcome
+  pub outcome : RequestOutcome
   pub comes : ComesOf request outcome
   pub leaves : Leaves answers desk outcome desk'
   pub response : AnswersSo (record { request = request; outcome = outcome }) bytes bytes' written now result
@@ -46,7 +46,7 @@ pub record Answered {D : Type 0} (answers : Answering D) (request : Message) (by
 -- A request was read and answered, and the connection goes on.
 pub record GoesOn {D : Type 0} (answers : Answering D) (bytes bytes' : ℕ) (old new : Stand D) : Type 0 where
   pub exchange : Exchange
-  pub takes : Takes old.ahead new.ahead exchange.request
+  pub takes : TakesRequest old.ahead new.ahead exchange.request
   pub comes : ComesOf exchange.request exchange.outcome
   pub leaves : Leaves answers old.desk exchange.outcome new.desk
   pub goes_on : GoesOnAfter exchange.request bytes bytes' None

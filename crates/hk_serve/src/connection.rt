@@ -6,7 +6,7 @@ ghost use Rattle.hk_base.specs.Writing.{WroteFront};
 ghost use Rattle.http_wire.specs.Reading.{ahead};
 ghost use Rattle.http_wire.specs.Responses.{IsStatus};
 ghost use Rattle.kms_rest.specs.Requests.{Says};
-ghost use Rattle.hk_serve.specs.Exchanges.{ComesOf, IsForNames, Leaves, Outcome, sent_text};
+ghost use Rattle.hk_serve.specs.Exchanges.{ComesOf, IsForNames, Leaves, RequestOutcome, sent_text};
 ghost use Rattle.hk_serve.specs.Served.{Served};
 ghost use Rattle.hk_serve.specs.Turns.{Answered, Responds, GoesOnAfter, Turns};
 
@@ -90,7 +90,7 @@ impl Connection {
         desk: &mut E,
     ) -> Result<Response, NoMemory>
         requires { E.ready desk.old }
-        ensures comes { (outcome : Outcome) ×
+        ensures comes { (outcome : RequestOutcome) ×
             (ComesOf request.now outcome ×
             (Leaves E.answers desk.old outcome desk.new × IfOk result (Responds outcome))) }
         ensures ready { E.ready desk.new }
@@ -111,7 +111,7 @@ impl Connection {
     ) -> Result<Response, NoMemory>
         requires ready { E.ready desk.old }
         requires says { Says request.now (Err fault) }
-        ensures comes { (outcome : Outcome) ×
+        ensures comes { (outcome : RequestOutcome) ×
             (ComesOf request.now outcome ×
             (Leaves E.answers desk.old outcome desk.new × IfOk result (Responds outcome))) }
         ensures ready { E.ready desk.new }
@@ -131,7 +131,7 @@ impl Connection {
     ) -> Result<Response, NoMemory>
         requires ready { E.ready desk.old }
         requires names { IsForNames request.now }
-        ensures comes { (outcome : Outcome) ×
+        ensures comes { (outcome : RequestOutcome) ×
             (ComesOf request.now outcome ×
             (Leaves E.answers desk.old outcome desk.new × IfOk result (Responds outcome))) }
         ensures ready { E.ready desk.new }

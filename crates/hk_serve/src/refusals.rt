@@ -2,7 +2,7 @@
 ghost use Rattle.std.specs.Prelude.{◌≡◌, ◌≤◌, Some};
 ghost use Rattle.hk_base.specs.Faults.{Rose};
 ghost use Rattle.http_wire.specs.Responses.{IsStatus, response_text};
-ghost use Rattle.hk_serve.specs.Ends.{EndsFor};
+ghost use Rattle.hk_serve.specs.Ends.{EndsConnection};
 ghost use Rattle.hk_serve.specs.Turns.{SentLast, send_ended};
 
 use hk_base::{Ended, Sink};
@@ -49,7 +49,7 @@ fn refuse<K: Sink>(alloc: Global, sink: &mut K, status: u16, body: &str) -> Ende
 /// Ends a connection from which no request could be read. Bytes that are not a request are answered,
 /// unless the input ended within them.
 pub(crate) fn stop<K: Sink>(alloc: Global, sink: &mut K, fault: WireFault) -> Ended
-    ensures ends { EndsFor fault (K.written sink.old) (K.written sink.new) result }
+    ensures ends { EndsConnection fault (K.written sink.old) (K.written sink.new) result }
     ensures later { K.faults sink.old ≤ K.faults sink.new }
     ensures write_fault { result ≡ Ended.WriteFault → Rose (K.faults sink.old) (K.faults sink.new) }
 {

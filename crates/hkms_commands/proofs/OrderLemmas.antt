@@ -6,7 +6,7 @@ use Rattle.clap.specs.declared.error.ErrorKind.TheVariants.{DisplayHelp, Display
 use Rattle.clap_lines.specs.Orders.{IsMistake, ShownAs}
 use Rattle.clap_lines.specs.declared.told.OrderFault.{OrderFault}
 use Rattle.clap_lines.specs.declared.told.OrderFault.TheVariants.{Usage, NoMemory}
-use Rattle.command_line.specs.Orders.{Answers, IsHelp, IsVersion, Names, line_fault}
+use Rattle.command_line.specs.Orders.{IsHelp, IsOrderOf, IsVersion, Names, line_fault}
 use Rattle.command_line.specs.declared.order.Order.{Order}
 use Rattle.command_line.specs.declared.order.Order.TheVariants.{Replay, Pipe, Serve, Load, Help, Version}
 use Rattle.hk_base.specs.Disk.{DiskState, Tells}
@@ -58,7 +58,7 @@ usage_only (Err Usage) words replays pipes serves loads same written now status 
 usage_only (Err NoMemory) words replays pipes serves loads same written now status usage obeys no_replay no_pipe no_server no_load two = absurd (not_shown _ 6 written now status (λ h. absurd cc) obeys.1 two)
 
 -- words that name an order give it, or there is no memory to read them
-pub named_so : (order : OrderRead) (words : List Text) → IfOk order (λ o. Answers o words) → IfErr order (λ fault. fault ≡ Usage → IsMistake (line_fault words)) → (o : Order) → Names o words
+pub named_so : (order : OrderRead) (words : List Text) → IfOk order (λ o. IsOrderOf o words) → IfErr order (λ fault. fault ≡ Usage → IsMistake (line_fault words)) → (o : Order) → Names o words
     → (order ≡ Ok o) ⊎ (order ≡ Err NoMemory)
 named_so (Err NoMemory) words answers usage o names = inr refl
 named_so (Err Usage) words answers usage o names = absurd ((usage refl).0 names.no_fault)
@@ -123,7 +123,7 @@ module _ (past : Past) (old new : DiskState) (tells : Tells old) (sound : Starts
   pipe_order_keeps order ends idle named obeys = ⊎_elim (piped_keeps ends idle) (unasked_keeps idle) (obeyed order Pipe replays Piped serves loads Unasked written now status named obeys)
 
 -- words that give the order of a server name it
-pub serving_named : (order : OrderRead) (words : List Text) (idle : Type 0) → IfOk order (λ o. Answers o words) → LeavesServing order idle → ((port : ℕ) × (conns : ℕ) × (places : ℕ) × Names (Serve port conns places) words) ⊎ idle
+pub serving_named : (order : OrderRead) (words : List Text) (idle : Type 0) → IfOk order (λ o. IsOrderOf o words) → LeavesServing order idle → ((port : ℕ) × (conns : ℕ) × (places : ℕ) × Names (Serve port conns places) words) ⊎ idle
 serving_named (Ok Replay) words idle answers leaves = inr leaves
 serving_named (Ok Pipe) words idle answers leaves = inr leaves
 serving_named (Ok (Serve port conns places)) words idle (inl read) leaves = inl (port, conns, places, record { no_fault = read.0; command = read.1 })
@@ -136,7 +136,7 @@ serving_named (Err Usage) words idle answers leaves = inr leaves
 serving_named (Err NoMemory) words idle answers leaves = inr leaves
 
 -- what comes of an order comes of the words that name it
-pub by_logs : (order : OrderRead) (words : List Text) (on_disk in_yard : Type 0) → IfOk order (λ o. Answers o words) → ByLogs order on_disk in_yard → (UsesDisk words × on_disk) ⊎ (UsesYard words × in_yard)
+pub by_logs : (order : OrderRead) (words : List Text) (on_disk in_yard : Type 0) → IfOk order (λ o. IsOrderOf o words) → ByLogs order on_disk in_yard → (UsesDisk words × on_disk) ⊎ (UsesYard words × in_yard)
 by_logs (Ok Replay) words on_disk in_yard (inl read) by = inl (inl (record { no_fault = read.0; command = read.1 }), by)
 by_logs (Ok Replay) words on_disk in_yard (inr (inl help)) by = absurd help.0
 by_logs (Ok Replay) words on_disk in_yard (inr (inr version)) by = absurd version.0

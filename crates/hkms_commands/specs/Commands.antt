@@ -11,7 +11,7 @@ use Rattle.server_parts.specs.declared.yard.Yard as yards
 use Rattle.world_run.specs.Ledger.{Past}
 use Rattle.world_run.specs.Linked.{SoundFiles}
 use Rattle.cell_server.specs.Connections.{ServesEnds}
-use Rattle.command_io.specs.Ends.{Refuses, ShowsText, WantsMemory, status_of}
+use Rattle.command_io.specs.Ends.{RefusesUsage, ShowsText, WantsMemory, status_of}
 use Rattle.command_io.specs.Environment.{Environment, environment}
 use Rattle.command_io.specs.declared.ends.ReplayEnd.{ReplayEnd}
 use Rattle.clap_lines.specs.declared.told.OrderFault.{OrderFault}
@@ -36,7 +36,7 @@ module _ {D A S K W : Type 0} (of_out : sinks.Ghosts K) (old new : Environment D
 
   -- the words are refused, or there is no memory to read them
   abbrev pub RefusesWords : ℕ → Type 0
-  RefusesWords status = Refuses (WritesAlone old new same_clock) (of_out.written old.out) (of_out.written new.out) status ⊎ LacksMemory status
+  RefusesWords status = RefusesUsage (WritesAlone old new same_clock) (of_out.written old.out) (of_out.written new.out) status ⊎ LacksMemory status
 
   -- a text is shown, or there is no memory to read the words
   abbrev pub ShowsOwnText : ℕ → Type 0
@@ -67,26 +67,26 @@ module _ {D A S K W : Type 0} (of_disk : disks.Ghosts D) (of_acls : sources.Ghos
   PipesRequests same_clock status = Pipes of_disk of_acls of_input of_out of_rand old new same_clock status ⊎ LacksMemory of_out old new same_clock status
 
 -- all that `hkms` works on
-pub record Given (D A S K W C Y P : Type 0) : Type 0 where
+pub record CommandGiven (D A S K W C Y P : Type 0) : Type 0 where
   pub env : Environment D A S K W
   pub clock : C
   pub yard : Y
   pub door : P
 
-abbrev pub given : {D A S K W C Y P : Type 0} → D → A → S → K → W → C → Y → P → Given D A S K W C Y P
+abbrev pub given : {D A S K W C Y P : Type 0} → D → A → S → K → W → C → Y → P → CommandGiven D A S K W C Y P
 given disk acls input out rand clock yard door = record { env = environment disk acls input out rand; clock = clock; yard = yard; door = door }
 
 module _ {D A S K W C Y P : Type 0} where
   -- what the server works on of it
-  abbrev pub server_side : Given D A S K W C Y P → ServerEnvironment A K W Y P
+  abbrev pub server_side : CommandGiven D A S K W C Y P → ServerEnvironment A K W Y P
   server_side g = server_environment g.env.acls g.env.out g.env.rand g.yard g.door
 
   -- all but the output is unchanged, the yard and the door aside
-  abbrev pub ReadsNothing : Given D A S K W C Y P → Given D A S K W C Y P → Type 0
+  abbrev pub ReadsNothing : CommandGiven D A S K W C Y P → CommandGiven D A S K W C Y P → Type 0
   ReadsNothing old new = WritesAlone old.env new.env (new.clock ≡ old.clock)
 
 module _ {D A S K W C Y O P I U H : Type 0} (of_acls : sources.Ghosts A) (of_out : sinks.Ghosts K) (of_rand : random.Ghosts W) (of_yard : yards.Ghosts Y O) (of_own : disks.Ghosts O) (of_door : doors.Ghosts P I U H)
-    (of_in : sources.Ghosts I) (of_outs : sinks.Ghosts U) (old new : Given D A S K W C Y P) where
+    (of_in : sources.Ghosts I) (of_outs : sinks.Ghosts U) (old new : CommandGiven D A S K W C Y P) where
   -- connections are served, and the disk and the input are not used
   abbrev pub ServesAlone : ℕ → ℕ → ℕ → Type 0
   ServesAlone port conns status =

@@ -1,7 +1,7 @@
 -- What the words of a command line bring about.
 use Rattle.std.specs.Prelude.{◌⊎◌, ⊤, ℕ, List, Option, Result, Ok, Err, string_bytes}
 use Rattle.clap.specs.Words.{Text}
-use Rattle.command_io.specs.Ends.{Refuses, Shows, WantsMemory}
+use Rattle.command_io.specs.Ends.{RefusesUsage, ShowsWith, WantsMemory}
 use Rattle.clap_lines.specs.declared.told.OrderFault.{OrderFault}
 use Rattle.clap_lines.specs.declared.told.OrderFault.TheVariants.{Usage, NoMemory}
 use Rattle.command_line.specs.Orders.{Names}
@@ -14,9 +14,9 @@ Obeys (Ok Replay) replays pipes serves loads same written now status = replays
 Obeys (Ok Pipe) replays pipes serves loads same written now status = pipes
 Obeys (Ok (Serve port conns places)) replays pipes serves loads same written now status = serves port conns
 Obeys (Ok (Load count)) replays pipes serves loads same written now status = loads count
-Obeys (Ok (Help text)) replays pipes serves loads same written now status = same × Shows (string_bytes text) 0 written now status
-Obeys (Ok (Version text)) replays pipes serves loads same written now status = same × Shows (string_bytes text) 0 written now status
-Obeys (Err Usage) replays pipes serves loads same written now status = Refuses same written now status
+Obeys (Ok (Help text)) replays pipes serves loads same written now status = same × ShowsWith (string_bytes text) 0 written now status
+Obeys (Ok (Version text)) replays pipes serves loads same written now status = same × ShowsWith (string_bytes text) 0 written now status
+Obeys (Err Usage) replays pipes serves loads same written now status = RefusesUsage same written now status
 Obeys (Err NoMemory) replays pipes serves loads same written now status = WantsMemory same written now status
 
 -- only a server has anything to do with a yard and a door: `idle` says that they are as they were

@@ -5,7 +5,7 @@ ghost use Rattle.std.specs.Prelude.{◌≡◌, ◌≢◌, IfErr, IfOk, IsTrue, M
 ghost use Rattle.clap_lines.specs.Orders.{IsMistake};
 ghost use Rattle.command_line.specs.Orders.{line_fault};
 ghost use Rattle.hkms_tool.specs.Starting.{EndsUnopened};
-ghost use Rattle.program_start.specs.Starting.{EndsBy, EndsWith};
+ghost use Rattle.program_start.specs.Starting.{EndsProgram, EndsWith};
 
 mod announcing;
 mod opening;
@@ -49,7 +49,7 @@ fn report_fault(rt: &HostRuntime, output: Output, line: &[u8], status: u8) -> u8
 /// Tells of an error that comes before the input is read, as `report_fault` does. A failed allocation
 /// has a line and a status of its own.
 fn report_error(rt: &HostRuntime, output: Output, error: &io::Error, line: &[u8], status: u8) -> u8
-    ensures { EndsBy status error.now result }
+    ensures { EndsProgram status error.now result }
 {
     if error.kind() == ErrorKind::OutOfMemory {
         return report_fault(rt, output, b"no memory\n", 6);
@@ -271,7 +271,7 @@ fn run_words<T: Threads + Wait + Sync>(
 ) -> u8
     ensures { MatchResult words
         (λ words. result ≡ 2 → IsMistake (line_fault words.items))
-        (λ error. EndsBy 2 error result) }
+        (λ error. EndsProgram 2 error result) }
 {
     match words {
         Ok(words) => run(rt, threads, words.as_slice(), seed),

@@ -12,7 +12,7 @@ use Rattle.http_wire.specs.declared.faults.WireFault.TheVariants.{Chunked, BadLe
 use Rattle.http_wire.specs.Fields.{fields_of, is_named, values, agreed, sized, body_length}
 use Rattle.http_wire.specs.Heads.{IsHead}
 use Rattle.http_wire.specs.Parsing.{FoundHead}
-use Rattle.http_wire.specs.Requests.{Faulty, Refuses}
+use Rattle.http_wire.specs.Requests.{Faulty, RefusesHead}
 
 too_long : (b : Bool) (n : ℕ) (fault : WireFault) (P : WireFault → Type 0) → cond b (Err BodyTooLong) (Ok n) ≡ Err fault → P BodyTooLong → P fault
 too_long true n fault P e long = let same : BodyTooLong ≡ fault = cc in subst P same long
@@ -31,8 +31,8 @@ pub fault_of_fields : (fields : List (List ℕ × List ℕ)) (fault : WireFault)
 unfolding body_length
 fault_of_fields fields fault P e = either (list_any (is_named (codes "transfer-encoding")) fields) (agreed (values (codes "content-length") fields)) fault P e
 
-pub refuses : (bytes : List ℕ) (fault : WireFault) → Faulty bytes fault → Refuses bytes fault
-refuses bytes fault faulty = fault_of_fields (fields_of faulty.h) fault (λ f. Faulty bytes f → Refuses bytes f) faulty.why (λ h. h) (λ h. h) (λ h. h) faulty
+pub refuses : (bytes : List ℕ) (fault : WireFault) → Faulty bytes fault → RefusesHead bytes fault
+refuses bytes fault faulty = fault_of_fields (fields_of faulty.h) fault (λ f. Faulty bytes f → RefusesHead bytes f) faulty.why (λ h. h) (λ h. h) (λ h. h) faulty
 
 -- a head whose fields fit has at most 64 of them
 pub found_is_head : (bytes : List ℕ) (headers : List HeaderSpan) (spans : RequestSpans) (h : RequestHead) → FoundHead bytes headers spans h → length headers ≤ 64 → IsHead bytes h
@@ -41,7 +41,7 @@ found_is_head bytes headers spans h found room =
     let count : length h.fields ≡ length front = sym (length-map h.fields name_and_value) ∙ sym (ap length found.at.fields) ∙ length-map front (header_bytes bytes) in
     (found.reads, omega (arith, count, length-take spans.headers headers))
 
-pub found_refused : (bytes : List ℕ) (headers : List HeaderSpan) (spans : RequestSpans) (h : RequestHead) (fault : WireFault) → FoundHead bytes headers spans h → length headers ≤ 64 → body_length (map (header_bytes bytes) (take spans.headers headers)) ≡ Err fault → Refuses bytes fault
+pub found_refused : (bytes : List ℕ) (headers : List HeaderSpan) (spans : RequestSpans) (h : RequestHead) (fault : WireFault) → FoundHead bytes headers spans h → length headers ≤ 64 → body_length (map (header_bytes bytes) (take spans.headers headers)) ≡ Err fault → RefusesHead bytes fault
 found_refused bytes headers spans h fault found room why = refuses bytes fault (record {
   h = h;
   is = found_is_head bytes headers spans h found room;

@@ -11,7 +11,7 @@ use Rattle.http_wire.specs.declared.faults.WireFault.TheVariants.{End, BadHead, 
 use Rattle.http_wire.specs.Fields.{fields_of, body_length, keeps}
 use Rattle.http_wire.specs.Heads.{EndsHead, HasNoEnd, IsHeadText, IsHead}
 use Rattle.http_wire.specs.Message.{Message}
-use Rattle.http_wire.specs.Requests.{SpellsRequest, BeginsHead, BeginsBody, Faulty, Spells, Begins, IsOfBytes, UsedUp, Ended, Takes, Stops, IsExact, HasRequests}
+use Rattle.http_wire.specs.Requests.{SpellsRequest, BeginsHead, BeginsBody, Faulty, SpellsOutcome, BeginsAs, IsOfBytes, UsedUp, Ended, TakesRequest, StopsFor, IsExact, HasRequests}
 use Rattle.http_wire.proofs.HeadLemmas.{head_fits}
 
 -- ---- heads at the beginning of bytes
@@ -193,7 +193,7 @@ from_whole all used rest m whole s = inr (record {
   judged = inr (record { h = s.h; is = s.spells.is; same = sym (whole_is used rest m s) });
 })
 
-stage_of : (all used rest : List ℕ) (o : Outcome) → all ≡ used ++ rest → IsOfBytes o → Spells used o → UsedUp o rest → Stage all (o, used)
+stage_of : (all used rest : List ℕ) (o : Outcome) → all ≡ used ++ rest → IsOfBytes o → SpellsOutcome used o → UsedUp o rest → Stage all (o, used)
 stage_of all used rest (Ok m) whole of_bytes spells up = from_whole all used rest m whole spells
 stage_of all used rest (Err End) whole of_bytes spells up = from_none all used rest whole spells up
 stage_of all used rest (Err EndedEarly) whole of_bytes spells up = ⊎_elim (λ short. from_short all used rest whole short up) (λ cut. from_cut all used rest whole cut up) spells
@@ -206,7 +206,7 @@ stage_of all used rest (Err ReadFault) whole of_bytes spells up = absurd of_byte
 stage_of all used rest (Err NoMemory) whole of_bytes spells up = absurd of_bytes
 
 -- bytes begin with one outcome, and leave one rest
-pub begins_unique : (all : List ℕ) (o p : Outcome) (rest left : List ℕ) → Begins all o rest → Begins all p left → (o ≡ p) × (rest ≡ left)
+pub begins_unique : (all : List ℕ) (o p : Outcome) (rest left : List ℕ) → BeginsAs all o rest → BeginsAs all p left → (o ≡ p) × (rest ≡ left)
 begins_unique all o p rest left one other =
     let same = unique_stage all (o, one.used) (p, other.used) (stage_of all one.used rest o one.whole one.of_bytes one.spells one.ended) (stage_of all other.used left p other.whole other.of_bytes other.spells other.ended) in
     let used : other.used ≡ one.used = sym (ap (λ (g : Outcome × List ℕ). g.1) same) in
@@ -219,22 +219,22 @@ rest_left : (all used : List ℕ) (new : Option (List ℕ)) → Consumes (Some a
 rest_left all used None taken = absurd taken
 rest_left all used (Some rest) taken = (rest, refl, taken)
 
-exact_ok : (old new : Option (List ℕ)) (m : Message) → Takes old new m → IsExact old new (Ok m)
+exact_ok : (old new : Option (List ℕ)) (m : Message) → TakesRequest old new m → IsExact old new (Ok m)
 exact_ok old new m takes all outcome rest is begins of_bytes =
     let left = rest_left all takes.bytes new (subst (λ (o : Option (List ℕ)). Consumes o new takes.bytes) is takes.used) in
-    let mine : Begins all (Ok m) left.0 = record { used = takes.bytes; whole = left.2; of_bytes = tt; spells = takes.spells; ended = tt } in
+    let mine : BeginsAs all (Ok m) left.0 = record { used = takes.bytes; whole = left.2; of_bytes = tt; spells = takes.spells; ended = tt } in
     let same = begins_unique all (Ok m) outcome left.0 rest mine begins in
     (same.0, left.1 ∙ ap (λ (bytes : List ℕ). Some bytes) same.1)
 
-exact_err : (old new : Option (List ℕ)) (fault : WireFault) → Stops old new fault → IsExact old new (Err fault)
+exact_err : (old new : Option (List ℕ)) (fault : WireFault) → StopsFor old new fault → IsExact old new (Err fault)
 exact_err old new fault stops all outcome rest is begins of_bytes =
     let left = rest_left all stops.bytes new (subst (λ (o : Option (List ℕ)). Consumes o new stops.bytes) is stops.used) in
     let ended : Ended fault (Some left.0) = subst (λ (o : Option (List ℕ)). Ended fault o) left.1 stops.ended in
-    let mine : Begins all (Err fault) left.0 = record { used = stops.bytes; whole = left.2; of_bytes = of_bytes; spells = stops.spells; ended = ended } in
+    let mine : BeginsAs all (Err fault) left.0 = record { used = stops.bytes; whole = left.2; of_bytes = of_bytes; spells = stops.spells; ended = ended } in
     let same = begins_unique all (Err fault) outcome left.0 rest mine begins in
     (same.0, left.1 ∙ ap (λ (bytes : List ℕ). Some bytes) same.1)
 
-pub exactly : (old new : Option (List ℕ)) (result : Outcome) → IfOk result (Takes old new) → IfErr result (Stops old new) → IsExact old new result
+pub exactly : (old new : Option (List ℕ)) (result : Outcome) → IfOk result (TakesRequest old new) → IfErr result (StopsFor old new) → IsExact old new result
 exactly old new (Ok m) takes stops = exact_ok old new m takes
 exactly old new (Err fault) takes stops = exact_err old new fault stops
 

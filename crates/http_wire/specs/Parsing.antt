@@ -16,7 +16,7 @@ pub record FoundHead (bytes : List ℕ) (headers : List HeaderSpan) (spans : Req
   pub at : IsRequestAt bytes headers spans h
 
 -- All of these bytes are one head, and these are its parts.
-pub record HasParts (bytes : List ℕ) (h : RequestHead) (parts : Parts) : Type 0 where
+pub record HasHeadParts (bytes : List ℕ) (h : RequestHead) (parts : Parts) : Type 0 where
   pub is : IsHead bytes h
   pub method_within : IsWithin (length bytes) parts.method
   pub target_within : IsWithin (length bytes) parts.target

@@ -49,29 +49,29 @@ pub record BeginsBody (bytes : List ℕ) : Type 0 where
   pub missing : length body < size
 
 -- why a head is refused
-abbrev pub Refuses : List ℕ → WireFault → Type 0
-Refuses bytes BadHead = (h : RequestHead) → ¬ IsHead bytes h
-Refuses bytes Chunked = Faulty bytes Chunked
-Refuses bytes BadLength = Faulty bytes BadLength
-Refuses bytes BodyTooLong = Faulty bytes BodyTooLong
-Refuses bytes End = ⊥
-Refuses bytes HeadTooLong = ⊥
-Refuses bytes EndedEarly = ⊥
-Refuses bytes ReadFault = ⊥
-Refuses bytes NoMemory = ⊥
+abbrev pub RefusesHead : List ℕ → WireFault → Type 0
+RefusesHead bytes BadHead = (h : RequestHead) → ¬ IsHead bytes h
+RefusesHead bytes Chunked = Faulty bytes Chunked
+RefusesHead bytes BadLength = Faulty bytes BadLength
+RefusesHead bytes BodyTooLong = Faulty bytes BodyTooLong
+RefusesHead bytes End = ⊥
+RefusesHead bytes HeadTooLong = ⊥
+RefusesHead bytes EndedEarly = ⊥
+RefusesHead bytes ReadFault = ⊥
+RefusesHead bytes NoMemory = ⊥
 
 -- what the used bytes are, for each outcome
-abbrev pub Spells : List ℕ → Result Message WireFault → Type 0
-Spells used (Ok message) = SpellsRequest used message
-Spells used (Err End) = used ≡ []
-Spells used (Err EndedEarly) = BeginsHead used ⊎ BeginsBody used
-Spells used (Err HeadTooLong) = (length used ≡ 16384) × HasNoEnd used
-Spells used (Err BadHead) = IsHeadText used × Refuses used BadHead
-Spells used (Err Chunked) = IsHeadText used × Refuses used Chunked
-Spells used (Err BadLength) = IsHeadText used × Refuses used BadLength
-Spells used (Err BodyTooLong) = IsHeadText used × Refuses used BodyTooLong
-Spells used (Err ReadFault) = Unit {0}
-Spells used (Err NoMemory) = Unit {0}
+abbrev pub SpellsOutcome : List ℕ → Result Message WireFault → Type 0
+SpellsOutcome used (Ok message) = SpellsRequest used message
+SpellsOutcome used (Err End) = used ≡ []
+SpellsOutcome used (Err EndedEarly) = BeginsHead used ⊎ BeginsBody used
+SpellsOutcome used (Err HeadTooLong) = (length used ≡ 16384) × HasNoEnd used
+SpellsOutcome used (Err BadHead) = IsHeadText used × RefusesHead used BadHead
+SpellsOutcome used (Err Chunked) = IsHeadText used × RefusesHead used Chunked
+SpellsOutcome used (Err BadLength) = IsHeadText used × RefusesHead used BadLength
+SpellsOutcome used (Err BodyTooLong) = IsHeadText used × RefusesHead used BodyTooLong
+SpellsOutcome used (Err ReadFault) = Unit {0}
+SpellsOutcome used (Err NoMemory) = Unit {0}
 
 -- after these faults no bytes are left
 abbrev pub Ended : WireFault → Option (List ℕ) → Type 0
@@ -91,16 +91,16 @@ pub record TakesHead (old new : Option (List ℕ)) (head : List ℕ) : Type 0 wh
   pub text : IsHeadText head
 
 -- A request was read, and its bytes were used.
-pub record Takes (old new : Option (List ℕ)) (message : Message) : Type 0 where
+pub record TakesRequest (old new : Option (List ℕ)) (message : Message) : Type 0 where
   pub bytes : List ℕ
   pub used : Consumes old new bytes
   pub spells : SpellsRequest bytes message
 
 -- No request was read; these bytes were used, and they are the reason.
-pub record Stops (old new : Option (List ℕ)) (fault : WireFault) : Type 0 where
+pub record StopsFor (old new : Option (List ℕ)) (fault : WireFault) : Type 0 where
   pub bytes : List ℕ
   pub used : Consumes old new bytes
-  pub spells : Spells bytes (Err fault)
+  pub spells : SpellsOutcome bytes (Err fault)
   pub ended : Ended fault new
 
 -- A body of this length was read, and its bytes were used.
@@ -146,20 +146,20 @@ UsedUp (Ok message) rest = Unit {0}
 UsedUp (Err fault) rest = Ended fault (Some rest)
 
 -- What these bytes begin with, and what is left after it.
-pub record Begins (all : List ℕ) (outcome : Result Message WireFault) (rest : List ℕ) : Type 0 where
+pub record BeginsAs (all : List ℕ) (outcome : Result Message WireFault) (rest : List ℕ) : Type 0 where
   pub used : List ℕ
   pub whole : all ≡ used ++ rest
   pub of_bytes : IsOfBytes outcome
-  pub spells : Spells used outcome
+  pub spells : SpellsOutcome used outcome
   pub ended : UsedUp outcome rest
 
 -- If the bytes to come are known, the answer is what they begin with, and the rest after it is still to come,
 -- in whatever blocks they are read, unless the source failed or memory ran out.
 abbrev pub IsExact : Option (List ℕ) → Option (List ℕ) → Result Message WireFault → Type 0
-IsExact old new result = (all : List ℕ) (outcome : Result Message WireFault) (rest : List ℕ) → old ≡ Some all → Begins all outcome rest → IsOfBytes result → (result ≡ outcome) × (new ≡ Some rest)
+IsExact old new result = (all : List ℕ) (outcome : Result Message WireFault) (rest : List ℕ) → old ≡ Some all → BeginsAs all outcome rest → IsOfBytes result → (result ≡ outcome) × (new ≡ Some rest)
 
 -- the requests of these bytes, up to the first one that closes the connection or the first fault
 abbrev pub HasRequests : List ℕ → List Message → Option WireFault → Type 0
 HasRequests all [] None = ⊥
-HasRequests all [] (Some fault) = (rest : List ℕ) × Begins all (Err fault) rest
-HasRequests all (message ∷ more) last = (rest : List ℕ) × Begins all (Ok message) rest × MatchBool message.keep (HasRequests rest more last) ((more ≡ []) × (last ≡ None))
+HasRequests all [] (Some fault) = (rest : List ℕ) × BeginsAs all (Err fault) rest
+HasRequests all (message ∷ more) last = (rest : List ℕ) × BeginsAs all (Ok message) rest × MatchBool message.keep (HasRequests rest more last) ((more ≡ []) × (last ≡ None))

@@ -3,7 +3,7 @@ ghost use Rattle.std.specs.Prelude.{◌≡◌, ◌≤◌, ◌↔◌, length, IfO
 ghost use Rattle.hk_base.specs.Faults.{Rose};
 ghost use Rattle.http_wire.specs.Reading.{ahead};
 ghost use Rattle.http_wire.specs.Heads.{EndsHead, EndsIn};
-ghost use Rattle.http_wire.specs.Requests.{TakesHead, Stops};
+ghost use Rattle.http_wire.specs.Requests.{TakesHead, StopsFor};
 
 use crate::buffer::{Next, ReadBuffer};
 use crate::faults::WireFault;
@@ -37,7 +37,7 @@ pub(crate) fn read_head<S: Source>(
         (TakesHead (ahead buffer.old (S.left source.old))
         (ahead buffer.new (S.left source.new))) }
     ensures err { IfErr result
-        (Stops (ahead buffer.old (S.left source.old)) (ahead buffer.new (S.left source.new))) }
+        (StopsFor (ahead buffer.old (S.left source.old)) (ahead buffer.new (S.left source.new))) }
     ensures later { S.faults source.old ≤ S.faults source.new }
     ensures read_fault { result ≡ Err WireFault.ReadFault →
         Rose (S.faults source.old) (S.faults source.new) }

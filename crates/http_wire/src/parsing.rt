@@ -3,8 +3,8 @@ ghost use Rattle.std.specs.Prelude.{◌≡◌, ◌≤◌, List, ℕ, [], length,
 ghost use Rattle.httparse.specs.Grammar.{RequestHead, ReadsRequest};
 ghost use Rattle.httparse.specs.Spans.{IsHeaderWithin, header_bytes};
 ghost use Rattle.http_wire.specs.Fields.{body_length};
-ghost use Rattle.http_wire.specs.Parsing.{FoundHead, HasParts, GivesParts};
-ghost use Rattle.http_wire.specs.Requests.{Refuses};
+ghost use Rattle.http_wire.specs.Parsing.{FoundHead, HasHeadParts, GivesParts};
+ghost use Rattle.http_wire.specs.Requests.{RefusesHead};
 
 use crate::faults::WireFault;
 use crate::fields::{body_length, keeps};
@@ -58,8 +58,8 @@ fn parts_of(bytes: &[u8], spans: RequestSpans, headers: &[HeaderSpan]) -> Result
 
 /// Returns the parts of a head, or why it is refused.
 pub(crate) fn parse_head(bytes: &[u8]) -> Result<Parts, WireFault>
-    ensures ok { IfOk result (λ parts. (h : RequestHead) × HasParts bytes.now h parts) }
-    ensures err { IfErr result (Refuses bytes.now) }
+    ensures ok { IfOk result (λ parts. (h : RequestHead) × HasHeadParts bytes.now h parts) }
+    ensures err { IfErr result (RefusesHead bytes.now) }
 {
     let mut headers = [EMPTY_HEADER_SPAN; MOST_FIELDS];
     match find_head(bytes, &mut headers) {

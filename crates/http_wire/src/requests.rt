@@ -6,7 +6,7 @@ ghost use Rattle.httparse.specs.Grammar.{RequestHead};
 ghost use Rattle.httparse.specs.Spans.{IsWithin, span_bytes};
 ghost use Rattle.http_wire.specs.Parsing.{message_from};
 ghost use Rattle.http_wire.specs.Reading.{ahead};
-ghost use Rattle.http_wire.specs.Requests.{Takes, Stops, IsExact};
+ghost use Rattle.http_wire.specs.Requests.{TakesRequest, StopsFor, IsExact};
 
 use crate::bodies::read_body;
 use crate::buffer::ReadBuffer;
@@ -48,9 +48,9 @@ fn read_message<S: Source>(
     buffer: &mut ReadBuffer,
 ) -> Result<Request, WireFault>
     ensures request { IfOk result
-        (Takes (ahead buffer.old (S.left source.old)) (ahead buffer.new (S.left source.new))) }
+        (TakesRequest (ahead buffer.old (S.left source.old)) (ahead buffer.new (S.left source.new))) }
     ensures fault { IfErr result
-        (Stops (ahead buffer.old (S.left source.old)) (ahead buffer.new (S.left source.new))) }
+        (StopsFor (ahead buffer.old (S.left source.old)) (ahead buffer.new (S.left source.new))) }
     ensures later { S.faults source.old ≤ S.faults source.new }
     ensures read_fault { result ≡ Err WireFault.ReadFault →
         Rose (S.faults source.old) (S.faults source.new) }
@@ -78,9 +78,9 @@ pub fn read_request<S: Source>(
     buffer: &mut ReadBuffer,
 ) -> Result<Request, WireFault>
     ensures request { IfOk result
-        (Takes (ahead buffer.old (S.left source.old)) (ahead buffer.new (S.left source.new))) }
+        (TakesRequest (ahead buffer.old (S.left source.old)) (ahead buffer.new (S.left source.new))) }
     ensures fault { IfErr result
-        (Stops (ahead buffer.old (S.left source.old)) (ahead buffer.new (S.left source.new))) }
+        (StopsFor (ahead buffer.old (S.left source.old)) (ahead buffer.new (S.left source.new))) }
     ensures exact { IsExact (ahead buffer.old (S.left source.old))
         (ahead buffer.new (S.left source.new)) result }
 

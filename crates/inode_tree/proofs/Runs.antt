@@ -5,7 +5,7 @@ use Rattle.std.proofs.lemmas.List.{take_at, drop_at, take-take, drop-drop, drop-
 use Rattle.std.proofs.lemmas.Slice.{between_is}
 use Rattle.std.specs.List.{between, remove}
 use borrow.Rule.Slice.PartMut.{put_mid}
-use Rattle.inode_tree.specs.Listed.{IsCut, flat, parted, starts_of, turned}
+use Rattle.inode_tree.specs.Listed.{IsCutAt, flat, parted, starts_of, turned}
 use Rattle.inode_tree.proofs.Pieces.{length-parted}
 
 pub flat-append : (ps qs : List (List ℕ)) → flat (ps ++ qs) ≡ flat ps ++ flat qs
@@ -74,7 +74,7 @@ length-turned xs a b c h k l =
       length-drop c xs,
     )
 
-module _ (ps : List (List ℕ)) (k i : ℕ) (h : IsCut ps k i) where
+module _ (ps : List (List ℕ)) (k i : ℕ) (h : IsCutAt ps k i) where
   flat-split : flat ps ≡ flat (take k ps) ++ flat (drop k ps)
   flat-split = ap flat (sym (take-append-drop k ps)) ∙ flat-append (take k ps) (drop k ps)
 
@@ -92,17 +92,17 @@ flat-more [] (suc j) (suc k) h = omega arith
 flat-more (p ∷ ps) (suc j) zero h = absurd (omega arith)
 flat-more (p ∷ ps) (suc j) (suc k) h = let i = flat-more ps j k (omega arith) in omega (arith, length-append p (flat (take j ps)), length-append p (flat (take k ps)))
 
-pub cuts-rise : (ps : List (List ℕ)) (j k a b : ℕ) → IsCut ps j a → IsCut ps k b → a < b → j < k
+pub cuts-rise : (ps : List (List ℕ)) (j k a b : ℕ) → IsCutAt ps j a → IsCutAt ps k b → a < b → j < k
 cuts-rise ps j k a b h l less = elim (cases_lt j k) [ inl u ↦ u | inr u ↦ absurd (let m = flat-more ps k j u in let x = h.1 in let y = l.1 in omega arith) ]
 
-between-cut : (ps : List (List ℕ)) (j k a b : ℕ) → IsCut ps j a → IsCut ps k b → j ≤ k → between a b (flat ps) ≡ flat (between j k ps)
+between-cut : (ps : List (List ℕ)) (j k a b : ℕ) → IsCutAt ps j a → IsCutAt ps k b → j ≤ k → between a b (flat ps) ≡ flat (between j k ps)
 between-cut ps j k a b h l le =
     between_is (flat ps) a b ∙ ap (drop a) (cut-take ps k b l)
     ∙ cut-drop (take k ps) j a (let x = h.0 in let y = l.0 in omega (arith, length-take k ps), ap (λ (qs : List (List ℕ)). length (flat qs)) (take-take j k ps le) ∙ h.1)
     ∙ ap flat (sym (between_is ps j k))
 
 -- runs of pieces are runs of numbers
-pub turned-flat : (ps : List (List ℕ)) (j k l a b c : ℕ) → IsCut ps j a → IsCut ps k b → IsCut ps l c → j ≤ k → k ≤ l → flat (turned j k l ps) ≡ turned a b c (flat ps)
+pub turned-flat : (ps : List (List ℕ)) (j k l a b c : ℕ) → IsCutAt ps j a → IsCutAt ps k b → IsCutAt ps l c → j ≤ k → k ≤ l → flat (turned j k l ps) ≡ turned a b c (flat ps)
 turned-flat ps j k l a b c h m n le le' =
     flat-append (take j ps) (between k l ps ++ (between j k ps ++ drop l ps))
     ∙ ap (λ (ys : List ℕ). flat (take j ps) ++ ys) (flat-append (between k l ps) (between j k ps ++ drop l ps))
@@ -140,13 +140,13 @@ part-cut (p ∷ ps) (suc c) k h l = let i = part-cut ps c k (omega arith) l in o
 
 -- a piece cut in two begins a piece at the place i
 module _ (ps : List (List ℕ)) (c k i : ℕ) (h : c < length ps) (inner : k ≤ length (get_or ps c [])) (at : i ≡ length (flat (take c ps)) + k) where
-  pub parted-cut : IsCut (parted ps c k) (c + 1) i
+  pub parted-cut : IsCutAt (parted ps c k) (c + 1) i
   parted-cut =
       let e : c + 1 ≡ suc c = omega arith in
       (omega (arith, length-parted ps c k h), ap (λ (j : ℕ). length (flat (take j (parted ps c k)))) e ∙ part-cut ps c k h inner ∙ sym at)
 
   -- earlier cuts stay if the piece goes on beyond the place
-  pub parted-kept : k < length (get_or ps c []) → (m j : ℕ) → IsCut ps m j → j ≤ i → IsCut (parted ps c k) m j
+  pub parted-kept : k < length (get_or ps c []) → (m j : ℕ) → IsCutAt ps m j → j ≤ i → IsCutAt (parted ps c k) m j
   parted-kept less m j l le =
       let low : m ≤ c = elim (cases_lt c m) [ inl u ↦ absurd (let f = flat-more ps (c + 1) m (omega arith) in let n = next-cut ps c h in let y = l.1 in omega arith) | inr u ↦ u ] in
       (let x = l.0 in omega (arith, length-parted ps c k h), ap (λ (qs : List (List ℕ)). length (flat qs)) (take-parted ps c k m low) ∙ l.1)

@@ -157,14 +157,14 @@ pub record IsSkip (ns : List Node) (order : List ℕ) (at next : ℕ) : Type 0 w
   pub below : (k : ℕ) → at < k → k < next → is_prefix (path_of ns (slice_index_or order at 0)) (path_of ns (slice_index_or order k 0)) ≡ true
 
 -- the parts of a tree; there is memory to note each node that becomes free
-pub record IsKept {S : Type 0} (nodes : NodeList) (order : Listed) (places : HashMap ℕ ℕ S) (slots : Vec ℕ) : Type 0 where
+pub record IsTreeKept {S : Type 0} (nodes : NodeList) (order : Listed) (places : HashMap ℕ ℕ S) (slots : Vec ℕ) : Type 0 where
   pub tree : IsTree nodes.items order.items (get nat_eq places)
   pub free : IsFree nodes.items order.items slots.items
   pub capacity : length nodes.items ≤ vec_capacity slots
 
 -- there are a free node and memory for one more row, with a name of n bytes
-abbrev pub HasRoom : {S : Type 0} → Listed → HashMap ℕ ℕ S → Vec ℕ → String Global → ℕ → Type 0
-HasRoom order places free ready n = (0 < length free.items) × (0 < order.spare) × (0 < spare places) × (n ≤ string_capacity ready)
+abbrev pub HasTreeRoom : {S : Type 0} → Listed → HashMap ℕ ℕ S → Vec ℕ → String Global → ℕ → Type 0
+HasTreeRoom order places free ready n = (0 < length free.items) × (0 < order.spare) × (0 < spare places) × (n ≤ string_capacity ready)
 
 -- the nodes with another kind at n
 abbrev pub rekind : List Node → ℕ → Kind → List Node

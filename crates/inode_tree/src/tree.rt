@@ -5,7 +5,7 @@ ghost use Rattle.std.specs.Bool.{nat_eq};
 ghost use Rattle.std.specs.List.{insert};
 ghost use Rattle.std.specs.Option.{option_map};
 ghost use Rattle.name_calls.specs.Paths.{is_relative, last_name, parent};
-ghost use Rattle.inode_tree.specs.Arena.{HasRoom, IsFree, IsKept, IsLinked, IsLive, IsNear, IsTree, blank, number_of, path_of, rekind, rows_of};
+ghost use Rattle.inode_tree.specs.Arena.{HasTreeRoom, IsFree, IsLinked, IsLive, IsNear, IsTree, IsTreeKept, blank, number_of, path_of, rekind, rows_of};
 ghost use Rattle.inode_tree.specs.declared.rows.Kind.TheVariants.{Dir, File};
 ghost use Rattle.inode_tree.specs.Rows.{IsRows, entry_of, has_children, is_dir, is_dir_at, need, put, root_only, row_at, set_kind, zone_id};
 
@@ -57,7 +57,7 @@ impl Model for Tree {
     ghost use Rattle.std.specs.Prelude.{◌≡◌, ◌&&◌, [], nat_lt, length, suc, if◌then◌else◌};
     ghost use Rattle.std.specs.HashMap.{spare};
     ghost use Rattle.std.specs.String.{string_bytes, string_capacity};
-    ghost use Rattle.inode_tree.specs.Arena.{IsKept, rows_of};
+    ghost use Rattle.inode_tree.specs.Arena.{IsTreeKept, rows_of};
     ghost use Rattle.inode_tree.specs.Rows.{TreeState};
 
     ghost Value = { TreeState };
@@ -69,7 +69,7 @@ impl Model for Tree {
               nat_lt 0 (spare tree.places) then suc (string_capacity tree.ready) else 0;
         } };
 
-    ghost invariant = { λ tree. IsKept tree.nodes tree.order tree.places tree.free ×
+    ghost invariant = { λ tree. IsTreeKept tree.nodes tree.order tree.places tree.free ×
         (string_bytes tree.ready ≡ []) };
 }
 
@@ -441,15 +441,15 @@ fn make_room(
     ready: &mut String,
     name: usize,
 ) -> Result<(), NoMemory>
-    requires kept { IsKept nodes.old order.old places.old free.old }
+    requires kept { IsTreeKept nodes.old order.old places.old free.old }
     requires ready { string_bytes ready.old ≡ [] }
-    ensures kept { IsKept nodes.new order.new places.new free.new }
+    ensures kept { IsTreeKept nodes.new order.new places.new free.new }
     ensures ready { string_bytes ready.new ≡ [] }
     ensures rows { rows_of nodes.new.items order.new.items ≡
         rows_of nodes.old.items order.old.items }
     ensures places { (q : ℕ) → get nat_eq places.new q ≡ get nat_eq places.old q }
-    ensures ok { OnOk result (HasRoom order.new places.new free.new ready.new name) }
-    ensures had { HasRoom order.old places.old free.old ready.old name → IsOk result }
+    ensures ok { OnOk result (HasTreeRoom order.new places.new free.new ready.new name) }
+    ensures had { HasTreeRoom order.old places.old free.old ready.old name → IsOk result }
 {
     provide(nodes, order, free)?;
     order.reserve()?;
@@ -553,21 +553,21 @@ fn add(
     path: &NPath,
     row: Row,
 ) -> Result<(), NoMemory>
-    requires kept { IsKept nodes.old order.old places.old free.old }
+    requires kept { IsTreeKept nodes.old order.old places.old free.old }
     requires ready { string_bytes ready.old ≡ [] }
     requires absent { row_at (rows_of nodes.old.items order.old.items) path.now ≡ None }
     requires housed { IsTrue
         (is_dir_at (row_at (rows_of nodes.old.items order.old.items) (parent path.now))) }
     requires fresh { get nat_eq places.old row.id ≡ None }
     requires count { length order.old.items < 1000000 }
-    ensures kept { IsKept nodes.new order.new places.new free.new }
+    ensures kept { IsTreeKept nodes.new order.new places.new free.new }
     ensures ready { string_bytes ready.new ≡ [] }
     ensures ok { OnOk result
         (rows_of nodes.new.items order.new.items ≡
         put (record { path = path.now; row = row }) (rows_of nodes.old.items order.old.items)) }
     ensures err { OnErr result
         (rows_of nodes.new.items order.new.items ≡ rows_of nodes.old.items order.old.items) }
-    ensures had { HasRoom order.old places.old free.old ready.old (length (last_name path.now)) →
+    ensures had { HasTreeRoom order.old places.old free.old ready.old (length (last_name path.now)) →
         IsOk result }
 {
     make_room(nodes, order, places, free, ready, last_len(path))?;
@@ -588,15 +588,15 @@ fn put_in(
     path: &NPath,
     row: Row,
 )
-    requires kept { IsKept nodes.old order.old places.old free.old }
+    requires kept { IsTreeKept nodes.old order.old places.old free.old }
     requires ready { string_bytes ready.old ≡ [] }
-    requires room { HasRoom order.old places.old free.old ready.old (length (last_name path.now)) }
+    requires room { HasTreeRoom order.old places.old free.old ready.old (length (last_name path.now)) }
     requires absent { row_at (rows_of nodes.old.items order.old.items) path.now ≡ None }
     requires housed { IsTrue
         (is_dir_at (row_at (rows_of nodes.old.items order.old.items) (parent path.now))) }
     requires fresh { get nat_eq places.old row.id ≡ None }
     requires count { length order.old.items < 1000000 }
-    ensures kept { IsKept nodes.new order.new places.new free.new }
+    ensures kept { IsTreeKept nodes.new order.new places.new free.new }
     ensures ready { string_bytes ready.new ≡ [] }
     ensures rows { rows_of nodes.new.items order.new.items ≡
         put (record { path = path.now; row = row }) (rows_of nodes.old.items order.old.items) }

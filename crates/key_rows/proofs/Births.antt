@@ -6,7 +6,7 @@ use Rattle.std.proofs.lemmas.Bool.Decides.{Decides-eqb}
 use Rattle.std.proofs.lemmas.Slice.Eq.{bytes_eq-Decides}
 use Rattle.key_rows.specs.declared.rows.KeyRow.{KeyRow}
 use Rattle.key_rows.specs.Table.{is_born, find_name, find_birth}
-use Rattle.key_rows.specs.Sound.{Rising, NamesOnce}
+use Rattle.key_rows.specs.Sound.{AreRowsRising, NamesOnce}
 
 -- a property of each element
 
@@ -44,19 +44,19 @@ find_at p (row ∷ rows) (suc i) d within here before =
 
 -- births
 
-pub rising_more : (low : ℕ) (rows : List KeyRow) (top : ℕ) (row : KeyRow) → Rising low rows top → top < row.birth → Rising low (rows ++ row ∷ []) row.birth
+pub rising_more : (low : ℕ) (rows : List KeyRow) (top : ℕ) (row : KeyRow) → AreRowsRising low rows top → top < row.birth → AreRowsRising low (rows ++ row ∷ []) row.birth
 rising_more low [] top row rising above = (omega arith, omega arith)
 rising_more low (r ∷ rows) top row rising above = (rising.0, rising_more r.birth rows top row rising.1 above)
 
-pub rising_lower : (low lower : ℕ) (rows : List KeyRow) (top : ℕ) → lower ≤ low → Rising low rows top → Rising lower rows top
+pub rising_lower : (low lower : ℕ) (rows : List KeyRow) (top : ℕ) → lower ≤ low → AreRowsRising low rows top → AreRowsRising lower rows top
 rising_lower low lower [] top below rising = omega arith
 rising_lower low lower (r ∷ rows) top below rising = (omega (arith, rising.0), rising.1)
 
-pub rising_filter : (low : ℕ) (p : KeyRow → Bool) (rows : List KeyRow) (top : ℕ) → Rising low rows top → Rising low (filter p rows) top
+pub rising_filter : (low : ℕ) (p : KeyRow → Bool) (rows : List KeyRow) (top : ℕ) → AreRowsRising low rows top → AreRowsRising low (filter p rows) top
 rising_filter low p [] top rising = rising
 rising_filter low p (r ∷ rows) top rising =
     let rest = rising_filter r.birth p rows top rising.1 in
-    let Q : Bool → Type 0 = λ b. Rising low (cond b (r ∷ filter p rows) (filter p rows)) top in
+    let Q : Bool → Type 0 = λ b. AreRowsRising low (cond b (r ∷ filter p rows) (filter p rows)) top in
     elim (p r) as Q [ true ↦ (rising.0, rest) | false ↦ rising_lower r.birth low (filter p rows) top (omega (arith, rising.0)) rest ]
 
 pub other_number : (a b : ℕ) → a ≢ b → (a == b) ≡ false
@@ -66,13 +66,13 @@ other_number a b other =
     cases refl
 
 -- the rows after a row do not have its birth
-pub none_born : (low birth : ℕ) (rows : List KeyRow) (top : ℕ) → birth ≤ low → Rising low rows top → AllByRecursion (λ (row : KeyRow). is_born birth row ≡ false) rows
+pub none_born : (low birth : ℕ) (rows : List KeyRow) (top : ℕ) → birth ≤ low → AreRowsRising low rows top → AllByRecursion (λ (row : KeyRow). is_born birth row ≡ false) rows
 none_born low birth [] top below rising = tt
 none_born low birth (r ∷ rows) top below rising =
     (other_number r.birth birth (λ e. absurd (omega (arith, rising.0))), none_born r.birth birth rows top (omega (arith, rising.0)) rising.1)
 
 -- the birth of a row that is found is above `low`
-above_low : (low : ℕ) (p : KeyRow → Bool) (rows : List KeyRow) (top : ℕ) → Rising low rows top → IfSome (find p rows) (λ row. low < row.birth)
+above_low : (low : ℕ) (p : KeyRow → Bool) (rows : List KeyRow) (top : ℕ) → AreRowsRising low rows top → IfSome (find p rows) (λ row. low < row.birth)
 above_low low p [] top rising = tt
 above_low low p (r ∷ rows) top rising =
     let Q : Bool → Type 0 = λ b. IfSome (cond b (Some r) (find p rows)) (λ row. low < row.birth) in
@@ -81,7 +81,7 @@ above_low low p (r ∷ rows) top rising =
     elim (p r) as Q [ true ↦ rising.0 | false ↦ later (above_low r.birth p rows top rising.1) ]
 
 -- a row that is found is also found by its birth
-pub by_birth : (low : ℕ) (p : KeyRow → Bool) (rows : List KeyRow) (top : ℕ) → Rising low rows top → IfSome (find p rows) (λ row. find_birth rows row.birth ≡ Some row)
+pub by_birth : (low : ℕ) (p : KeyRow → Bool) (rows : List KeyRow) (top : ℕ) → AreRowsRising low rows top → IfSome (find p rows) (λ row. find_birth rows row.birth ≡ Some row)
 by_birth low p [] top rising = tt
 by_birth low p (r ∷ rows) top rising =
     let Q : Bool → Type 0 = λ b. IfSome (cond b (Some r) (find p rows)) (λ row. find_birth (r ∷ rows) row.birth ≡ Some row) in

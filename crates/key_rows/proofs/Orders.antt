@@ -18,8 +18,8 @@ use Rattle.hk_base.specs.declared.texts.NoMemory.{NoMemory}
 use Rattle.key_rows.specs.declared.rows.KeyRow.{KeyRow}
 use Rattle.key_rows.specs.declared.by_name.NamedBirth.{NamedBirth}
 use Rattle.key_rows.specs.Table.{find_name, find_birth, is_born, is_named, rolled}
-use Rattle.key_rows.specs.Sound.{Rising, NamesOnce}
-use Rattle.key_rows.specs.Names.{name_cmp, InOrder, names_of, birth_in, is_among, AreNames, IsIndex}
+use Rattle.key_rows.specs.Sound.{AreRowsRising, NamesOnce}
+use Rattle.key_rows.specs.Names.{name_cmp, AreInNameOrder, names_of, birth_in, is_among, AreNames, IsIndex}
 use Rattle.key_rows.proofs.Births.{by_birth, find_at, other_number, other_names}
 use Rattle.key_rows.proofs.Rolls.{name-rolled, birth-rolled}
 
@@ -46,20 +46,20 @@ not_same a b other =
 
 -- searching
 
-sorted_from_order : (entries : List NamedBirth) → InOrder (names_of entries) → (k : ℕ) (d : NamedBirth) → suc k < length entries
+sorted_from_order : (entries : List NamedBirth) → AreInNameOrder (names_of entries) → (k : ℕ) (d : NamedBirth) → suc k < length entries
     → is_lt (name_cmp (get_or entries (suc k) d).name (get_or entries k d).name) ≡ false
 sorted_from_order [] order k d within = absurd (omega arith)
 sorted_from_order (entry ∷ []) order k d within = absurd (omega arith)
 sorted_from_order (entry ∷ next ∷ entries) order zero d within = ap is_lt (turned entry.name next.name order.0.0)
 sorted_from_order (entry ∷ next ∷ entries) order (suc k) d within = sorted_from_order (next ∷ entries) order.1 k d (omega arith)
 
-sorted_next : (entries : List NamedBirth) → InOrder (names_of entries) → (k : ℕ) (d : NamedBirth) → k + 1 < length entries
+sorted_next : (entries : List NamedBirth) → AreInNameOrder (names_of entries) → (k : ℕ) (d : NamedBirth) → k + 1 < length entries
     → is_lt (name_cmp (get_or entries (k + 1) d).name (get_or entries k d).name) ≡ false
 sorted_next entries order k d within =
     let next : suc k ≡ k + 1 = omega arith in
     subst (λ (n : ℕ). is_lt (name_cmp (get_or entries n d).name (get_or entries k d).name) ≡ false) next (sorted_from_order entries order k d (omega arith))
 
-pub searched : (entries : List NamedBirth) (name : List ℕ) (r : Result ℕ ℕ) → InOrder (names_of entries) → IsBinarySearchResult (λ (entry : NamedBirth). name_cmp entry.name name) entries r
+pub searched : (entries : List NamedBirth) (name : List ℕ) (r : Result ℕ ℕ) → AreInNameOrder (names_of entries) → IsBinarySearchResult (λ (entry : NamedBirth). name_cmp entry.name name) entries r
     → MatchResult r (HoldsAt (λ entry. entry.name ≡ name) entries) (IsPartitionPoint (λ entry. name_cmp entry.name name ≡ Less) (λ entry. name_cmp entry.name name ≡ Greater) entries)
 searched entries name (Ok place) order equal = λ d. exact_bytes (get_or entries place d).name name (equal d)
 searched entries name (Err place) order parted =
@@ -67,7 +67,7 @@ searched entries name (Err place) order parted =
 
 -- a name at a place is found there
 
-pub found_in : (entries : List NamedBirth) (name : List ℕ) (i : ℕ) (d : NamedBirth) → InOrder (names_of entries) → i < length entries → (get_or entries i d).name ≡ name → birth_in entries name ≡ Some (get_or entries i d).birth
+pub found_in : (entries : List NamedBirth) (name : List ℕ) (i : ℕ) (d : NamedBirth) → AreInNameOrder (names_of entries) → i < length entries → (get_or entries i d).name ≡ name → birth_in entries name ≡ Some (get_or entries i d).birth
 found_in [] name i d order within here = absurd (omega arith)
 found_in (entry ∷ entries) name zero d order within here = ap (λ b. cond b (Some entry.birth) (birth_in entries name)) ((bytes_eq-Decides entry.name name).1 here)
 found_in (entry ∷ entries) name (suc i) d order within here =
@@ -107,10 +107,10 @@ all_behind : (entries : List NamedBirth) (name : List ℕ) → ((k : ℕ) (d : N
 all_behind [] name high = tt
 all_behind (entry ∷ entries) name high = (back entry.name name (high 0 entry (omega arith)), all_behind entries name (λ k d within. high (suc k) d (omega arith)))
 
-order_at : (entries : List NamedBirth) (i : ℕ) (new : NamedBirth) → i ≤ length entries → InOrder (names_of entries)
+order_at : (entries : List NamedBirth) (i : ℕ) (new : NamedBirth) → i ≤ length entries → AreInNameOrder (names_of entries)
     → ((k : ℕ) (d : NamedBirth) → k < i → name_cmp (get_or entries k d).name new.name ≡ Less)
     → ((k : ℕ) (d : NamedBirth) → i ≤ k → k < length entries → name_cmp (get_or entries k d).name new.name ≡ Greater)
-    → InOrder (names_of (insert entries i new))
+    → AreInNameOrder (names_of (insert entries i new))
 order_at entries zero new within order low high = (all_behind entries new.name (λ k d below. high k d (omega arith) below), order)
 order_at [] (suc i) new within order low high = absurd (omega arith)
 order_at (entry ∷ entries) (suc i) new within order low high = (
@@ -118,8 +118,8 @@ order_at (entry ∷ entries) (suc i) new within order low high = (
   order_at entries i new (omega arith) order.1 (λ k d below. low (suc k) d (omega arith)) (λ k d above below. high (suc k) d (omega arith) (omega arith)),
 )
 
-pub order_put : (entries : List NamedBirth) (i : ℕ) (new : NamedBirth) → i ≤ length entries → InOrder (names_of entries)
-    → IsPartitionPoint (λ (entry : NamedBirth). name_cmp entry.name new.name ≡ Less) (λ entry. name_cmp entry.name new.name ≡ Greater) entries i → InOrder (names_of (insert entries i new))
+pub order_put : (entries : List NamedBirth) (i : ℕ) (new : NamedBirth) → i ≤ length entries → AreInNameOrder (names_of entries)
+    → IsPartitionPoint (λ (entry : NamedBirth). name_cmp entry.name new.name ≡ Less) (λ entry. name_cmp entry.name new.name ≡ Greater) entries i → AreInNameOrder (names_of (insert entries i new))
 order_put entries i new within order parted = order_at entries i new within order (λ k d below. parted.0 k d (omega arith) below) parted.1
 
 swap_tests : {A : Type 0} (a b : Bool) (x y z : A) → (a ≡ true → b ≡ true → ⊥) → cond a x (cond b y z) ≡ cond b y (cond a x z)
@@ -144,12 +144,12 @@ birth_put entries i new name parted = birth_at entries i new name (others_at ent
 
 -- rows in order of birth
 
-above_at : (low : ℕ) (rows : List KeyRow) (top i : ℕ) (d : KeyRow) → Rising low rows top → i < length rows → low < (get_or rows i d).birth
+above_at : (low : ℕ) (rows : List KeyRow) (top i : ℕ) (d : KeyRow) → AreRowsRising low rows top → i < length rows → low < (get_or rows i d).birth
 above_at low [] top i d rising within = absurd (omega arith)
 above_at low (row ∷ rows) top zero d rising within = rising.0
 above_at low (row ∷ rows) top (suc i) d rising within = omega (arith, rising.0, above_at row.birth rows top i d rising.1 (omega arith))
 
-rising_at : (low : ℕ) (rows : List KeyRow) (top k i : ℕ) (d : KeyRow) → Rising low rows top → k < i → i < length rows → (get_or rows k d).birth < (get_or rows i d).birth
+rising_at : (low : ℕ) (rows : List KeyRow) (top k i : ℕ) (d : KeyRow) → AreRowsRising low rows top → k < i → i < length rows → (get_or rows k d).birth < (get_or rows i d).birth
 rising_at low [] top k i d rising below within = absurd (omega arith)
 rising_at low (row ∷ rows) top k zero d rising below within = absurd (omega arith)
 rising_at low (row ∷ rows) top zero (suc i) d rising below within = above_at row.birth rows top i d rising.1 (omega arith)
@@ -158,10 +158,10 @@ rising_at low (row ∷ rows) top (suc k) (suc i) d rising below within = rising_
 not_below : (a b : ℕ) → a < b → is_lt (nat_cmp b a) ≡ false
 not_below a b less = grind (arith, nat_tests, less)
 
-births_sorted : (low : ℕ) (rows : List KeyRow) (top : ℕ) → Rising low rows top → IsSortedBy (λ (a b : KeyRow). is_lt (nat_cmp a.birth b.birth)) rows
+births_sorted : (low : ℕ) (rows : List KeyRow) (top : ℕ) → AreRowsRising low rows top → IsSortedBy (λ (a b : KeyRow). is_lt (nat_cmp a.birth b.birth)) rows
 births_sorted low rows top rising k d above within = not_below _ _ (rising_at low rows top k (k + 1) d rising (omega arith) within)
 
-pub birth_searched : (low : ℕ) (rows : List KeyRow) (top birth : ℕ) (r : Result ℕ ℕ) → Rising low rows top → IsBinarySearchResult (λ (row : KeyRow). nat_cmp row.birth birth) rows r
+pub birth_searched : (low : ℕ) (rows : List KeyRow) (top birth : ℕ) (r : Result ℕ ℕ) → AreRowsRising low rows top → IsBinarySearchResult (λ (row : KeyRow). nat_cmp row.birth birth) rows r
     → MatchResult r (HoldsAt (λ row. row.birth ≡ birth) rows) (λ _. All (λ row. is_born birth row ≡ false) rows)
 birth_searched low rows top birth (Ok place) rising equal = λ d. ranked _ birth _ (sym (equal d))
 birth_searched low rows top birth (Err place) rising parted =
@@ -172,13 +172,13 @@ birth_searched low rows top birth (Err place) rising parted =
     ]
 
 -- the row at the place of a birth is the first with it
-pub first_at : (low : ℕ) (rows : List KeyRow) (top birth i : ℕ) (d : KeyRow) → Rising low rows top → i < length rows → (get_or rows i d).birth ≡ birth → (k : ℕ) → k < i → is_born birth (get_or rows k d) ≡ false
+pub first_at : (low : ℕ) (rows : List KeyRow) (top birth i : ℕ) (d : KeyRow) → AreRowsRising low rows top → i < length rows → (get_or rows i d).birth ≡ birth → (k : ℕ) → k < i → is_born birth (get_or rows k d) ≡ false
 first_at low rows top birth i d rising within here k below = other_number (get_or rows k d).birth birth (λ same. absurd (omega (arith, rising_at low rows top k i d rising below within, here, same)))
 
 pub is_born_at : (birth : ℕ) (row : KeyRow) → row.birth ≡ birth → is_born birth row ≡ true
 is_born_at birth row here = (Decides-eqb row.birth birth).1 here
 
-pub row_found : (low : ℕ) (rows : List KeyRow) (top birth i : ℕ) (d : KeyRow) → Rising low rows top → i < length rows → (get_or rows i d).birth ≡ birth → find_birth rows birth ≡ Some (get_or rows i d)
+pub row_found : (low : ℕ) (rows : List KeyRow) (top birth i : ℕ) (d : KeyRow) → AreRowsRising low rows top → i < length rows → (get_or rows i d).birth ≡ birth → find_birth rows birth ≡ Some (get_or rows i d)
 row_found low rows top birth i d rising within here = find_at (is_born birth) rows i d within (is_born_at birth (get_or rows i d) here) (first_at low rows top birth i d rising within here)
 
 pub row_missing : (birth : ℕ) (rows : List KeyRow) → AllByRecursion (λ (row : KeyRow). is_born birth row ≡ false) rows → find_birth rows birth ≡ None
@@ -197,7 +197,7 @@ named_nowhere rows entries name index none = nowhere (find_name rows name) (sym 
     nowhere None e = refl
     nowhere (Some row) e = absurd cc
 
-pub named_there : (rows : List KeyRow) (entries : List NamedBirth) (name : List ℕ) (birth top : ℕ) → Rising 0 rows top → IsIndex rows entries → birth_in entries name ≡ Some birth → find_birth rows birth ≡ find_name rows name
+pub named_there : (rows : List KeyRow) (entries : List NamedBirth) (name : List ℕ) (birth top : ℕ) → AreRowsRising 0 rows top → IsIndex rows entries → birth_in entries name ≡ Some birth → find_birth rows birth ≡ find_name rows name
 named_there rows entries name birth top rising index some = there (find_name rows name) (sym (index.births name) ∙ some) (by_birth 0 (is_named name) rows top rising)
   where
     there : (o : Option KeyRow) → option_map (λ (row : KeyRow). row.birth) o ≡ Some birth → IfSome o (λ row. find_birth rows row.birth ≡ Some row) → find_birth rows birth ≡ o
@@ -227,7 +227,7 @@ births_more (r ∷ rows) row name others =
     (λ a b. others.0 ((bytes_eq-Decides r.name name).0 a ∙ sym ((bytes_eq-Decides row.name name).0 b)))
     ∙ ap (λ o. cond (bytes_eq row.name name) (Some row.birth) o) (sym (map_cond (bytes_eq r.name name) r (find_name rows name)))
 
-pub index_more : (rows : List KeyRow) (row : KeyRow) (before after : List NamedBirth) → IsIndex rows before → is_none (find_name rows row.name) ≡ true → InOrder (names_of after)
+pub index_more : (rows : List KeyRow) (row : KeyRow) (before after : List NamedBirth) → IsIndex rows before → is_none (find_name rows row.name) ≡ true → AreInNameOrder (names_of after)
     → ((name : List ℕ) → birth_in after name ≡ cond (bytes_eq row.name name) (Some row.birth) (birth_in before name)) → IsIndex (rows ++ row ∷ []) after
 index_more rows row before after index none order put = record {
   order = order;
@@ -265,7 +265,7 @@ others_behind : (name : List ℕ) (entries : List NamedBirth) → AllByRecursion
 others_behind name [] each = tt
 others_behind name (entry ∷ entries) each = (λ same. before_other name entry.name each.0 (sym same), others_behind name entries each.1)
 
-births_left : (b : ℕ) (entries : List NamedBirth) (name : List ℕ) → InOrder (names_of entries) → birth_in (filter (λ entry. not (entry.birth == b)) entries) name ≡ unless b (birth_in entries name)
+births_left : (b : ℕ) (entries : List NamedBirth) (name : List ℕ) → AreInNameOrder (names_of entries) → birth_in (filter (λ entry. not (entry.birth == b)) entries) name ≡ unless b (birth_in entries name)
 births_left b [] name order = refl
 births_left b (entry ∷ entries) name order =
     kept (entry.birth == b) (bytes_eq entry.name name) entry.birth b (entry ∷ filter (λ e. not (e.birth == b)) entries) (filter (λ e. not (e.birth == b)) entries) (λ l. birth_in l name) (birth_in entries name)
@@ -291,11 +291,11 @@ each_left P p (entry ∷ entries) each =
     let Q : Bool → Type 0 = λ b. AllByRecursion P (names_of (cond b (entry ∷ filter p entries) (filter p entries))) in
     elim (p entry) as Q [ true ↦ (each.0, rest) | false ↦ rest ]
 
-order_left : (p : NamedBirth → Bool) (entries : List NamedBirth) → InOrder (names_of entries) → InOrder (names_of (filter p entries))
+order_left : (p : NamedBirth → Bool) (entries : List NamedBirth) → AreInNameOrder (names_of entries) → AreInNameOrder (names_of (filter p entries))
 order_left p [] order = tt
 order_left p (entry ∷ entries) order =
     let rest = order_left p entries order.1 in
-    let Q : Bool → Type 0 = λ b. InOrder (names_of (cond b (entry ∷ filter p entries) (filter p entries))) in
+    let Q : Bool → Type 0 = λ b. AreInNameOrder (names_of (cond b (entry ∷ filter p entries) (filter p entries))) in
     elim (p entry) as Q [ true ↦ (each_left (λ (other : List ℕ). name_cmp entry.name other ≡ Less) p entries order.0, rest) | false ↦ rest ]
 
 pub index_left : (b : ℕ) (rows : List KeyRow) (entries : List NamedBirth) → NamesOnce rows → IsIndex rows entries

@@ -14,7 +14,7 @@ use Rattle.key_rows.specs.declared.rows.KeyCommand.{KeyCommand}
 use Rattle.key_rows.specs.declared.rows.KeyCommand.TheVariants.{Opened, Create, Roll, Delete}
 use Rattle.key_rows.specs.Records.{name_field, text_field, spelling, fits, fits_bits, HasSpelling, CreateHasSpelling}
 use Rattle.key_rows.specs.Table.{Table, applies, find_name, opening_of, is_length}
-use Rattle.key_rows.specs.Reading.{◌>>=◌, Gives, number_at, short_at, long_at, name_of, text_of, material_of, material_of_bits, last_number, opened_at, create_at, roll_at, delete_at, command_at}
+use Rattle.key_rows.specs.Reading.{◌>>=◌, GivesRecord, number_at, short_at, long_at, name_of, text_of, material_of, material_of_bits, last_number, opened_at, create_at, roll_at, delete_at, command_at}
 use Rattle.key_rows.proofs.FieldLemmas.{IsBytes, IsBytes-rest, bind_some, bind_is, wide16, wide32, wide64, number_takes, number_again, short_takes, short_again, long_takes, long_again}
 use Rattle.std.specs.Int.{Width}
 use Rattle.key_rows.proofs.FieldLemmas.{IsWide}
@@ -202,11 +202,11 @@ command_again (Delete birth) has = bind_is (last_number w64 (to_be_bytes w64 bir
 pub one_spelling : (a b : KeyCommand) → HasSpelling a → HasSpelling b → spelling a ≡ spelling b → a ≡ b
 one_spelling a b of_a of_b same = same_Some a b (sym (command_again a of_a) ∙ ap command_at same ∙ command_again b of_b)
 
-pub was_read : (bytes : List ℕ) (r : Result KeyCommand RecordFault) → IsBytes bytes → Gives (λ x. x) r (command_at bytes) → IfOk r (λ command. HasSpelling command × (bytes ≡ spelling command))
+pub was_read : (bytes : List ℕ) (r : Result KeyCommand RecordFault) → IsBytes bytes → GivesRecord (λ x. x) r (command_at bytes) → IfOk r (λ command. HasSpelling command × (bytes ≡ spelling command))
 was_read bytes (Ok command) fits given = command_takes bytes command fits given
 was_read bytes (Err fault) fits given = tt
 
-pub was_none : (bytes : List ℕ) (r : Result KeyCommand RecordFault) → Gives (λ x. x) r (command_at bytes) → r ≡ Err NoRecord → (command : KeyCommand) → HasSpelling command → ¬ (bytes ≡ spelling command)
+pub was_none : (bytes : List ℕ) (r : Result KeyCommand RecordFault) → GivesRecord (λ x. x) r (command_at bytes) → r ≡ Err NoRecord → (command : KeyCommand) → HasSpelling command → ¬ (bytes ≡ spelling command)
 was_none bytes (Ok command) given e other has same = absurd cc
 was_none bytes (Err NoRecord) given e other has same =
     let no : None ≡ Some other = sym given ∙ ap command_at same ∙ command_again other has in

@@ -5,7 +5,7 @@ use Rattle.std.proofs.lemmas.Bool.Decides.{Decides-eqb}
 use Rattle.std.proofs.lemmas.Bool.{and_parts}
 use Rattle.key_rows.specs.declared.rows.KeyRow.{KeyRow}
 use Rattle.key_rows.specs.Table.{is_born, with_material, rolled, find_birth, may_roll}
-use Rattle.key_rows.specs.Sound.{Rising, NamesOnce, IsRow}
+use Rattle.key_rows.specs.Sound.{AreRowsRising, NamesOnce, IsRow}
 use Rattle.key_rows.proofs.Births.{each_more, none_born}
 
 -- rows of other births are unchanged
@@ -15,7 +15,7 @@ rolled_nowhere birth material (row ∷ rows) none =
     ap (λ b. cond b (with_material material row) row ∷ map (rolled birth material) rows) none.0 ∙ ap (λ rest. row ∷ rest) (rolled_nowhere birth material rows none.1)
 
 -- it is one write, at the place of the birth
-pub rolled_at : (low birth : ℕ) (material : List ℕ) (rows : List KeyRow) (top i : ℕ) (d : KeyRow) → Rising low rows top → i < length rows
+pub rolled_at : (low birth : ℕ) (material : List ℕ) (rows : List KeyRow) (top i : ℕ) (d : KeyRow) → AreRowsRising low rows top → i < length rows
     → is_born birth (get_or rows i d) ≡ true → ((k : ℕ) → k < i → is_born birth (get_or rows k d) ≡ false)
     → set rows i (with_material material (get_or rows i d)) ≡ map (rolled birth material) rows
 rolled_at low birth material [] top i d rising within here before = absurd (omega arith)
@@ -27,7 +27,7 @@ rolled_at low birth material (row ∷ rows) top (suc i) d rising within here bef
     ap (λ rest. row ∷ rest) (rolled_at row.birth birth material rows top i d rising.1 (omega arith) here (λ k below. before (suc k) (omega arith)))
     ∙ sym (ap (λ b. cond b (with_material material row) row ∷ map (rolled birth material) rows) (before 0 (omega arith)))
 
-pub rolled_with : (birth : ℕ) (material : List ℕ) (rows : List KeyRow) (top i : ℕ) (row : KeyRow) (more : List (List ℕ)) → Rising 0 rows top → i < length rows → row ≡ get_or rows i row
+pub rolled_with : (birth : ℕ) (material : List ℕ) (rows : List KeyRow) (top i : ℕ) (row : KeyRow) (more : List (List ℕ)) → AreRowsRising 0 rows top → i < length rows → row ≡ get_or rows i row
     → is_born birth (get_or rows i row) ≡ true → ((k : ℕ) → k < i → is_born birth (get_or rows k row) ≡ false) → more ≡ row.materials ++ material ∷ []
     → set rows i (record row { materials = more }) ≡ map (rolled birth material) rows
 rolled_with birth material rows top i row more rising within is here before pushed =
@@ -51,11 +51,11 @@ name-rolled birth material row =
     let P : Bool → Type 0 = λ b. (cond b (with_material material row) row).name ≡ row.name in
     elim (is_born birth row) as P [ true ↦ refl | false ↦ refl ]
 
-pub rising_rolled : (low birth : ℕ) (material : List ℕ) (rows : List KeyRow) (top : ℕ) → Rising low rows top → Rising low (map (rolled birth material) rows) top
+pub rising_rolled : (low birth : ℕ) (material : List ℕ) (rows : List KeyRow) (top : ℕ) → AreRowsRising low rows top → AreRowsRising low (map (rolled birth material) rows) top
 rising_rolled low birth material [] top rising = rising
 rising_rolled low birth material (r ∷ rows) top rising =
     let same = birth-rolled birth material r in
-    (omega (arith, rising.0, same), subst (λ (b : ℕ). Rising b (map (rolled birth material) rows) top) (sym same) (rising_rolled r.birth birth material rows top rising.1))
+    (omega (arith, rising.0, same), subst (λ (b : ℕ). AreRowsRising b (map (rolled birth material) rows) top) (sym same) (rising_rolled r.birth birth material rows top rising.1))
 
 other_rolled : (birth : ℕ) (material name : List ℕ) (rows : List KeyRow) → AllByRecursion (λ (other : KeyRow). other.name ≢ name) rows → AllByRecursion (λ (other : KeyRow). other.name ≢ name) (map (rolled birth material) rows)
 other_rolled birth material name [] others = tt
@@ -84,7 +84,7 @@ row_rolled row number material may is =
       materials = each_more (λ (m : List ℕ). length m ≡ row.bits / 8) row.materials material is.materials long;
     }
 
-pub rows_rolled : (low birth number : ℕ) (material : List ℕ) (rows : List KeyRow) (top : ℕ) → Rising low rows top → may_roll (find_birth rows birth) number material ≡ true → AllByRecursion IsRow rows
+pub rows_rolled : (low birth number : ℕ) (material : List ℕ) (rows : List KeyRow) (top : ℕ) → AreRowsRising low rows top → may_roll (find_birth rows birth) number material ≡ true → AllByRecursion IsRow rows
     → AllByRecursion IsRow (map (rolled birth material) rows)
 rows_rolled low birth number material [] top rising may rows = tt
 rows_rolled low birth number material (r ∷ rest) top rising may rows =

@@ -7,12 +7,12 @@ use Rattle.std.proofs.lemmas.Bool.{and_parts}
 use Rattle.key_rows.specs.declared.rows.KeyRow.{KeyRow}
 use Rattle.key_rows.specs.declared.rows.KeyCommand.TheVariants.{Create, Roll, Delete}
 use Rattle.key_rows.specs.Table.{Table, applies, after, is_born, is_named, is_length, opening_of, find_name, find_birth, may_roll}
-use Rattle.key_rows.specs.Sound.{IsRow, IsTable}
+use Rattle.key_rows.specs.Sound.{IsKeyTable, IsRow}
 use Rattle.key_rows.proofs.Births.{each_more, each_filter, length-filter_le, found_has, rising_more, rising_filter, by_birth, other_names, names_more, names_filter}
 use Rattle.key_rows.proofs.Rolls.{rising_rolled, names_rolled, rows_rolled, length-rolled}
 
-pub sound_create : (t : Table) (birth : ℕ) (name : List ℕ) (bits : ℕ) (description : List ℕ) (created : ℕ) (material : List ℕ) → IsTable t
-    → applies t (Create birth name bits description created material) ≡ true → IsTable (after t (Create birth name bits description created material))
+pub sound_create : (t : Table) (birth : ℕ) (name : List ℕ) (bits : ℕ) (description : List ℕ) (created : ℕ) (material : List ℕ) → IsKeyTable t
+    → applies t (Create birth name bits description created material) ≡ true → IsKeyTable (after t (Create birth name bits description created material))
 sound_create t birth name bits description created material is may =
     let g = and_parts (nat_lt 0 t.opening && is_none (find_name t.rows name) && opening_of birth == t.opening && nat_lt t.greatest birth && nat_lt (length t.rows) 10000 && is_length bits) (length material == bits / 8) may in
     let f = and_parts (nat_lt 0 t.opening && is_none (find_name t.rows name) && opening_of birth == t.opening && nat_lt t.greatest birth && nat_lt (length t.rows) 10000) (is_length bits) g.0 in
@@ -44,7 +44,7 @@ is_absent t birth name bits description created material may =
     let c = and_parts (nat_lt 0 t.opening && is_none (find_name t.rows name)) (opening_of birth == t.opening) d.0 in
     (and_parts (nat_lt 0 t.opening) (is_none (find_name t.rows name)) c.0).1
 
-pub sound_roll : (t : Table) (birth number : ℕ) (material : List ℕ) → IsTable t → applies t (Roll birth number material) ≡ true → IsTable (after t (Roll birth number material))
+pub sound_roll : (t : Table) (birth number : ℕ) (material : List ℕ) → IsKeyTable t → applies t (Roll birth number material) ≡ true → IsKeyTable (after t (Roll birth number material))
 sound_roll t birth number material is may =
     let a = and_parts (nat_lt 0 t.opening) (may_roll (find_birth t.rows birth) number material) may in
     record {
@@ -55,7 +55,7 @@ sound_roll t birth number material is may =
       rows = rows_rolled 0 birth number material t.rows t.greatest is.births a.1 is.rows;
     }
 
-pub sound_delete : (t : Table) (birth : ℕ) → IsTable t → IsTable (after t (Delete birth))
+pub sound_delete : (t : Table) (birth : ℕ) → IsKeyTable t → IsKeyTable (after t (Delete birth))
 sound_delete t birth is =
     let p : KeyRow → Bool = λ row. not (is_born birth row) in
     record {
@@ -67,11 +67,11 @@ sound_delete t birth is =
     }
 
 -- a row that is found is a key
-pub found_row : (t : Table) (name : List ℕ) → IsTable t → IfSome (find_name t.rows name) IsRow
+pub found_row : (t : Table) (name : List ℕ) → IsKeyTable t → IfSome (find_name t.rows name) IsRow
 found_row t name is = found_has IsRow (is_named name) t.rows is.rows
 
 -- a row that is found has its birth alone
-pub found_birth : (t : Table) (name : List ℕ) → IsTable t → IfSome (find_name t.rows name) (λ row. find_birth t.rows row.birth ≡ Some row)
+pub found_birth : (t : Table) (name : List ℕ) → IsKeyTable t → IfSome (find_name t.rows name) (λ row. find_birth t.rows row.birth ≡ Some row)
 found_birth t name is = by_birth 0 (is_named name) t.rows t.greatest is.births
 
 pub copied_row : (P : KeyRow → Type 0) (found : Option (Bor KeyRow)) (o : Option KeyRow) → option_copied found ≡ o → IfSome o P → IfSome found (λ row. P row.now)

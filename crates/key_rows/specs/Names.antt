@@ -15,16 +15,16 @@ abbrev pub name_cmp : KeyName → KeyName → Ordering
 name_cmp = slice_cmp nat_cmp
 
 -- each name comes before the later ones
-abbrev pub InOrder : List KeyName → Type 0
-InOrder [] = Unit {0}
-InOrder (name ∷ names) = AllByRecursion (λ (other : KeyName). name_cmp name other ≡ Less) names × InOrder names
+abbrev pub AreInNameOrder : List KeyName → Type 0
+AreInNameOrder [] = Unit {0}
+AreInNameOrder (name ∷ names) = AllByRecursion (λ (other : KeyName). name_cmp name other ≡ Less) names × AreInNameOrder names
 
 abbrev pub is_among : KeyName → List KeyName → Bool
 is_among name names = list_any (λ other. bytes_eq other name) names
 
 -- the names of the keys, each once and in order
 pub record AreNames (rows : List KeyRow) (names : List KeyName) : Type 0 where
-  pub order : InOrder names
+  pub order : AreInNameOrder names
   pub among : (name : KeyName) → is_among name names ≡ is_some (find_name rows name)
 
 abbrev pub names_of : List NamedBirth → List KeyName
@@ -37,5 +37,5 @@ birth_in (entry ∷ entries) name = if bytes_eq entry.name name then Some entry.
 
 -- the names of the keys in order, each with its key's birth
 pub record IsIndex (rows : List KeyRow) (entries : List NamedBirth) : Type 0 where
-  pub order : InOrder (names_of entries)
+  pub order : AreInNameOrder (names_of entries)
   pub births : (name : KeyName) → birth_in entries name ≡ option_map (λ row. row.birth) (find_name rows name)

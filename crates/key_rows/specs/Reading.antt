@@ -14,13 +14,13 @@ abbrev pub ◌>>=◌ : {A B : Type 0} → Option A → (A → Option B) → Opti
 o >>= f = option_and_then f o
 
 -- the result of a function, seen by `view`, is what reading gives, unless memory ran out
-abbrev pub Fails : {Y : Type 0} → RecordFault → Option Y → Type 0
-Fails NoRecord read = read ≡ None
-Fails NoMemory read = Unit {0}
+abbrev pub FailsToRead : {Y : Type 0} → RecordFault → Option Y → Type 0
+FailsToRead NoRecord read = read ≡ None
+FailsToRead NoMemory read = Unit {0}
 
-abbrev pub Gives : {X Y : Type 0} → (X → Y) → Result X RecordFault → Option Y → Type 0
-Gives view (Ok x) read = read ≡ Some (view x)
-Gives view (Err fault) read = Fails fault read
+abbrev pub GivesRecord : {X Y : Type 0} → (X → Y) → Result X RecordFault → Option Y → Type 0
+GivesRecord view (Ok x) read = read ≡ Some (view x)
+GivesRecord view (Err fault) read = FailsToRead fault read
 
 abbrev pub number_at : Width → List ℕ → Option (ℕ × List ℕ)
 number_at w bytes = if nat_lt (length bytes) (byte_len w) then None else Some (from_be_bytes w (take (byte_len w) bytes), drop (byte_len w) bytes)

@@ -5,9 +5,9 @@ use Rattle.key_rows.specs.declared.rows.KeyRow.{KeyRow}
 use Rattle.key_rows.specs.Table.{Table, is_length}
 
 -- births increase, start above `low` and end at or below `top`
-abbrev pub Rising : ℕ → List KeyRow → ℕ → Type 0
-Rising low [] top = low ≤ top
-Rising low (row ∷ rows) top = (low < row.birth) × Rising row.birth rows top
+abbrev pub AreRowsRising : ℕ → List KeyRow → ℕ → Type 0
+AreRowsRising low [] top = low ≤ top
+AreRowsRising low (row ∷ rows) top = (low < row.birth) × AreRowsRising row.birth rows top
 
 -- no two rows have the same name
 abbrev pub NamesOnce : List KeyRow → Type 0
@@ -22,9 +22,9 @@ pub record IsRow (row : KeyRow) : Type 0 where
   pub few : length row.materials ≤ 65535
   pub materials : AllByRecursion (λ (material : List ℕ). length material ≡ row.bits / 8) row.materials
 
-pub record IsTable (t : Table) : Type 0 where
+pub record IsKeyTable (t : Table) : Type 0 where
   pub opening : t.opening < 2 ^ 32
   pub few : length t.rows ≤ 10000
-  pub births : Rising 0 t.rows t.greatest
+  pub births : AreRowsRising 0 t.rows t.greatest
   pub names : NamesOnce t.rows
   pub rows : AllByRecursion IsRow t.rows

@@ -15,7 +15,7 @@ pub record Table : Type 0 where
 
 -- A table, and the capacity that is reserved for a command: one that applies and needs at most `spare`
 -- allocates nothing. The capacity is not part of the table.
-pub record Kept : Type 0 where
+pub record KeptTable : Type 0 where
   pub keys : Table
   pub spare : ℕ
 

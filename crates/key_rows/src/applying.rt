@@ -1,7 +1,7 @@
 //! Whether a command applies to a table.
 ghost use Rattle.std.specs.Prelude.{◌≡◌, ◌/◌, ◌^◌, ◌==◌, ◌&&◌, ℕ, nat_lt, not, is_some, length};
 ghost use Rattle.key_rows.specs.Table.{applies, find_birth, find_name, is_length, may_roll, opening_of};
-ghost use Rattle.key_rows.specs.Sound.{Rising};
+ghost use Rattle.key_rows.specs.Sound.{AreRowsRising};
 ghost use Rattle.key_rows.specs.Names.{IsIndex};
 
 use crate::by_name::NamedBirth;
@@ -11,7 +11,7 @@ use crate::table::{row_at, row_of};
 use hk_base::{Dek, KeyName};
 
 fn is_named(rows: &Vec<KeyRow>, names: &Vec<NamedBirth>, name: &KeyName) -> bool
-    requires rising { (top : ℕ) × Rising 0 rows.now.items top }
+    requires rising { (top : ℕ) × AreRowsRising 0 rows.now.items top }
     requires index { IsIndex rows.now.items names.now.items }
     ensures { result ≡ is_some (find_name rows.now.items name.now) }
 {
@@ -22,7 +22,7 @@ fn is_named(rows: &Vec<KeyRow>, names: &Vec<NamedBirth>, name: &KeyName) -> bool
 }
 
 fn is_born(rows: &Vec<KeyRow>, birth: u64) -> bool
-    requires { (top : ℕ) × Rising 0 rows.now.items top }
+    requires { (top : ℕ) × AreRowsRising 0 rows.now.items top }
     ensures { result ≡ is_some (find_birth rows.now.items birth) }
 {
     match row_at(rows, birth) {
@@ -56,7 +56,7 @@ fn may_create(
 }
 
 fn may_roll(rows: &Vec<KeyRow>, birth: u64, number: u16, material: &Dek) -> bool
-    requires { (top : ℕ) × Rising 0 rows.now.items top }
+    requires { (top : ℕ) × AreRowsRising 0 rows.now.items top }
     ensures { result ≡ may_roll (find_birth rows.now.items birth) number material.now }
 {
     match row_at(rows, birth) {
@@ -78,7 +78,7 @@ pub(crate) fn applies_to(
     names: &Vec<NamedBirth>,
     command: &KeyCommand,
 ) -> bool
-    requires rising { (top : ℕ) × Rising 0 rows.now.items top }
+    requires rising { (top : ℕ) × AreRowsRising 0 rows.now.items top }
     requires index { IsIndex rows.now.items names.now.items }
     ensures { result ≡
         applies (record { opening = opening; greatest = greatest; rows = rows.now.items })

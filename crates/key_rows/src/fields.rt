@@ -6,13 +6,13 @@ ghost use Rattle.std.specs.Prelude.{◌≡◌, ◌≤◌, ◌++◌, ◌∷◌, I
 ghost use Rattle.std.specs.Int.{w16, w32, w64, to_be_bytes};
 ghost use Rattle.hk_base.specs.Names.{IsKeyName};
 ghost use Rattle.key_rows.specs.Records.{name_field};
-ghost use Rattle.key_rows.specs.Reading.{Gives, bytes_at, long_at, material_of, name_of, number_at, short_at};
+ghost use Rattle.key_rows.specs.Reading.{GivesRecord, bytes_at, long_at, material_of, name_of, number_at, short_at};
 
 use hk_base::{ByteList, Dek, KeyName, NoMemory, RecordFault};
 
 /// Reads a 16-bit number from the start, most significant byte first.
 pub fn u16_at(bytes: &[u8]) -> Result<(u16, &[u8]), RecordFault>
-    ensures { Gives (λ x. (x.0, x.1.now)) result (number_at w16 bytes.now) }
+    ensures { GivesRecord (λ x. (x.0, x.1.now)) result (number_at w16 bytes.now) }
 {
     if bytes.len() < 2 {
         return Err(RecordFault::NoRecord);
@@ -24,7 +24,7 @@ pub fn u16_at(bytes: &[u8]) -> Result<(u16, &[u8]), RecordFault>
 
 /// Reads a 32-bit number from the start, most significant byte first.
 pub fn u32_at(bytes: &[u8]) -> Result<(u32, &[u8]), RecordFault>
-    ensures { Gives (λ x. (x.0, x.1.now)) result (number_at w32 bytes.now) }
+    ensures { GivesRecord (λ x. (x.0, x.1.now)) result (number_at w32 bytes.now) }
 {
     if bytes.len() < 4 {
         return Err(RecordFault::NoRecord);
@@ -36,7 +36,7 @@ pub fn u32_at(bytes: &[u8]) -> Result<(u32, &[u8]), RecordFault>
 
 /// Reads a 64-bit number from the start, most significant byte first.
 pub fn u64_at(bytes: &[u8]) -> Result<(u64, &[u8]), RecordFault>
-    ensures { Gives (λ x. (x.0, x.1.now)) result (number_at w64 bytes.now) }
+    ensures { GivesRecord (λ x. (x.0, x.1.now)) result (number_at w64 bytes.now) }
 {
     if bytes.len() < 8 {
         return Err(RecordFault::NoRecord);
@@ -50,7 +50,7 @@ pub fn u64_at(bytes: &[u8]) -> Result<(u64, &[u8]), RecordFault>
 
 /// Reads the first `len` bytes.
 pub fn cut(bytes: &[u8], len: usize) -> Result<(&[u8], &[u8]), RecordFault>
-    ensures { Gives (λ x. (x.0.now, x.1.now)) result (bytes_at len bytes.now) }
+    ensures { GivesRecord (λ x. (x.0.now, x.1.now)) result (bytes_at len bytes.now) }
 {
     if bytes.len() < len {
         return Err(RecordFault::NoRecord);
@@ -62,7 +62,7 @@ pub fn cut(bytes: &[u8], len: usize) -> Result<(&[u8], &[u8]), RecordFault>
 /// Reads a byte that gives a length, and then that many bytes.
 #[tactic(auto, unfolding(crate::specs::Reading::short_at))]
 pub fn cut_short(bytes: &[u8]) -> Result<(&[u8], &[u8]), RecordFault>
-    ensures { Gives (λ x. (x.0.now, x.1.now)) result (short_at bytes.now) }
+    ensures { GivesRecord (λ x. (x.0.now, x.1.now)) result (short_at bytes.now) }
 {
     match bytes {
         [] => Err(RecordFault::NoRecord),
@@ -73,7 +73,7 @@ pub fn cut_short(bytes: &[u8]) -> Result<(&[u8], &[u8]), RecordFault>
 /// Reads two bytes that give a length, and then that many bytes.
 #[tactic(auto, unfolding(crate::specs::Reading::long_at))]
 pub fn cut_long(bytes: &[u8]) -> Result<(&[u8], &[u8]), RecordFault>
-    ensures given { Gives (λ x. (x.0.now, x.1.now)) result (long_at bytes.now) }
+    ensures given { GivesRecord (λ x. (x.0.now, x.1.now)) result (long_at bytes.now) }
     ensures short { IfOk result (λ x. length x.0.now ≤ 65535) }
 {
     let (len, rest) = u16_at(bytes)?;
@@ -83,7 +83,7 @@ pub fn cut_long(bytes: &[u8]) -> Result<(&[u8], &[u8]), RecordFault>
 /// Reads all of the bytes as the name of a key. Returns `NoRecord` if they break the rule of key
 /// names.
 pub fn name_of(bytes: &[u8]) -> Result<KeyName, RecordFault>
-    ensures { Gives (λ x. x) result (name_of bytes.now) }
+    ensures { GivesRecord (λ x. x) result (name_of bytes.now) }
 {
     match KeyName::read(bytes) {
         None => Err(RecordFault::NoRecord),
@@ -93,7 +93,7 @@ pub fn name_of(bytes: &[u8]) -> Result<KeyName, RecordFault>
 
 /// Reads all of the bytes as material. Returns `NoRecord` unless there are 16, 24 or 32.
 pub fn material_of(bytes: &[u8]) -> Result<Dek, RecordFault>
-    ensures { Gives (λ x. x) result (material_of bytes.now) }
+    ensures { GivesRecord (λ x. x) result (material_of bytes.now) }
 {
     match Dek::read(bytes) {
         None => Err(RecordFault::NoRecord),

@@ -4,7 +4,7 @@ ghost use Rattle.std.specs.Int.{w16, w32, w64};
 ghost use Rattle.hk_base.specs.declared.records.RecordFault.TheVariants as fault;
 ghost use Rattle.key_rows.specs.Records.{HasSpelling, fits_bits, spelling};
 ghost use Rattle.key_rows.specs.Table.{is_length};
-ghost use Rattle.key_rows.specs.Reading.{Gives, bytes_at, command_at, create_at, delete_at, long_at, material_of, material_of_bits, name_of, number_at, opened_at, roll_at, short_at, text_of};
+ghost use Rattle.key_rows.specs.Reading.{GivesRecord, bytes_at, command_at, create_at, delete_at, long_at, material_of, material_of_bits, name_of, number_at, opened_at, roll_at, short_at, text_of};
 
 use crate::fields::{cut_long, cut_short, material_of, name_of, u16_at, u32_at, u64_at};
 use crate::rows::KeyCommand;
@@ -14,7 +14,7 @@ use std::alloc::Global;
 
 /// Decodes all of the bytes as a text.
 fn text_of(bytes: &[u8]) -> Result<&str, RecordFault>
-    ensures { Gives (λ x. x.now) result (text_of bytes.now) }
+    ensures { GivesRecord (λ x. x.now) result (text_of bytes.now) }
 {
     match str::from_utf8(bytes) {
         Err(_) => Err(RecordFault::NoRecord),
@@ -25,7 +25,7 @@ fn text_of(bytes: &[u8]) -> Result<&str, RecordFault>
 /// Decodes all of the bytes as a description.
 fn description_of(alloc: Global, bytes: &[u8]) -> Result<Description, RecordFault>
     requires { length bytes.now ≤ 65535 }
-    ensures { Gives (λ x. x) result (text_of bytes.now) }
+    ensures { GivesRecord (λ x. x) result (text_of bytes.now) }
 {
     let text = text_of(bytes)?;
     let description = Description::from_str(alloc, text)?;
@@ -40,7 +40,7 @@ pub(crate) fn is_length(bits: u16) -> bool
 
 /// Decodes all of the bytes as material of `bits` bits.
 fn material_of_bits(bits: u16, bytes: &[u8]) -> Result<Dek, RecordFault>
-    ensures { Gives (λ x. x) result (material_of_bits bits bytes.now) }
+    ensures { GivesRecord (λ x. x) result (material_of_bits bits bytes.now) }
 {
     let long = is_length(bits);
     if !long || bytes.len() != bits as usize / 8 {
@@ -51,7 +51,7 @@ fn material_of_bits(bits: u16, bytes: &[u8]) -> Result<Dek, RecordFault>
 
 #[tactic(auto, unfolding(crate::specs::Reading::opened_at))]
 fn opened_of(bytes: &[u8]) -> Result<KeyCommand, RecordFault>
-    ensures { Gives (λ x. x) result (opened_at bytes.now) }
+    ensures { GivesRecord (λ x. x) result (opened_at bytes.now) }
 {
     let (opening, rest) = u32_at(bytes)?;
     if !rest.is_empty() {
@@ -62,7 +62,7 @@ fn opened_of(bytes: &[u8]) -> Result<KeyCommand, RecordFault>
 
 #[tactic(auto, unfolding(crate::specs::Reading::create_at))]
 fn create_of(alloc: Global, bytes: &[u8]) -> Result<KeyCommand, RecordFault>
-    ensures { Gives (λ x. x) result (create_at bytes.now) }
+    ensures { GivesRecord (λ x. x) result (create_at bytes.now) }
 {
     let (birth, rest) = u64_at(bytes)?;
     let (name, rest) = cut_short(rest)?;
@@ -84,7 +84,7 @@ fn create_of(alloc: Global, bytes: &[u8]) -> Result<KeyCommand, RecordFault>
 
 #[tactic(auto, unfolding(crate::specs::Reading::roll_at))]
 fn roll_of(bytes: &[u8]) -> Result<KeyCommand, RecordFault>
-    ensures { Gives (λ x. x) result (roll_at bytes.now) }
+    ensures { GivesRecord (λ x. x) result (roll_at bytes.now) }
 {
     let (birth, rest) = u64_at(bytes)?;
     let (number, rest) = u16_at(rest)?;
@@ -98,7 +98,7 @@ fn roll_of(bytes: &[u8]) -> Result<KeyCommand, RecordFault>
 
 #[tactic(auto, unfolding(crate::specs::Reading::delete_at))]
 fn delete_of(bytes: &[u8]) -> Result<KeyCommand, RecordFault>
-    ensures { Gives (λ x. x) result (delete_at bytes.now) }
+    ensures { GivesRecord (λ x. x) result (delete_at bytes.now) }
 {
     let (birth, rest) = u64_at(bytes)?;
     if !rest.is_empty() {
@@ -109,7 +109,7 @@ fn delete_of(bytes: &[u8]) -> Result<KeyCommand, RecordFault>
 
 #[tactic(auto, unfolding(crate::specs::Reading::command_at))]
 fn command_of(alloc: Global, bytes: &[u8]) -> Result<KeyCommand, RecordFault>
-    ensures { Gives (λ x. x) result (command_at bytes.now) }
+    ensures { GivesRecord (λ x. x) result (command_at bytes.now) }
 {
     match bytes {
         [1, rest @ ..] => opened_of(rest),

@@ -5,7 +5,7 @@ ghost use Rattle.std.specs.Option.{option_copied};
 ghost use Rattle.std.specs.List.{HoldsAt};
 ghost use Rattle.key_rows.specs.Names.{AreNames, IsIndex};
 ghost use Rattle.key_rows.specs.Table.{after, applies, find_birth, find_name, current_of, is_born, material_of, need, no_keys, rolled};
-ghost use Rattle.key_rows.specs.Sound.{IsRow, IsTable, Rising};
+ghost use Rattle.key_rows.specs.Sound.{AreRowsRising, IsKeyTable, IsRow};
 
 use crate::applying::applies_to;
 use crate::by_name::{NamedBirth, birth_of, copy_names, put, remove_birth};
@@ -31,11 +31,11 @@ pub struct KeyTable {
 impl Model for KeyTable {
     ghost use Rattle.std.specs.Prelude.{◌≡◌, ◌&&◌, [], nat_lt, if◌then◌else◌};
     ghost use Rattle.std.specs.Vec.{vec_len, vec_capacity};
-    ghost use Rattle.key_rows.specs.Table.{Kept};
-    ghost use Rattle.key_rows.specs.Sound.{IsTable};
+    ghost use Rattle.key_rows.specs.Table.{KeptTable};
+    ghost use Rattle.key_rows.specs.Sound.{IsKeyTable};
     ghost use Rattle.key_rows.specs.Names.{IsIndex};
 
-    ghost Value = { Kept };
+    ghost Value = { KeptTable };
 
     ghost view = { λ t.
         record {
@@ -45,13 +45,13 @@ impl Model for KeyTable {
         } };
 
     ghost invariant = { λ t.
-        IsTable (record { opening = t.opening; greatest = t.greatest; rows = t.rows.items }) ×
+        IsKeyTable (record { opening = t.opening; greatest = t.greatest; rows = t.rows.items }) ×
         IsIndex t.rows.items t.names.items × (t.ready.items ≡ []) };
 }
 
 /// Returns the position of the key with this birth.
 fn place_of(rows: &Vec<KeyRow>, birth: u64) -> Option<usize>
-    requires { (top : ℕ) × Rising 0 rows.now.items top }
+    requires { (top : ℕ) × AreRowsRising 0 rows.now.items top }
     ensures place { IfSome result
         (λ place. (place < length rows.now.items) ×
         HoldsAt (λ row. row.birth ≡ birth) rows.now.items place) }
@@ -65,7 +65,7 @@ fn place_of(rows: &Vec<KeyRow>, birth: u64) -> Option<usize>
 
 /// Returns the key with this birth.
 pub(crate) fn row_at(rows: &Vec<KeyRow>, birth: u64) -> Option<&KeyRow>
-    requires { (top : ℕ) × Rising 0 rows.now.items top }
+    requires { (top : ℕ) × AreRowsRising 0 rows.now.items top }
     ensures { option_copied result ≡ find_birth rows.now.items birth }
 {
     match place_of(rows, birth) {
@@ -80,7 +80,7 @@ pub(crate) fn row_of<'a>(
     names: &Vec<NamedBirth>,
     name: &KeyName,
 ) -> Option<&'a KeyRow>
-    requires rising { (top : ℕ) × Rising 0 rows.now.items top }
+    requires rising { (top : ℕ) × AreRowsRising 0 rows.now.items top }
     requires index { IsIndex rows.now.items names.now.items }
     ensures { option_copied result ≡ find_name rows.now.items name.now }
 {
@@ -99,7 +99,7 @@ fn remove(rows: &mut Vec<KeyRow>, birth: u64)
 /// Appends the material of the next version of the key with this birth, if needed in a given
 /// buffer. Returns `Ok` if the buffer has capacity for all its materials.
 fn roll(rows: &mut Vec<KeyRow>, buffer: Vec<Dek>, birth: u64, material: Dek) -> Result<(), NoMemory>
-    requires rising { (top : ℕ) × Rising 0 rows.old.items top }
+    requires rising { (top : ℕ) × AreRowsRising 0 rows.old.items top }
     requires empty { buffer.items ≡ [] }
     ensures room { IfSome (find_birth rows.old.items birth)
         (λ row. length row.materials < vec_capacity buffer) → IsOk result }
@@ -147,7 +147,7 @@ impl KeyTable {
     /// Returns the last opening, or 0 if there was none.
     pub fn opening(&self) -> u32
         ensures opening { result ≡ self.now.keys.opening }
-        ensures table { IsTable self.now.keys }
+        ensures table { IsKeyTable self.now.keys }
     {
         self.opening
     }
@@ -166,7 +166,7 @@ impl KeyTable {
         // No other key has this birth.
         ensures birth { IfSome result
             (λ row. find_birth self.now.keys.rows row.now.birth ≡ Some row.now) }
-        ensures table { IsTable self.now.keys }
+        ensures table { IsKeyTable self.now.keys }
     {
         row_of(&self.rows, &self.names, name)
     }

@@ -15,7 +15,7 @@ use Rattle.prop_text.specs.declared.lines.PropLine.{PropLine}
 use Rattle.kms_acls.specs.declared.members.Members.{Members}
 use Rattle.kms_acls.specs.Lists.{Lists, Meaning, acl_meaning, holds, members_meaning, named_in, stands, users_of}
 use Rattle.kms_acls.specs.Agreement.{AreListsOf}
-use Rattle.kms_acls.specs.Verdict.{Standing, allowed, asked, first_denial, first_of, is_in, key_denial, names_user, service_denial, parts_shown, standing, users_of_group, verdict}
+use Rattle.kms_acls.specs.Verdict.{UserStanding, allowed, asked, first_denial, first_of, is_in, key_denial, names_user, service_denial, parts_shown, standing, users_of_group, verdict}
 
 -- the user is in a list, given the groups that have the user
 abbrev is_meant : (List ℕ → Bool) → List ℕ → Meaning → Bool
@@ -77,7 +77,7 @@ pub all_taken : {X : Type 0} (xs : List X) (i : ℕ) → length xs ≤ i → tak
 all_taken xs i past = take_all i xs past
 
 -- the verdict on what a call needs, in two parts
-abbrev pub judged_parts : Standing → AclOp → Bool → AclOp → List (List ℕ) → Result Shown Denied
+abbrev pub judged_parts : UserStanding → AclOp → Bool → AclOp → List (List ℕ) → Result Shown Denied
 judged_parts s service material on_keys keys =
     allowed (parts_shown s) (option_or (option_or (service_denial s service) (if material then service_denial s op.SetKeyMaterial else None)) (first_denial (map (key_denial s on_keys) keys)))
 
@@ -99,6 +99,6 @@ turned : (a b : Bool) → a ≡ not b → b ≡ not a
 turned a true is = sym (ap not is)
 turned a false is = sym (ap not is)
 
-pub denied_by_none : (v : Result Shown Denied) (s : Standing) (a b : Option Denied) (material : Bool) → v ≡ allowed (parts_shown s) (option_or a b) → a ≡ None → b ≡ None → is_some (service_denial s op.Get) ≡ not material → Ok record { material = material } ≡ v
+pub denied_by_none : (v : Result Shown Denied) (s : UserStanding) (a b : Option Denied) (material : Bool) → v ≡ allowed (parts_shown s) (option_or a b) → a ≡ None → b ≡ None → is_some (service_denial s op.Get) ≡ not material → Ok record { material = material } ≡ v
 denied_by_none v s a b material is first second get =
     ap (λ m. Ok record { material = m }) (turned (is_some (service_denial s op.Get)) material get) ∙ sym (is ∙ (λ i. allowed (parts_shown s) (option_or (first i) (second i))))

@@ -12,7 +12,7 @@ use Rattle.prop_text.specs.Properties.{is_among}
 use Rattle.kms_acls.specs.declared.members.Members.{Members}
 use Rattle.kms_acls.specs.declared.lists.OpAcl.{OpAcl}
 use Rattle.kms_acls.specs.declared.lists.KeyLists.{KeyLists}
-use Rattle.kms_acls.specs.Verdict.{Standing, names_user, same_op}
+use Rattle.kms_acls.specs.Verdict.{UserStanding, names_user, same_op}
 
 -- the lists of each operation, those of each key by its name, and the users of each group by its name
 pub record Lists : Type 0 where
@@ -62,7 +62,7 @@ holds groups user members =
     members.everybody || is_among user members.users || list_any (λ g. names_user user (users_of g groups)) members.groups
 
 -- whether a user is in each list
-abbrev pub stands : Lists → Text → Standing
+abbrev pub stands : Lists → Text → UserStanding
 stands lists user = record {
   service = λ o. option_map (holds lists.groups user) (list_of o lists.services);
   blacklist = λ o. option_map (holds lists.groups user) (list_of o lists.blacklists);

@@ -94,7 +94,7 @@ is_in lines user acl =
     acl.everybody || is_among user acl.users || list_any (λ g. names_user user (first_of (users_of_group g) lines)) acl.groups
 
 -- whether a user is in each list, or none if there is no such list; and whether a key has lines of its own
-pub record Standing : Type 0 where
+pub record UserStanding : Type 0 where
   pub service : AclOp → Option Bool
   pub blacklist : AclOp → Option Bool
   pub whitelist : AclOp → Option Bool
@@ -103,7 +103,7 @@ pub record Standing : Type 0 where
   pub key_all : KeyName → Option Bool
   pub default : AclOp → Option Bool
 
-abbrev pub standing : List PropLine → Text → Standing
+abbrev pub standing : List PropLine → Text → UserStanding
 standing lines user = record {
   service = λ o. option_map (is_in lines user) (first_of (service_list o) lines);
   blacklist = λ o. option_map (is_in lines user) (first_of (blacklist o) lines);
@@ -118,7 +118,7 @@ abbrev pub denied : AclTable → AclOp → Option Denied
 denied t o = Some record { table = t; op = o }
 
 -- an operation of the service: an absent list allows everybody, an absent blacklist excludes nobody
-abbrev pub service_denial : Standing → AclOp → Option Denied
+abbrev pub service_denial : UserStanding → AclOp → Option Denied
 service_denial s o =
     if unwrap_or (s.service o) true
     then (if unwrap_or (s.blacklist o) false then denied table.ServiceBlacklist o else None)
@@ -130,7 +130,7 @@ default_denial o (Some true) = None
 default_denial o (Some false) = denied table.DefaultAcl o
 
 -- an operation on a key, whether or not the key exists
-abbrev pub key_denial : Standing → AclOp → KeyName → Option Denied
+abbrev pub key_denial : UserStanding → AclOp → KeyName → Option Denied
 key_denial s o k =
     if unwrap_or (s.whitelist o) false then None
     else if s.has_lines k
@@ -168,7 +168,7 @@ first_denial [] = None
 first_denial (d ∷ ds) = option_or d (first_denial ds)
 
 -- the first denial: of the service, and then of each key
-abbrev pub denial : Standing → Asked → Option Denied
+abbrev pub denial : UserStanding → Asked → Option Denied
 denial s a =
     first_denial (service_denial s a.service ∷ (if a.material then service_denial s op.SetKeyMaterial else None) ∷ map (key_denial s a.on_keys) a.keys)
 
@@ -177,11 +177,11 @@ allowed x None = Ok x
 allowed x (Some d) = Err d
 
 -- whether the user sees material: the operation GET of the service is allowed
-abbrev pub parts_shown : Standing → Shown
+abbrev pub parts_shown : UserStanding → Shown
 parts_shown s = record { material = is_none (service_denial s op.Get) }
 
 -- the first denial, or else whether material is shown
-abbrev pub judged : Standing → KmsCall → Result Shown Denied
+abbrev pub judged : UserStanding → KmsCall → Result Shown Denied
 judged s c = allowed (parts_shown s) (denial s (asked c))
 
 abbrev pub verdict : List PropLine → Text → KmsCall → Result Shown Denied

@@ -30,11 +30,11 @@ all_kept (suc n) = all_kept n ++ deposit.Kept ∷ []
 
 -- How a turn ends with these answers to its deposits: all are kept, as many as the ticket wanted; or the last one is the first that is
 -- not kept.
-abbrev pub EndsSo : ℕ → List Deposit → FillTurn → Type 0
-EndsSo wanted answers (turn.Filled kept) =
+abbrev pub EndsFill : ℕ → List Deposit → FillTurn → Type 0
+EndsFill wanted answers (turn.Filled kept) =
     ((answers ≡ all_kept kept) × (kept ≡ wanted)) ⊎ ((answers ≡ all_kept kept ++ deposit.Full ∷ []) × (kept < wanted))
-EndsSo wanted answers turn.NothingLow = ⊥
-EndsSo wanted answers (turn.Stale opening birth number) =
+EndsFill wanted answers turn.NothingLow = ⊥
+EndsFill wanted answers (turn.Stale opening birth number) =
     (kept : ℕ) × (answers ≡ all_kept kept ++ deposit.Stale opening birth number ∷ []) × (kept < wanted)
 
 -- These entries are deposits of the first draws of the words, with these answers. The words of the draws were drawn.
@@ -47,7 +47,7 @@ pub record AreDeposits {D W : Type 0} (ticket : Ticket) (words words' : ℕ → 
 pub record FillsQueue {D W : Type 0} (ticket : Ticket) (words words' : ℕ → ℕ) (made : List (KmsEntry D W)) (result : FillTurn) : Type 0 where
   pub answers : List Deposit
   pub deposits : AreDeposits ticket words words' made answers
-  pub ends : EndsSo ticket.wanted answers result
+  pub ends : EndsFill ticket.wanted answers result
 
 -- without a ticket no queue is low, and nothing is drawn or deposited
 pub record FillsNothing {D W : Type 0} (words words' : ℕ → ℕ) (made : List (KmsEntry D W)) (result : FillTurn) : Type 0 where

@@ -10,15 +10,15 @@ use Rattle.serde_json.specs.View.{items_of}
 use Rattle.serde_json.specs.Written.{items_outline}
 use Rattle.std.specs.Prelude.{map}
 use Rattle.kms_json.specs.Replies.{list_data}
-use Rattle.kms_json.specs.Writing.{Adds, tokens_of}
+use Rattle.kms_json.specs.Writing.{AddsTokens, tokens_of}
 
-pub adds_then : {a b : List Token} {old mid new : Written} → Adds a old mid → Adds b mid new → Adds (a ++ b) old new
+pub adds_then : {a b : List Token} {old mid new : Written} → AddsTokens a old mid → AddsTokens b mid new → AddsTokens (a ++ b) old new
 adds_then {a = a} {b = b} {old = old} first next = record {
   tokens = next.tokens ∙ ap (λ ts. ts ++ b) first.tokens ∙ append_assoc old.tokens a b;
   before = next.before ∙ first.before;
 }
 
-pub adds_none : (w : Written) → Adds [] w w
+pub adds_none : (w : Written) → AddsTokens [] w w
 adds_none w = record { tokens = sym (append-nil w.tokens); before = refl }
 
 -- the tokens of the rows, one after another
@@ -42,29 +42,29 @@ tokens_each-append data_of (row ∷ rows) more =
 
 -- the last step, which may fail
 adds_last : {a : List Token} {old mid : Written} (b : List Token) (new : Written) (r : Result (Unit {0}) NoMemory)
-    → Adds a old mid → OnOk r (Adds b mid new) → OnOk r (Adds (a ++ b) old new)
+    → AddsTokens a old mid → OnOk r (AddsTokens b mid new) → OnOk r (AddsTokens (a ++ b) old new)
 adds_last b new (Ok done) first next = adds_then first next
 adds_last b new (Err e) first next = tt
 
 pub closes : {a : List Token} {old mid : Written} (new : Written) (r : Result (Unit {0}) NoMemory)
-    → Adds a old mid → OnOk r (Adds (end_object ∷ []) mid new) → OnOk r (Adds (a ++ end_object ∷ []) old new)
+    → AddsTokens a old mid → OnOk r (AddsTokens (end_object ∷ []) mid new) → OnOk r (AddsTokens (a ++ end_object ∷ []) old new)
 closes new r first next = adds_last (end_object ∷ []) new r first next
 
 pub one_more_row : {A : Type 0} (data_of : A → Data) (rows : List A) (place : ℕ) (row : A) (first mid new : Written)
     → place < length rows → row ≡ get_or rows place row
-    → Adds (tokens_each data_of (take place rows)) first mid → Adds (tokens_of (data_of row)) mid new → Adds (tokens_each data_of (take (place + 1) rows)) first new
+    → AddsTokens (tokens_each data_of (take place rows)) first mid → AddsTokens (tokens_of (data_of row)) mid new → AddsTokens (tokens_each data_of (take (place + 1) rows)) first new
 one_more_row data_of rows place row first mid new below is so_far added =
     let front : tokens_each data_of (take (place + 1) rows) ≡ tokens_each data_of (take place rows) ++ tokens_of (data_of row) =
     ap (tokens_each data_of) (take_more rows place row below ∙ ap (λ x. take place rows ++ x ∷ []) (sym is))
     ∙ tokens_each-append data_of (take place rows) (row ∷ []) ∙ ap (λ ts. tokens_each data_of (take place rows) ++ ts) (append-nil (tokens_of (data_of row))) in
-    subst (λ (ts : List Token). Adds ts first new) (sym front) (adds_then so_far added)
+    subst (λ (ts : List Token). AddsTokens ts first new) (sym front) (adds_then so_far added)
 
 pub all_rows : {A : Type 0} (data_of : A → Data) (rows whole : List A) (place : ℕ) (old opened filled new : Written) (r : Result (Unit {0}) NoMemory)
     → length rows ≤ place → rows ≡ whole
-    → Adds (begin_array ∷ []) old opened → Adds (tokens_each data_of (take place rows)) opened filled → OnOk r (Adds (end_array ∷ []) filled new)
-    → OnOk r (Adds (tokens_of (list_data data_of whole)) old new)
+    → AddsTokens (begin_array ∷ []) old opened → AddsTokens (tokens_each data_of (take place rows)) opened filled → OnOk r (AddsTokens (end_array ∷ []) filled new)
+    → OnOk r (AddsTokens (tokens_of (list_data data_of whole)) old new)
 all_rows data_of rows whole place old opened filled new r past same opens fills close =
     let each : tokens_each data_of (take place rows) ≡ tokens_each data_of whole = ap (tokens_each data_of) (take_all place rows past ∙ same) in
     let list : (begin_array ∷ tokens_each data_of (take place rows)) ++ end_array ∷ [] ≡ tokens_of (list_data data_of whole) =
     ap (λ ts. begin_array ∷ (ts ++ end_array ∷ [])) each ∙ ap (λ ts. begin_array ∷ ts) (sym (tokens_of_items data_of whole)) in
-    subst (λ (ts : List Token). OnOk r (Adds ts old new)) list (adds_last (end_array ∷ []) new r (adds_then opens fills) close)
+    subst (λ (ts : List Token). OnOk r (AddsTokens ts old new)) list (adds_last (end_array ∷ []) new r (adds_then opens fills) close)

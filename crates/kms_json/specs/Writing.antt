@@ -10,17 +10,17 @@ abbrev pub tokens_of : Data → List Token
 tokens_of d = json_tokens (outline d)
 
 -- these tokens were appended
-pub record Adds (added : List Token) (old new : Written) : Type 0 where
+pub record AddsTokens (added : List Token) (old new : Written) : Type 0 where
   pub tokens : new.tokens ≡ old.tokens ++ added
   pub before : new.before ≡ old.before
 
-abbrev pub AddsValue : Data → Written → Written → Type 0
-AddsValue d old new = Adds (tokens_of d) old new
+abbrev pub AddsData : Data → Written → Written → Type 0
+AddsData d old new = AddsTokens (tokens_of d) old new
 
 abbrev pub AddsMember : List ℕ → Data → Written → Written → Type 0
-AddsMember name d old new = Adds (key name ∷ tokens_of d) old new
+AddsMember name d old new = AddsTokens (key name ∷ tokens_of d) old new
 
 -- a value, or nothing
 abbrev pub AddsReply : Option Data → Written → Written → Type 0
-AddsReply None old new = Adds [] old new
-AddsReply (Some d) old new = AddsValue d old new
+AddsReply None old new = AddsTokens [] old new
+AddsReply (Some d) old new = AddsData d old new

@@ -5,7 +5,7 @@ ghost use Rattle.json.specs.Token.{begin_array, begin_object, end_array, end_obj
 ghost use Rattle.serde_json.specs.Data.{string};
 ghost use Rattle.kms_calls.specs.Refusals.{refusal_text};
 ghost use Rattle.kms_json.specs.Replies as spec;
-ghost use Rattle.kms_json.specs.Writing.{Adds, AddsMember, AddsValue};
+ghost use Rattle.kms_json.specs.Writing.{AddsData, AddsMember, AddsTokens};
 
 use base64::engine::general_purpose::URL_SAFE_NO_PAD;
 use hk_base::{ByteList, KeyName, NoMemory, VersionName};
@@ -14,28 +14,28 @@ use kms_calls::KmsRefusal;
 use std::alloc::Global;
 
 pub(crate) fn open_object(out: &mut Writer) -> Result<(), NoMemory>
-    ensures { OnOk result (Adds (begin_object ∷ []) out.old out.new) }
+    ensures { OnOk result (AddsTokens (begin_object ∷ []) out.old out.new) }
 {
     out.begin_object()?;
     Ok(())
 }
 
 pub(crate) fn close_object(out: &mut Writer) -> Result<(), NoMemory>
-    ensures { OnOk result (Adds (end_object ∷ []) out.old out.new) }
+    ensures { OnOk result (AddsTokens (end_object ∷ []) out.old out.new) }
 {
     out.end_object()?;
     Ok(())
 }
 
 pub(crate) fn open_array(out: &mut Writer) -> Result<(), NoMemory>
-    ensures { OnOk result (Adds (begin_array ∷ []) out.old out.new) }
+    ensures { OnOk result (AddsTokens (begin_array ∷ []) out.old out.new) }
 {
     out.begin_array()?;
     Ok(())
 }
 
 pub(crate) fn close_array(out: &mut Writer) -> Result<(), NoMemory>
-    ensures { OnOk result (Adds (end_array ∷ []) out.old out.new) }
+    ensures { OnOk result (AddsTokens (end_array ∷ []) out.old out.new) }
 {
     out.end_array()?;
     Ok(())
@@ -43,28 +43,28 @@ pub(crate) fn close_array(out: &mut Writer) -> Result<(), NoMemory>
 
 /// Writes the name of a member. Its value must be written next.
 pub(crate) fn write_key(name: &str, out: &mut Writer) -> Result<(), NoMemory>
-    ensures { OnOk result (Adds (key name.now ∷ []) out.old out.new) }
+    ensures { OnOk result (AddsTokens (key name.now ∷ []) out.old out.new) }
 {
     out.key(name)?;
     Ok(())
 }
 
 pub(crate) fn write_text(text: &str, out: &mut Writer) -> Result<(), NoMemory>
-    ensures { OnOk result (AddsValue (string text.now) out.old out.new) }
+    ensures { OnOk result (AddsData (string text.now) out.old out.new) }
 {
     out.string(text)?;
     Ok(())
 }
 
 fn write_number(number: u64, out: &mut Writer) -> Result<(), NoMemory>
-    ensures { OnOk result (AddsValue (spec.number_data number) out.old out.new) }
+    ensures { OnOk result (AddsData (spec.number_data number) out.old out.new) }
 {
     out.u64(number)?;
     Ok(())
 }
 
 fn write_bytes(alloc: Global, bytes: &[u8], out: &mut Writer) -> Result<(), NoMemory>
-    ensures { OnOk result (AddsValue (spec.bytes_data bytes.now) out.old out.new) }
+    ensures { OnOk result (AddsData (spec.bytes_data bytes.now) out.old out.new) }
 {
     let text = URL_SAFE_NO_PAD.encode(alloc, bytes)?;
     write_text(text.as_str(), out)
@@ -72,20 +72,20 @@ fn write_bytes(alloc: Global, bytes: &[u8], out: &mut Writer) -> Result<(), NoMe
 
 fn write_ascii(bytes: &[u8], out: &mut Writer) -> Result<(), NoMemory>
     requires { IsAscii bytes.now }
-    ensures { OnOk result (AddsValue (string bytes.now) out.old out.new) }
+    ensures { OnOk result (AddsData (string bytes.now) out.old out.new) }
 {
     let text = str::from_utf8(bytes).unwrap();
     write_text(text, out)
 }
 
 pub(crate) fn write_name(name: &KeyName, out: &mut Writer) -> Result<(), NoMemory>
-    ensures { OnOk result (AddsValue (string name.now) out.old out.new) }
+    ensures { OnOk result (AddsData (string name.now) out.old out.new) }
 {
     write_ascii(name.as_bytes(), out)
 }
 
 fn write_version(alloc: Global, version: &VersionName, out: &mut Writer) -> Result<(), NoMemory>
-    ensures { OnOk result (AddsValue (spec.version_data version.now) out.old out.new) }
+    ensures { OnOk result (AddsData (spec.version_data version.now) out.old out.new) }
 {
     // Reading both makes their bounds known: the name is a key's name, and the number is below 65,536.
     let _key = version.key.as_bytes();
@@ -96,7 +96,7 @@ fn write_version(alloc: Global, version: &VersionName, out: &mut Writer) -> Resu
 }
 
 fn write_message(alloc: Global, why: &KmsRefusal, out: &mut Writer) -> Result<(), NoMemory>
-    ensures { OnOk result (AddsValue (string (refusal_text why.now)) out.old out.new) }
+    ensures { OnOk result (AddsData (string (refusal_text why.now)) out.old out.new) }
 {
     let mut text = ByteList::new(alloc);
     why.write(&mut text)?;

@@ -2,7 +2,7 @@
 ghost use Rattle.std.specs.Prelude.{◌≡◌, OnOk, codes};
 ghost use Rattle.serde_json.specs.Data.{string};
 ghost use Rattle.kms_json.specs.Replies as spec;
-ghost use Rattle.kms_json.specs.Writing.{AddsMember, AddsValue};
+ghost use Rattle.kms_json.specs.Writing.{AddsData, AddsMember};
 
 use crate::pieces::{
     bytes_member, close_array, close_object, message_member, name_member, number_member,
@@ -14,7 +14,7 @@ use kms_calls::{EdekList, KeyMeta, KmsRefusal, MetaList, NameList, VersionList};
 use std::alloc::Global;
 
 fn write_bare(alloc: Global, version: &VersionName, out: &mut Writer) -> Result<(), NoMemory>
-    ensures { OnOk result (AddsValue (spec.shown_data version.now None) out.old out.new) }
+    ensures { OnOk result (AddsData (spec.shown_data version.now None) out.old out.new) }
 {
     open_object(out)?;
     version_member(alloc, "name", version, out)?;
@@ -28,7 +28,7 @@ fn write_with_material(
     out: &mut Writer,
 ) -> Result<(), NoMemory>
     ensures { OnOk result
-        (AddsValue (spec.shown_data version.now (Some material.now)) out.old out.new) }
+        (AddsData (spec.shown_data version.now (Some material.now)) out.old out.new) }
 {
     open_object(out)?;
     bytes_member(alloc, "material", material.as_bytes(), out)?;
@@ -42,7 +42,7 @@ pub(crate) fn write_shown(
     material: &Option<Dek>,
     out: &mut Writer,
 ) -> Result<(), NoMemory>
-    ensures { OnOk result (AddsValue (spec.shown_data version.now material.now) out.old out.new) }
+    ensures { OnOk result (AddsData (spec.shown_data version.now material.now) out.old out.new) }
 {
     match material {
         None => write_bare(alloc, version, out),
@@ -62,7 +62,7 @@ fn write_sealed(alloc: Global, sealed: &Dek, out: &mut Writer) -> Result<(), NoM
 }
 
 pub(crate) fn write_edek(alloc: Global, edek: &Edek, out: &mut Writer) -> Result<(), NoMemory>
-    ensures { OnOk result (AddsValue (spec.edek_data edek.now) out.old out.new) }
+    ensures { OnOk result (AddsData (spec.edek_data edek.now) out.old out.new) }
 {
     open_object(out)?;
     write_sealed(alloc, &edek.sealed, out)?;
@@ -72,7 +72,7 @@ pub(crate) fn write_edek(alloc: Global, edek: &Edek, out: &mut Writer) -> Result
 }
 
 pub(crate) fn write_opened(alloc: Global, key: &Dek, out: &mut Writer) -> Result<(), NoMemory>
-    ensures { OnOk result (AddsValue (spec.key_data key.now) out.old out.new) }
+    ensures { OnOk result (AddsData (spec.key_data key.now) out.old out.new) }
 {
     open_object(out)?;
     bytes_member(alloc, "material", key.as_bytes(), out)?;
@@ -81,7 +81,7 @@ pub(crate) fn write_opened(alloc: Global, key: &Dek, out: &mut Writer) -> Result
 }
 
 pub(crate) fn write_meta(meta: &KeyMeta, out: &mut Writer) -> Result<(), NoMemory>
-    ensures { OnOk result (AddsValue (spec.meta_data meta.now) out.old out.new) }
+    ensures { OnOk result (AddsData (spec.meta_data meta.now) out.old out.new) }
 {
     open_object(out)?;
     text_member("cipher", "AES/CTR/NoPadding", out)?;
@@ -119,7 +119,7 @@ pub(crate) fn write_refusal(
     why: &KmsRefusal,
     out: &mut Writer,
 ) -> Result<(), NoMemory>
-    ensures { OnOk result (AddsValue (spec.refusal_data why.now) out.old out.new) }
+    ensures { OnOk result (AddsData (spec.refusal_data why.now) out.old out.new) }
 {
     open_object(out)?;
     write_key("RemoteException", out)?;
@@ -128,7 +128,7 @@ pub(crate) fn write_refusal(
 }
 
 fn write_exception(alloc: Global, why: &KmsRefusal, out: &mut Writer) -> Result<(), NoMemory>
-    ensures { OnOk result (AddsValue (spec.exception_data why.now) out.old out.new) }
+    ensures { OnOk result (AddsData (spec.exception_data why.now) out.old out.new) }
 {
     open_object(out)?;
     text_member("exception", refusal_name(why), out)?;
@@ -137,7 +137,7 @@ fn write_exception(alloc: Global, why: &KmsRefusal, out: &mut Writer) -> Result<
 }
 
 pub(crate) fn write_names(names: &NameList, out: &mut Writer) -> Result<(), NoMemory>
-    ensures { OnOk result (AddsValue (spec.list_data string names.now) out.old out.new) }
+    ensures { OnOk result (AddsData (spec.list_data string names.now) out.old out.new) }
 {
     open_array(out)?;
     for name in names.as_slice() {
@@ -147,7 +147,7 @@ pub(crate) fn write_names(names: &NameList, out: &mut Writer) -> Result<(), NoMe
 }
 
 pub(crate) fn write_metas(metas: &MetaList, out: &mut Writer) -> Result<(), NoMemory>
-    ensures { OnOk result (AddsValue (spec.list_data spec.meta_data metas.now) out.old out.new) }
+    ensures { OnOk result (AddsData (spec.list_data spec.meta_data metas.now) out.old out.new) }
 {
     open_array(out)?;
     for meta in metas.as_slice() {
@@ -161,7 +161,7 @@ pub(crate) fn write_versions(
     versions: &VersionList,
     out: &mut Writer,
 ) -> Result<(), NoMemory>
-    ensures { OnOk result (AddsValue (spec.list_data spec.row_data versions.now) out.old out.new) }
+    ensures { OnOk result (AddsData (spec.list_data spec.row_data versions.now) out.old out.new) }
 {
     open_array(out)?;
     for row in versions.as_slice() {
@@ -171,7 +171,7 @@ pub(crate) fn write_versions(
 }
 
 pub(crate) fn write_edeks(alloc: Global, edeks: &EdekList, out: &mut Writer) -> Result<(), NoMemory>
-    ensures { OnOk result (AddsValue (spec.list_data spec.edek_data edeks.now) out.old out.new) }
+    ensures { OnOk result (AddsData (spec.list_data spec.edek_data edeks.now) out.old out.new) }
 {
     open_array(out)?;
     for edek in edeks.as_slice() {

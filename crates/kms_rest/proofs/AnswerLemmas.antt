@@ -21,10 +21,10 @@ use Rattle.kms_rest.specs.declared.faults.RestFault.{RestFault}
 use Rattle.kms_rest.specs.declared.faults.RestFault.TheVariants as fault
 use Rattle.kms_rest.specs.declared.operation.Operation.{Operation}
 use Rattle.kms_rest.specs.declared.operation.Operation.TheVariants as op
-use Rattle.kms_rest.specs.Calls.{AsksBy, AsksEek, AsksNothingBy, Counts, IsFaultyBody, IsSingle, NamesVersion, SaysCall, operation_values}
+use Rattle.kms_rest.specs.Calls.{AreGivenOnce, AsksBy, AsksEek, AsksNothingBy, CountsKeys, IsFaultyBody, NamesVersion, SaysCall, operation_values}
 use Rattle.kms_rest.specs.Operations.{HasBadMethod, HasNoRoute, Routes}
 use Rattle.kms_rest.specs.Places.{IsUnrouted}
-use Rattle.kms_rest.specs.Requests.{Asks, HasNoUser, IsBadRequest, Names, Says, query_in}
+use Rattle.kms_rest.specs.Requests.{AsksCall, HasNoUser, IsBadRequest, NamesOperation, Says, query_in}
 use Rattle.kms_rest.specs.Laws.{SaysOneThing}
 use Rattle.kms_rest.proofs.RouteLemmas.{AreBytes, same_route}
 
@@ -54,11 +54,11 @@ pub record IsRead (request : Message) (operation : Operation) (part n b : List �
   pub body : b ≡ request.body
   pub query : ps ≡ query_in request
 
-names_read : (request : Message) (operation : Operation) (part n b : List ℕ) (ps : List Parameter) → IsRead request operation part n b ps → Names request operation n
+names_read : (request : Message) (operation : Operation) (part n b : List ℕ) (ps : List Parameter) → IsRead request operation part n b ps → NamesOperation request operation n
 names_read request operation part n b ps r = record { part = part; routes = r.routes; decoded = r.decoded }
 
 pub said_asked : (request : Message) (operation : Operation) (part n b : List ℕ) (ps : List Parameter) (user : List ℕ) (asked : KmsCall) → IsRead request operation part n b ps
-    → NamesUser ps user → IsSingle ps → SaysCall operation n ps b (Ok asked) → Asks request user asked
+    → NamesUser ps user → AreGivenOnce ps → SaysCall operation n ps b (Ok asked) → AsksCall request user asked
 said_asked request operation part n b ps user asked r u i s =
     let one = subst (λ (m : List ℕ). AsksBy operation n ps m asked) r.body s in
     record {
@@ -66,7 +66,7 @@ said_asked request operation part n b ps user asked r u i s =
       name = n;
       names = names_read request operation part n b ps r;
       named = subst (λ (qs : List Parameter). NamesUser qs user) r.query u;
-      single = subst (λ (qs : List Parameter). IsSingle qs) r.query i;
+      single = subst (λ (qs : List Parameter). AreGivenOnce qs) r.query i;
       asks = subst (λ (qs : List Parameter). AsksBy operation n qs request.body asked) r.query one;
     }
 
@@ -111,7 +111,7 @@ one_version : NamedByText → (text : List ℕ) (v w : Version) → NamesVersion
 one_version named text v w x y =
     unsome v w (sym (named v.key v.number x.0 x.1.0) ∙ ap version_named (sym x.1.1 ∙ y.1.1) ∙ named w.key w.number y.0 y.1.0)
 
-one_count : (found : List (List ℕ)) (m n : ℕ) → Counts found m → Counts found n → m ≡ n
+one_count : (found : List (List ℕ)) (m n : ℕ) → CountsKeys found m → CountsKeys found n → m ≡ n
 one_count [] m n x y = x ∙ sym y
 one_count (text ∷ more) m n x y = sym x.1.1.0 ∙ y.1.1.0
 
@@ -203,25 +203,25 @@ not_both laws op.Metadatas name ps body a x (inr y) = y x.1.0
 
 -- ---- one meaning
 
-same_names : (request : Message) → AreBytes (path_of request.target) → (o q : Operation) (m n : List ℕ) → Names request o m → Names request q n → (o ≡ q) × (m ≡ n)
+same_names : (request : Message) → AreBytes (path_of request.target) → (o q : Operation) (m n : List ℕ) → NamesOperation request o m → NamesOperation request q n → (o ≡ q) × (m ≡ n)
 same_names request h o q m n x y =
     let u = same_route request.method (path_of request.target) h o q x.part y.part x.routes y.routes in
     (u.0, x.decoded ∙ ap percent_decode u.1 ∙ sym y.decoded)
 
-same_asked : Laws → (request : Message) → AreBytes (path_of request.target) → (u v : List ℕ) (a b : KmsCall) → Asks request u a → Asks request v b → (u ≡ v) × (a ≡ b)
+same_asked : Laws → (request : Message) → AreBytes (path_of request.target) → (u v : List ℕ) (a b : KmsCall) → AsksCall request u a → AsksCall request v b → (u ≡ v) × (a ≡ b)
 same_asked laws request h u v a b x y =
     let e = same_names request h y.operation x.operation y.name x.name y.names x.names in
     let one = subst (λ (o : Operation). AsksBy o y.name (query_in request) request.body b) e.0 y.asks in
     let two = subst (λ (n : List ℕ). AsksBy x.operation n (query_in request) request.body b) e.1 one in
     (unhead_user (user_values (query_in request)) u v x.named.once y.named.once, same_call laws x.operation x.name (query_in request) request.body a b x.asks two)
 
-asked_not_bad : Laws → (request : Message) → AreBytes (path_of request.target) → (u : List ℕ) (a : KmsCall) → Asks request u a → IsBadRequest request → ⊥
+asked_not_bad : Laws → (request : Message) → AreBytes (path_of request.target) → (u : List ℕ) (a : KmsCall) → AsksCall request u a → IsBadRequest request → ⊥
 asked_not_bad laws request h u a x y = by y.why
   where
     e : (y.operation ≡ x.operation) × (y.name ≡ x.name)
     e = same_names request h y.operation x.operation y.name x.name y.names x.names
 
-    by : ((¬ NamesNoUser (query_in request)) × ((user : List ℕ) → ¬ NamesUser (query_in request) user)) ⊎ (¬ IsSingle (query_in request) ⊎ AsksNothingBy y.operation y.name (query_in request) request.body) → ⊥
+    by : ((¬ NamesNoUser (query_in request)) × ((user : List ℕ) → ¬ NamesUser (query_in request) user)) ⊎ (¬ AreGivenOnce (query_in request) ⊎ AsksNothingBy y.operation y.name (query_in request) request.body) → ⊥
     by (inl bad) = bad.1 u x.named
     by (inr (inl twice)) = twice x.single
     by (inr (inr nothing)) =
@@ -229,16 +229,16 @@ asked_not_bad laws request h u a x y = by y.why
         let two = subst (λ (n : List ℕ). AsksNothingBy x.operation n (query_in request) request.body) e.1 one in
         not_both laws x.operation x.name (query_in request) request.body a x.asks two
 
-asked_user : (request : Message) (u : List ℕ) (a : KmsCall) → Asks request u a → HasNoUser request → ⊥
+asked_user : (request : Message) (u : List ℕ) (a : KmsCall) → AsksCall request u a → HasNoUser request → ⊥
 asked_user request u a x y = no_user_named (query_in request) u x.named y.none
 
-no_route_named : (request : Message) (o : Operation) (n : List ℕ) → HasNoRoute (path_of request.target) → Names request o n → ⊥
+no_route_named : (request : Message) (o : Operation) (n : List ℕ) → HasNoRoute (path_of request.target) → NamesOperation request o n → ⊥
 no_route_named request o n none x = none o x.part x.routes.fits
 
 no_route_bad : (request : Message) → HasNoRoute (path_of request.target) → HasBadMethod request.method (path_of request.target) → ⊥
 no_route_bad request none bad = none bad.operation bad.part bad.fits
 
-bad_method_named : (request : Message) (o : Operation) (n : List ℕ) → HasBadMethod request.method (path_of request.target) → Names request o n → ⊥
+bad_method_named : (request : Message) (o : Operation) (n : List ℕ) → HasBadMethod request.method (path_of request.target) → NamesOperation request o n → ⊥
 bad_method_named request o n bad x = bad.other o x.part x.routes
 
 pub one_answer : Laws → (request : Message) → AreBytes (path_of request.target) → SaysOneThing request

@@ -1,7 +1,7 @@
 -- A path that has the segments of a place belongs to it as a text, and the other way round; and which operation
 -- is at which place.
 use Rattle.std.proofs.Common.{◌≡◌, ◌≢◌, ℕ, List, [], ◌∷◌, ◌++◌, codes, Some, None, refl, sym, ap, ◌∙◌, append-nil, drop, subst}
-use Rattle.path_routes.specs.Shapes.{Fits, Shape, filled, segments}
+use Rattle.path_routes.specs.Shapes.{FitsShape, Shape, filled, segments}
 use Rattle.path_routes.proofs.SegmentLemmas.{path-filled, clear-filled, segments-end, segments-cut}
 use Rattle.kms_rest.specs.declared.operation.Operation.{Operation}
 use Rattle.kms_rest.specs.declared.operation.Operation.TheVariants as op
@@ -27,7 +27,7 @@ shape_at at.VersionEek = Some [] ∷ Some (codes "kms") ∷ Some (codes "v1") �
 shape_at at.Names = Some [] ∷ Some (codes "kms") ∷ Some (codes "v1") ∷ Some (codes "keys") ∷ Some (codes "names") ∷ []
 shape_at at.Metadatas = Some [] ∷ Some (codes "kms") ∷ Some (codes "v1") ∷ Some (codes "keys") ∷ Some (codes "metadata") ∷ []
 
-pub to_text : (path : List ℕ) (p : Place) (k : List ℕ) → Fits path (shape_at p) k → IsAt path p k
+pub to_text : (path : List ℕ) (p : Place) (k : List ℕ) → FitsShape path (shape_at p) k → IsAt path p k
 to_text path at.Keys k f = (path-filled path (filled (shape_at at.Keys) k) f.0 ∙ ap (λ z. before at.Keys ++ (z ++ [])) (sym f.1), f.1)
 to_text path at.Key k f = (path-filled path (filled (shape_at at.Key) k) f.0 ∙ ap (λ z. before at.Key ++ z) (sym (append-nil k)), (f.1, (clear-filled path (filled (shape_at at.Key) k) f.0).1.1.1.1.0))
 to_text path at.KeyInvalidate k f = (path-filled path (filled (shape_at at.KeyInvalidate) k) f.0, (f.1, (clear-filled path (filled (shape_at at.KeyInvalidate) k) f.0).1.1.1.1.0))
@@ -47,7 +47,7 @@ in_front at.Version rest = [] ∷ codes "kms" ∷ codes "v1" ∷ codes "keyversi
 in_front at.VersionEek rest = [] ∷ codes "kms" ∷ codes "v1" ∷ codes "keyversion" ∷ rest
 in_front _ rest = [] ∷ codes "kms" ∷ codes "v1" ∷ codes "key" ∷ rest
 
-pub to_segments : (path : List ℕ) (p : Place) (k : List ℕ) → IsAt path p k → Fits path (shape_at p) k
+pub to_segments : (path : List ℕ) (p : Place) (k : List ℕ) → IsAt path p k → FitsShape path (shape_at p) k
 to_segments path at.Keys k f = (ap segments (f.0 ∙ ap (λ z. before at.Keys ++ (z ++ [])) f.1), f.1)
 to_segments path at.Key k f = (ap segments (f.0 ∙ ap (λ z. before at.Key ++ z) (append-nil k)) ∙ ap (in_front at.Key) (segments-end k f.1.1), f.1.0)
 to_segments path at.KeyInvalidate k f = (ap segments f.0 ∙ ap (in_front at.KeyInvalidate) (segments-cut k (drop 1 (after at.KeyInvalidate)) f.1.1), f.1.0)

@@ -3,7 +3,7 @@ use Rattle.std.proofs.Common.{◌≡◌, ◌≢◌, ◌<◌, ℕ, List, codes, O
 use Rattle.std.specs.Cmp.Lexicographic.{pointwise}
 use Rattle.std.proofs.lemmas.Slice.Eq.{bytes_eq-Decides}
 use Rattle.matchit.specs.Seek.{first}
-use Rattle.path_routes.specs.Shapes.{Fits, Shape}
+use Rattle.path_routes.specs.Shapes.{FitsShape, Shape}
 use Rattle.kms_rest.specs.declared.operation.Operation.{Operation}
 use Rattle.kms_rest.specs.declared.place.Place.{Place}
 use Rattle.kms_rest.specs.declared.place.Verb.TheVariants as verb
@@ -18,12 +18,12 @@ use Rattle.kms_rest.proofs.UniqueLemmas.{unique}
 abbrev pub AreBytes : List ℕ → Type 0
 AreBytes path = (i : ℕ) → get_or path i 0 < 256
 
-segments_there : (path : List ℕ) (o : Operation) (k : List ℕ) → HasPath path o k → Fits path (shape_at (place_of o)) k
-segments_there path o k f = subst (λ (s : Shape). Fits path s k) (shape_of_place o) f
+segments_there : (path : List ℕ) (o : Operation) (k : List ℕ) → HasPath path o k → FitsShape path (shape_at (place_of o)) k
+segments_there path o k f = subst (λ (s : Shape). FitsShape path s k) (shape_of_place o) f
 
 from_place : (path : List ℕ) (p : Place) (o : Operation) (k : List ℕ) → p ≡ place_of o → IsAt path p k → HasPath path o k
 from_place path p o k e f =
-    subst (λ (s : Shape). Fits path s k) (sym (shape_of_place o)) (subst (λ (q : Place). Fits path (shape_at q) k) e (to_segments path p k f))
+    subst (λ (s : Shape). FitsShape path s k) (sym (shape_of_place o)) (subst (λ (q : Place). FitsShape path (shape_at q) k) e (to_segments path p k f))
 
 pub no_route : (path : List ℕ) → AreBytes path → first table path ≡ None → HasNoRoute path
 no_route path h none = λ o k f.

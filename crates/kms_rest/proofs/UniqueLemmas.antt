@@ -1,7 +1,7 @@
 -- A path belongs to one place, with one part; so method and path name one operation.
 use Rattle.std.proofs.Common.{◌≡◌, ℕ, List, ◌++◌, ◌<◌, get_or, refl, sym, ap, ◌∙◌, subst}
 use Rattle.std.proofs.lemmas.List.{append_cancel_left, append_cancel_right}
-use Rattle.path_routes.specs.Shapes.{Fits}
+use Rattle.path_routes.specs.Shapes.{FitsShape}
 use Rattle.kms_rest.specs.Places.{IsAt, after, before}
 use Rattle.kms_rest.specs.Rows.{row_of}
 use Rattle.kms_rest.proofs.PlaceLemmas.{shape_at, to_text}
@@ -33,7 +33,7 @@ same-place path h p q k j f g =
 same-part : (path : List ℕ) (p : Place) (k j : List ℕ) → IsAt path p k → IsAt path p j → k ≡ j
 same-part path p k j f g = append_cancel_right k j (after p) (append_cancel_left (before p) (k ++ after p) (j ++ after p) (sym f.0 ∙ g.0))
 
-pub unique : (path : List ℕ) → ((i : ℕ) → get_or path i 0 < 256) → (p q : Place) (k j : List ℕ) → Fits path (shape_at p) k → Fits path (shape_at q) j → (p ≡ q) × (k ≡ j)
+pub unique : (path : List ℕ) → ((i : ℕ) → get_or path i 0 < 256) → (p q : Place) (k j : List ℕ) → FitsShape path (shape_at p) k → FitsShape path (shape_at q) j → (p ≡ q) × (k ≡ j)
 unique path h p q k j f g =
     let a = to_text path p k f in
     let b = to_text path q j g in

@@ -51,13 +51,13 @@ abbrev pub IsCount : List ℕ → ℕ → Type 0
 IsCount text count = IsTrue (is_count text) × ((digits_value 10 text ≡ count) × (count < 2 ^ 32))
 
 -- the number of keys to generate: one by default
-abbrev pub Counts : List (List ℕ) → ℕ → Type 0
-Counts [] count = count ≡ 1
-Counts (text ∷ more) count = (more ≡ []) × IsCount text count
+abbrev pub CountsKeys : List (List ℕ) → ℕ → Type 0
+CountsKeys [] count = count ≡ 1
+CountsKeys (text ∷ more) count = (more ≡ []) × IsCount text count
 
 -- `eek_op` and `num_keys` are given at most once, for each operation
-abbrev pub IsSingle : List Parameter → Type 0
-IsSingle ps = (length (operation_values ps) ≤ 1) × (length (count_values ps) ≤ 1)
+abbrev pub AreGivenOnce : List Parameter → Type 0
+AreGivenOnce ps = (length (operation_values ps) ≤ 1) × (length (count_values ps) ≤ 1)
 
 -- ---- calls
 
@@ -83,7 +83,7 @@ pub record AsksToGenerate (part : List ℕ) (ps : List Parameter) (asked : KmsCa
   pub count : ℕ
   pub name : IsKeyName part
   pub generate : operation_values ps ≡ codes "generate" ∷ []
-  pub counts : Counts (count_values ps) count
+  pub counts : CountsKeys (count_values ps) count
   pub is : asked ≡ call.Generate part count
 
 -- the part is the name of a key, and this is the call
@@ -117,7 +117,7 @@ abbrev pub AsksNotToGenerate : List ℕ → List Parameter → Type 0
 AsksNotToGenerate part ps =
     ¬ IsKeyName part
     ⊎ ((operation_values ps ≢ codes "generate" ∷ [])
-    ⊎ ((count : ℕ) → ¬ Counts (count_values ps) count))
+    ⊎ ((count : ℕ) → ¬ CountsKeys (count_values ps) count))
 
 -- when an operation makes no call: a bad name, a query without what it needs, or a body with a fault
 abbrev pub AsksNothingBy : Operation → List ℕ → List Parameter → List ℕ → Type 0

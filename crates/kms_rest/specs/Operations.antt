@@ -1,6 +1,6 @@
 -- The operations of the key management service over REST, each with its method and the segments of its path.
 use Rattle.std.specs.Prelude.{◌≡◌, ℕ, List, [], ◌∷◌, Some, None, codes}
-use Rattle.path_routes.specs.Shapes.{Fits, Shape}
+use Rattle.path_routes.specs.Shapes.{FitsShape, Shape}
 use Rattle.kms_rest.specs.declared.operation.Operation.{Operation}
 use Rattle.kms_rest.specs.declared.operation.Operation.TheVariants as op
 
@@ -48,7 +48,7 @@ shape_of op.Metadatas = under_root (Some (codes "keys") ∷ Some (codes "metadat
 
 -- the path belongs to the operation, with this open part
 abbrev pub HasPath : List ℕ → Operation → List ℕ → Type 0
-HasPath path operation part = Fits path (shape_of operation) part
+HasPath path operation part = FitsShape path (shape_of operation) part
 
 -- Method and path name the operation, with this open part of the path.
 pub record Routes (method path : List ℕ) (operation : Operation) (part : List ℕ) : Type 0 where

@@ -43,23 +43,23 @@ after at.Names = []
 after at.Metadatas = []
 
 -- what the open part of a place's paths can be: one segment, or nothing if no part is open
-abbrev pub IsPart : Place → List ℕ → Type 0
-IsPart at.Keys k = k ≡ []
-IsPart at.Key k = IsSegment k
-IsPart at.KeyInvalidate k = IsSegment k
-IsPart at.KeyMetadata k = IsSegment k
-IsPart at.KeyCurrent k = IsSegment k
-IsPart at.KeyVersions k = IsSegment k
-IsPart at.KeyEek k = IsSegment k
-IsPart at.KeyBatch k = IsSegment k
-IsPart at.Version k = IsSegment k
-IsPart at.VersionEek k = IsSegment k
-IsPart at.Names k = k ≡ []
-IsPart at.Metadatas k = k ≡ []
+abbrev pub IsPartOfPlace : Place → List ℕ → Type 0
+IsPartOfPlace at.Keys k = k ≡ []
+IsPartOfPlace at.Key k = IsSegment k
+IsPartOfPlace at.KeyInvalidate k = IsSegment k
+IsPartOfPlace at.KeyMetadata k = IsSegment k
+IsPartOfPlace at.KeyCurrent k = IsSegment k
+IsPartOfPlace at.KeyVersions k = IsSegment k
+IsPartOfPlace at.KeyEek k = IsSegment k
+IsPartOfPlace at.KeyBatch k = IsSegment k
+IsPartOfPlace at.Version k = IsSegment k
+IsPartOfPlace at.VersionEek k = IsSegment k
+IsPartOfPlace at.Names k = k ≡ []
+IsPartOfPlace at.Metadatas k = k ≡ []
 
 -- the path belongs to this place, with this open part
 abbrev pub IsAt : List ℕ → Place → List ℕ → Type 0
-IsAt path p k = (path ≡ before p ++ (k ++ after p)) × IsPart p k
+IsAt path p k = (path ≡ before p ++ (k ++ after p)) × IsPartOfPlace p k
 
 abbrev pub verb_of : List ℕ → Verb
 verb_of method =

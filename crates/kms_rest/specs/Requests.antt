@@ -10,32 +10,32 @@ use Rattle.kms_rest.specs.declared.faults.RestFault.{RestFault}
 use Rattle.kms_rest.specs.declared.faults.RestFault.TheVariants as fault
 use Rattle.kms_rest.specs.declared.operation.Operation.{Operation}
 use Rattle.kms_rest.specs.Operations.{HasBadMethod, HasNoRoute, Routes}
-use Rattle.kms_rest.specs.Calls.{AsksBy, AsksNothingBy, IsSingle}
+use Rattle.kms_rest.specs.Calls.{AreGivenOnce, AsksBy, AsksNothingBy}
 
 -- the parameters of a request's query
 abbrev pub query_in : Message → List Parameter
 query_in request = parameters (query_of request.target)
 
 -- The request names this operation, and this name in its path: the open part, percent-decoded.
-pub record Names (request : Message) (operation : Operation) (name : List ℕ) : Type 0 where
+pub record NamesOperation (request : Message) (operation : Operation) (name : List ℕ) : Type 0 where
   pub part : List ℕ
   pub routes : Routes request.method (path_of request.target) operation part
   pub decoded : name ≡ percent_decode part
 
 -- The request makes this call, as this user.
-pub record Asks (request : Message) (user : List ℕ) (call : KmsCall) : Type 0 where
+pub record AsksCall (request : Message) (user : List ℕ) (call : KmsCall) : Type 0 where
   pub operation : Operation
   pub name : List ℕ
-  pub names : Names request operation name
+  pub names : NamesOperation request operation name
   pub named : NamesUser (query_in request) user
-  pub single : IsSingle (query_in request)
+  pub single : AreGivenOnce (query_in request)
   pub asks : AsksBy operation name (query_in request) request.body call
 
 -- The request names an operation, and no user.
 pub record HasNoUser (request : Message) : Type 0 where
   pub operation : Operation
   pub name : List ℕ
-  pub names : Names request operation name
+  pub names : NamesOperation request operation name
   pub none : NamesNoUser (query_in request)
 
 -- The request names an operation, and a user or `doAs`, and makes no call: the user is not allowed, a parameter is given
@@ -43,13 +43,13 @@ pub record HasNoUser (request : Message) : Type 0 where
 pub record IsBadRequest (request : Message) : Type 0 where
   pub operation : Operation
   pub name : List ℕ
-  pub names : Names request operation name
+  pub names : NamesOperation request operation name
   pub some : ¬ NamesNoUser (query_in request)
-  pub why : NamesBadUser (query_in request) ⊎ (¬ IsSingle (query_in request) ⊎ AsksNothingBy operation name (query_in request) request.body)
+  pub why : NamesBadUser (query_in request) ⊎ (¬ AreGivenOnce (query_in request) ⊎ AsksNothingBy operation name (query_in request) request.body)
 
 -- the meaning of a request: a call and its user, or why there is none; memory may run out for any request
 abbrev pub Says : Message → Result (List ℕ × KmsCall) RestFault → Type 0
-Says request (Ok asked) = Asks request asked.0 asked.1
+Says request (Ok asked) = AsksCall request asked.0 asked.1
 Says request (Err fault.NoRoute) = HasNoRoute (path_of request.target)
 Says request (Err fault.BadMethod) = HasBadMethod request.method (path_of request.target)
 Says request (Err fault.NoUser) = HasNoUser request

@@ -1,33 +1,33 @@
 -- The rows of the service's router: those that its routes give, and the same rows written out.
 use Rattle.std.specs.Prelude.{ℕ, List, [], ◌∷◌, ◌++◌, codes}
 use Rattle.matchit.specs.Router.{RouteOf}
-use Rattle.path_routes.specs.Routes.{Table, with_route}
+use Rattle.path_routes.specs.Routes.{RouteTable, with_route}
 use Rattle.kms_rest.specs.Places.{before, after}
 use Rattle.kms_rest.specs.declared.place.Place.{Place}
 use Rattle.kms_rest.specs.declared.place.Place.TheVariants as at
 
-abbrev pub with_keys : Table Place → Table Place
+abbrev pub with_keys : RouteTable Place → RouteTable Place
 with_keys rows =
     with_route (codes "/kms/v1/key/{k}/_metadata") at.KeyMetadata
     (with_route (codes "/kms/v1/key/{k}/_invalidatecache") at.KeyInvalidate
     (with_route (codes "/kms/v1/key/{k}") at.Key
     (with_route (codes "/kms/v1/keys") at.Keys rows)))
 
-abbrev pub with_calls_of_a_key : Table Place → Table Place
+abbrev pub with_calls_of_a_key : RouteTable Place → RouteTable Place
 with_calls_of_a_key rows =
     with_route (codes "/kms/v1/key/{k}/_reencryptbatch") at.KeyBatch
     (with_route (codes "/kms/v1/key/{k}/_eek") at.KeyEek
     (with_route (codes "/kms/v1/key/{k}/_versions") at.KeyVersions
     (with_route (codes "/kms/v1/key/{k}/_currentversion") at.KeyCurrent rows)))
 
-abbrev pub with_versions_and_names : Table Place → Table Place
+abbrev pub with_versions_and_names : RouteTable Place → RouteTable Place
 with_versions_and_names rows =
     with_route (codes "/kms/v1/keys/metadata") at.Metadatas
     (with_route (codes "/kms/v1/keys/names") at.Names
     (with_route (codes "/kms/v1/keyversion/{v}/_eek") at.VersionEek
     (with_route (codes "/kms/v1/keyversion/{v}") at.Version rows)))
 
-abbrev pub table : Table Place
+abbrev pub table : RouteTable Place
 table = with_versions_and_names (with_calls_of_a_key (with_keys []))
 
 -- a row with this pattern, of a route of this text
@@ -49,6 +49,6 @@ row_of at.Names = row (before at.Names) (codes "/kms/v1/keys/names") [] at.Names
 row_of at.Metadatas = row (before at.Metadatas) (codes "/kms/v1/keys/metadata") [] at.Metadatas
 
 -- the rows in order
-abbrev pub written : Table Place
+abbrev pub written : RouteTable Place
 written =
     row_of at.KeyCurrent ∷ row_of at.KeyEek ∷ row_of at.KeyInvalidate ∷ row_of at.KeyMetadata ∷ row_of at.KeyBatch ∷ row_of at.KeyVersions ∷ row_of at.Key ∷ row_of at.Metadatas ∷ row_of at.Names ∷ row_of at.Keys ∷ row_of at.VersionEek ∷ row_of at.Version ∷ []

@@ -13,7 +13,7 @@ use std::alloc::Global;
 
 /// Returns whether `eek_op` and `num_keys` occur at most once.
 pub(crate) fn is_single(query: &Query) -> bool
-    ensures { MatchBool result (spec.IsSingle query.now) (¬ spec.IsSingle query.now) }
+    ensures { MatchBool result (spec.AreGivenOnce query.now) (¬ spec.AreGivenOnce query.now) }
 {
     if let Given::Repeated = query.given(b"eek_op") {
         return false;
@@ -67,8 +67,8 @@ fn read_count(text: &[u8]) -> Option<u32>
 /// Returns the number of keys that `num_keys` asks for: one if it is absent, `None` if it is not a
 /// number.
 pub(crate) fn count(query: &Query) -> Option<u32>
-    ensures { MatchOption result ((count : ℕ) → ¬ spec.Counts (spec.count_values query.now) count)
-        (spec.Counts (spec.count_values query.now)) }
+    ensures { MatchOption result ((count : ℕ) → ¬ spec.CountsKeys (spec.count_values query.now) count)
+        (spec.CountsKeys (spec.count_values query.now)) }
 {
     match query.given(b"num_keys") {
         Given::Absent => Some(1),

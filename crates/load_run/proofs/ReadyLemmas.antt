@@ -10,11 +10,11 @@ use Rattle.name_store.specs.Table.{next_opening as next_opening_of_names}
 use Rattle.prop_text.specs.declared.lines.PropLine.{PropLine}
 use Rattle.prop_text.specs.SizeValues.{SizeValues}
 use Rattle.world_run.specs.Acknowledged.{also}
-use Rattle.world_run.specs.Keeps.{Begins, Steps}
+use Rattle.world_run.specs.Keeps.{BeginsFirstWorld, Steps}
 use Rattle.world_run.specs.Ready.{IsReady}
 use Rattle.world_run.specs.World.{RunningWorld}
 
-pub ready_at_start : (sizes : SizeValues) (lines : List PropLine) (old new : DiskState) (r : RunningWorld) → Tells old → Begins sizes old new r → AreListsOf r.keys.acls lines → IsReady lines new r
+pub ready_at_start : (sizes : SizeValues) (lines : List PropLine) (old new : DiskState) (r : RunningWorld) → Tells old → BeginsFirstWorld sizes old new r → AreListsOf r.keys.acls lines → IsReady lines new r
 ready_at_start sizes lines old new r telling begins lists =
     let logs = begins.log telling in record {
       lists = lists;

@@ -13,7 +13,7 @@ use Rattle.name_store.specs.Store.{IsNameLog}
 use Rattle.name_store.specs.Replay.{name_replay}
 use Rattle.name_store.specs.Table.{Replayed, nothing_logged}
 use Rattle.prop_text.specs.SizeValues.{SizeValues}
-use Rattle.world_run.specs.Keeps.{Begins}
+use Rattle.world_run.specs.Keeps.{BeginsFirstWorld}
 use Rattle.world_run.specs.World.{RunningWorld, first_world, world_of}
 
 -- a log without payloads has no records
@@ -39,7 +39,7 @@ names_found bytes ops made empty log =
     let found = subst (λ (bs : List ℕ). log_of 1 bs ≡ Found (map spelling ops) log.gate) empty log.found in
     names_replayed ops made (none_replayed (map spelling ops) log.gate found) log.makes
 
-pub first_of_empty : (sizes : SizeValues) (old new : DiskState) (r : RunningWorld) → Tells old → old.reads 0 ≡ [] → old.reads 1 ≡ [] → Begins sizes old new r → world_of r ≡ first_world sizes no_keys nothing_logged.table
+pub first_of_empty : (sizes : SizeValues) (old new : DiskState) (r : RunningWorld) → Tells old → old.reads 0 ≡ [] → old.reads 1 ≡ [] → BeginsFirstWorld sizes old new r → world_of r ≡ first_world sizes no_keys nothing_logged.table
 first_of_empty sizes old new r telling no_key_log no_edit_log begins =
     let logs = begins.log telling in
     begins.first

@@ -1,7 +1,7 @@
 -- Tasks that were done one after another, and what is counted of them.
 use Rattle.std.specs.Prelude.{◌≡◌, ℕ, ⊤, Bool, true, false, ◌||◌, List, [], ◌∷◌, ◌++◌, Option, None, Some}
 use Rattle.hk_events.specs.declared.event.Event.{Event}
-use Rattle.world_run.specs.Drives.{Course, Leading, Passed, Standing, standing_after}
+use Rattle.world_run.specs.Drives.{Course, Passed, Standing, WorldLeading, standing_after}
 use Rattle.load_run.specs.declared.counts.Counts.{Counts}
 use Rattle.load_run.specs.declared.task.Task.{Task}
 use Rattle.load_run.specs.Answers.{is_refused, lacks}
@@ -17,7 +17,7 @@ event_after t [] = Some (first_event t)
 event_after t (p ∷ earlier) = next_event t p.answer
 
 -- each event follows the answer before it, and leads on from what that left
-abbrev pub IsCourseOf : {D W : Type 0} → Leading D W → Task → Standing D W → Course D W → Type 0
+abbrev pub IsCourseOf : {D W : Type 0} → WorldLeading D W → Task → Standing D W → Course D W → Type 0
 IsCourseOf leads t a [] = ⊤
 IsCourseOf leads t a (p ∷ earlier) =
     (event_after t earlier ≡ Some p.event) × leads (standing_after a earlier) p.event p.answer p.after × IsCourseOf leads t a earlier
@@ -45,7 +45,7 @@ course_of d = d.last ∷ d.earlier
 
 -- From this standing all events of the task happened, and no more. None was answered want of memory or a store fault, and a
 -- re-encryption was completed without a failure.
-pub record IsDone {D W : Type 0} (leads : Leading D W) (a : Standing D W) (d : Done D W) : Type 0 where
+pub record IsTaskDone {D W : Type 0} (leads : WorldLeading D W) (a : Standing D W) (d : Done D W) : Type 0 where
   pub is_course : IsCourseOf leads d.task a (course_of d)
   pub none_follows : next_event d.task d.last.answer ≡ None
   pub none_lacks : NoneLacks (course_of d)
@@ -56,46 +56,46 @@ abbrev pub counted : {D W : Type 0} → Done D W → Counts → Counts
 counted d c = with_refused d.task (refused_in (course_of d)) (with_answer d.task d.last.answer c)
 
 -- The task was done, from one standing to another, and these are the counts before and after it.
-pub record DoesTask {D W : Type 0} (leads : Leading D W) (t : Task) (a : Standing D W) (counts counts' : Counts) (b : Standing D W) : Type 0 where
+pub record DoesTask {D W : Type 0} (leads : WorldLeading D W) (t : Task) (a : Standing D W) (counts counts' : Counts) (b : Standing D W) : Type 0 where
   pub done : Done D W
   pub task_is : done.task ≡ t
-  pub is_done : IsDone leads a done
+  pub is_done : IsTaskDone leads a done
   pub last : done.last.after ≡ b
   pub counts_are : counts' ≡ counted done counts
 
 -- ---- tasks one after another, the newest first
 
-abbrev pub History : Type 0 → Type 0 → Type 0
-History D W = List (Done D W)
+abbrev pub LoadHistory : Type 0 → Type 0 → Type 0
+LoadHistory D W = List (Done D W)
 
 -- what a history leaves
-abbrev pub standing_at : {D W : Type 0} → Standing D W → History D W → Standing D W
+abbrev pub standing_at : {D W : Type 0} → Standing D W → LoadHistory D W → Standing D W
 standing_at a [] = a
 standing_at a (d ∷ earlier) = d.last.after
 
-abbrev pub AreDone : {D W : Type 0} → Leading D W → Standing D W → History D W → Type 0
+abbrev pub AreDone : {D W : Type 0} → WorldLeading D W → Standing D W → LoadHistory D W → Type 0
 AreDone leads a [] = ⊤
-AreDone leads a (d ∷ earlier) = IsDone leads (standing_at a earlier) d × AreDone leads a earlier
+AreDone leads a (d ∷ earlier) = IsTaskDone leads (standing_at a earlier) d × AreDone leads a earlier
 
 -- the tasks of a history, in the order in which they were done
-abbrev pub tasks_in : {D W : Type 0} → History D W → List Task
+abbrev pub tasks_in : {D W : Type 0} → LoadHistory D W → List Task
 tasks_in [] = []
 tasks_in (d ∷ earlier) = tasks_in earlier ++ d.task ∷ []
 
-abbrev pub counts_in : {D W : Type 0} → History D W → Counts
+abbrev pub counts_in : {D W : Type 0} → LoadHistory D W → Counts
 counts_in [] = no_counts
 counts_in (d ∷ earlier) = counted d (counts_in earlier)
 
 -- These tasks were done one after another, from one standing to another, and these are their counts.
-pub record DoesAll {D W : Type 0} (leads : Leading D W) (todo : List Task) (a : Standing D W) (counts : Counts) (b : Standing D W) : Type 0 where
-  pub history : History D W
+pub record DoesAll {D W : Type 0} (leads : WorldLeading D W) (todo : List Task) (a : Standing D W) (counts : Counts) (b : Standing D W) : Type 0 where
+  pub history : LoadHistory D W
   pub tasks_are : tasks_in history ≡ todo
   pub done : AreDone leads a history
   pub last : standing_at a history ≡ b
   pub counts_are : counts ≡ counts_in history
 
 -- They were done, and these random words are left.
-pub record DoesInto {D W : Type 0} (leads : Leading D W) (todo : List Task) (a : Standing D W) (counts : Counts) (words : W) : Type 0 where
+pub record DoesInto {D W : Type 0} (leads : WorldLeading D W) (todo : List Task) (a : Standing D W) (counts : Counts) (words : W) : Type 0 where
   pub last : Standing D W
   pub does : DoesAll leads todo a counts last
   pub words_left : last.words ≡ words

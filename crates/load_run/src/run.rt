@@ -2,7 +2,7 @@
 ghost use Rattle.std.specs.Prelude.{◌≡◌, ◌⊎◌, ◌||◌, [], false, true, codes, IfOk};
 ghost use Rattle.disk_kinds.specs.Plain.{contents};
 ghost use Rattle.hk_base.specs.Faults.{Rose};
-ghost use Rattle.command_io.specs.Ends.{Shows};
+ghost use Rattle.command_io.specs.Ends.{ShowsWith};
 ghost use Rattle.world_run.specs.Drives.{Leads};
 ghost use Rattle.world_run.specs.Ready.{IsReady};
 ghost use Rattle.load_run.specs.Answers.{is_refused, lacks};
@@ -215,8 +215,8 @@ fn load<W: Words>(alloc: Global, count: u32, rand: &mut W) -> Result<Counts, NoM
 /// Writes the line of a load. Returns 0; or 6 if allocation fails, after a line that says so; or 8 if
 /// the output fails.
 fn show_counts<K: Sink>(alloc: Global, count: u32, counts: Counts, out: &mut K) -> u8
-    ensures shows { Shows (load_line count counts) 0 (K.written out.old) (K.written out.new)
-        result ⊎ Shows (codes "no memory\n") 6 (K.written out.old) (K.written out.new) result }
+    ensures shows { ShowsWith (load_line count counts) 0 (K.written out.old) (K.written out.new)
+        result ⊎ ShowsWith (codes "no memory\n") 6 (K.written out.old) (K.written out.new) result }
     ensures write { result ≡ 8 → Rose (K.faults out.old) (K.faults out.new) }
 {
     match load_line(alloc, count, counts) {

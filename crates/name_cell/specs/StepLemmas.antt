@@ -12,9 +12,9 @@ use Rattle.reenc_update.specs.Replies.{ReplyState}
 use Rattle.hist_cell.specs.History.{IsIn, Meets}
 use Rattle.kms_cell.specs.Entries.{KmsKnown}
 use Rattle.kms_cell.specs.declared.acts.KmsAct.{KmsAct}
-use Rattle.name_history.specs.Asked.{Answers, AnswersAsk, IsAlone}
+use Rattle.name_history.specs.Asked.{AnswersAsk, AnswersWant, IsAlone}
 use Rattle.name_history.specs.Served.{Got, GotForAsk, GotForBatch, IfWanted, Serves, ServesAsk, ServesBatch, act_wanted}
-use Rattle.name_history.specs.Steps.{Grows, NameAnswers, NameCan, NameDoes, NameKeeps, NameSteps, NameSuits, TakesPass}
+use Rattle.name_history.specs.Steps.{GrowsPass, NameAnswers, NameCan, NameDoes, NameKeeps, NameSteps, NameSuits, TakesPass}
 use Rattle.name_history.specs.Views.{NameView}
 use Rattle.name_history.specs.declared.acts.NameAct.{NameAct}
 use Rattle.name_history.specs.declared.acts.NameAct.TheVariants as act
@@ -26,7 +26,7 @@ module _ {D W : Type 0} where
   -- ---- what the kept pass shows
 
   -- of a finish without a reply: its ask wanted nothing
-  alone-wanted : (w : Want) (s t : KmsKnown D W) → Answers w None → IfWanted (λ (q : KmsAct) (r : KmsReply). Serves 0 q r s t) (act_wanted w) None
+  alone-wanted : (w : Want) (s t : KmsKnown D W) → AnswersWant w None → IfWanted (λ (q : KmsAct) (r : KmsReply). Serves 0 q r s t) (act_wanted w) None
   alone-wanted want.Nothing s t a = tt
   alone-wanted (want.Generate name) s t a = absurd a
   alone-wanted (want.Metadata name) s t a = absurd a
@@ -91,7 +91,7 @@ module _ {D W : Type 0} (state : D → DiskState) (to_come : W → ℕ → ℕ) 
   plain_step v v' q r can alone a = record {
     before = a.before;
     after = a.after;
-    grows = subst (Grows state to_come v.keys) (sym a.keys) (record { legal = a.legal; start = refl; begins = ([], append-nil v.keys.seen); ended = λ k i. i });
+    grows = subst (GrowsPass state to_come v.keys) (sym a.keys) (record { legal = a.legal; start = refl; begins = ([], append-nil v.keys.seen); ended = λ k i. i });
     keeps = alone-keeps v v' q can alone a.keys;
     does = a.does;
   }
@@ -100,7 +100,7 @@ module _ {D W : Type 0} (state : D → DiskState) (to_come : W → ℕ → ℕ) 
   meeting_step v m v' w q r suits took a = record {
     before = subst (λ (x : RunningNames). IsNames (service_of x)) (ap (λ (x : NameView D W). x.names) took.same) a.before;
     after = a.after;
-    grows = subst (Grows state to_come v.keys) (sym a.keys) (record {
+    grows = subst (GrowsPass state to_come v.keys) (sym a.keys) (record {
       legal = took.legal;
       start = took.meets.start;
       begins = took.meets.this;

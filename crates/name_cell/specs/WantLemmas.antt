@@ -27,7 +27,7 @@ use Rattle.name_core.proofs.KeepLemmas.{keeps-of, settled-next}
 use Rattle.hist_cell.specs.History.{Legal, LegalAfter, state_after}
 use Rattle.kms_cell.specs.Entries.{KmsKnown}
 use Rattle.kms_cell.specs.declared.acts.KmsAct.{KmsAct}
-use Rattle.name_history.specs.Asked.{Answers, AnswersAsk, HasNote, NameAllows, NameNeeds, ReturnsNote}
+use Rattle.name_history.specs.Asked.{AnswersAsk, AnswersWant, HasNote, NameAllows, NameNeeds, ReturnsNote}
 use Rattle.name_history.specs.Entries.{NameEntry}
 use Rattle.name_history.specs.Fronts.{has_front}
 use Rattle.name_history.specs.Served.{Got, GotForAsk, IfWanted, act_wanted}
@@ -159,7 +159,7 @@ module _ {D W : Type 0} (state : D → DiskState) (to_come : W → ℕ → ℕ) 
       go None is = tt
       go (Some q) is =
           let same : q.want ≡ a.0.want = want_of_note a.0 v es q legal a.1 (subst (λ (id : ℕ). open_ask (state_after v es).names.asks id ≡ Some q) a.2.id is) in
-          subst (λ (w : Want). Answers w answered.reply) (sym same) a.2.answers
+          subst (λ (w : Want). AnswersWant w answered.reply) (sym same) a.2.answers
   allowed_can v es (act.Walk zone) legal a = tt
   allowed_can v es (act.Deliver front reply) legal a = tt
 

@@ -25,7 +25,7 @@ use Rattle.name_calls.specs.declared.calls.NameReply.TheVariants.{Refused}
 use Rattle.name_calls.specs.declared.calls.NameRefusal.{NameRefusal}
 use Rattle.name_calls.specs.declared.calls.NameRefusal.TheVariants as refusal
 use Rattle.name_calls.specs.declared.status.Delivered.{Delivered}
-use Rattle.name_core.specs.State.{IsRising, NameService, NameState, next_id, settled}
+use Rattle.name_core.specs.State.{AreAsksRising, NameService, NameState, next_id, settled}
 use Rattle.name_core.specs.Asks.{Finishes, ask_gone, closed, finish_causes, finish_op, finished, open_ask, ask_opened, path_asked, unless_stopped, without}
 use Rattle.name_core.specs.Calls.{NameActs, Plain, NoRoom, causes, deed, done_with, early_causes, first_cause, numbered, path_causes, unless_refused}
 use Rattle.name_core.specs.Reads.{info_reply, path_of_zone, shown_at}
@@ -375,7 +375,7 @@ none-open : (asks : List OpenAsk) (id : ℕ) → AllByRecursion (λ (q : OpenAsk
 none-open [] id h = refl
 none-open (a ∷ asks) id h = ap (λ (t : Bool). cond t (Some a) (open_ask asks id)) (ne_eqb a.id id h.0) ∙ none-open asks id h.1
 
-gone-from : (asks : List OpenAsk) (id : ℕ) (a : OpenAsk) → IsRising asks → open_ask asks id ≡ Some a → open_ask (without asks a.id) id ≡ None
+gone-from : (asks : List OpenAsk) (id : ℕ) (a : OpenAsk) → AreAsksRising asks → open_ask asks id ≡ Some a → open_ask (without asks a.id) id ≡ None
 gone-from asks id a rising stands =
     subst (λ (i : ℕ). open_ask (without asks i) id ≡ None) (sym (open-id asks id a stands)) (none-open (without asks id) id (without-apart asks id rising))
 
@@ -387,7 +387,7 @@ answered-gone s id given result logged s' none serves =
 moved : (id : ℕ) (asks left : List OpenAsk) → left ≡ asks → open_ask asks id ≡ None → open_ask left id ≡ None
 moved id asks left is h = subst (λ (l : List OpenAsk). open_ask l id ≡ None) (sym is) h
 
-closes : (s : NameState) (id : ℕ) (result : Result (Unit {0}) NameRefusal) (s' : NameService) → IsRising s.asks → Finishing s id result s' → (result ≡ Err refusal.NoMemory → ⊥) → open_ask s'.names.asks id ≡ None
+closes : (s : NameState) (id : ℕ) (result : Result (Unit {0}) NameRefusal) (s' : NameService) → AreAsksRising s.asks → Finishing s id result s' → (result ≡ Err refusal.NoMemory → ⊥) → open_ask s'.names.asks id ≡ None
 closes s id result s' rising (Wanting wants h) room = absurd (room wants)
 closes s id result s' rising (Gone none h) room = moved id s.asks s'.names.asks h.onward.asks none
 closes s id result s' rising (Closed a stands gone rises keeps) room = moved id (without s.asks a.id) s'.names.asks gone (gone-from s.asks id a rising stands)
@@ -466,7 +466,7 @@ past-steps : (id : ℕ) (s : NameService) (between : List NameService) (t : Name
 past-steps id s [] t is past = subst (IsPast id) (sym is) past
 past-steps id s (m ∷ ms) t steps past = past-steps id m ms t steps.1 (past-step id s m steps.0 past)
 
-past-end : (s : NameState) (id : ℕ) (result : Result (Unit {0}) NameRefusal) (s' : NameService) → IsRising s.asks → id < next_id s → Finishing s id result s' → (result ≡ Err refusal.NoMemory → ⊥) → IsPast id s'
+past-end : (s : NameState) (id : ℕ) (result : Result (Unit {0}) NameRefusal) (s' : NameService) → AreAsksRising s.asks → id < next_id s → Finishing s id result s' → (result ≡ Err refusal.NoMemory → ⊥) → IsPast id s'
 past-end s id result s' rising low (Wanting wants h) room = absurd (room wants)
 past-end s id result s' rising low (Gone none h) room = record { gone = moved id s.asks s'.names.asks h.onward.asks none; low = let r = h.onward.rises in omega (arith, low, r); keeps = h.keeps }
 past-end s id result s' rising low (Closed a stands gone rises keeps) room =

@@ -21,7 +21,7 @@ use Rattle.name_calls.specs.declared.calls.Ask.TheVariants as ask
 use Rattle.name_store.specs.Causes.{first_cause, submit_causes, zone_causes}
 use Rattle.name_store.specs.Table.{key_of_zone}
 use Rattle.name_store.proofs.CauseLemmas.{clear, none-of-both}
-use Rattle.name_core.specs.State.{IdsFit, IsRising, NameState, is_spent}
+use Rattle.name_core.specs.State.{AreAsksRising, IdsFit, NameState, is_spent}
 use Rattle.name_core.specs.Asks.{ask_causes, open_ask, without}
 use Rattle.name_core.specs.Calls.{is_superuser, path_causes}
 use Rattle.name_core.specs.Steps.{AreKeyed}
@@ -116,21 +116,21 @@ keyed-insert es q h k = subst (λ (put : List (ℕ × OpenAsk)). AreKeyed put) (
 
 -- the order of those that remain
 
-rising-cond : (t : Bool) (xs ys : List OpenAsk) → IsRising xs → IsRising ys → IsRising (cond t xs ys)
+rising-cond : (t : Bool) (xs ys : List OpenAsk) → AreAsksRising xs → AreAsksRising ys → AreAsksRising (cond t xs ys)
 rising-cond true xs ys h k = h
 rising-cond false xs ys h k = k
 
-pub rising-without : (asks : List OpenAsk) (id : ℕ) → IsRising asks → IsRising (without asks id)
+pub rising-without : (asks : List OpenAsk) (id : ℕ) → AreAsksRising asks → AreAsksRising (without asks id)
 rising-without [] id r = tt
 rising-without (a ∷ asks) id r =
     rising-cond (a.id == id) asks (a ∷ without asks id) r.1 (each-without (λ (b : OpenAsk). a.id < b.id) asks id r.0, rising-without asks id r.1)
 
-pub rising-append : (asks : List OpenAsk) (q : OpenAsk) → IsRising asks → AllByRecursion (λ (a : OpenAsk). a.id < q.id) asks → IsRising (asks ++ q ∷ [])
+pub rising-append : (asks : List OpenAsk) (q : OpenAsk) → AreAsksRising asks → AllByRecursion (λ (a : OpenAsk). a.id < q.id) asks → AreAsksRising (asks ++ q ∷ [])
 rising-append [] q r h = (tt, tt)
 rising-append (a ∷ asks) q r h = (each-append (λ (b : OpenAsk). a.id < b.id) asks q r.0 h.0, rising-append asks q r.1 h.1)
 
 -- the asks that remain have another id
-pub without-apart : (asks : List OpenAsk) (id : ℕ) → IsRising asks → AllByRecursion (λ (q : OpenAsk). q.id ≡ id → ⊥) (without asks id)
+pub without-apart : (asks : List OpenAsk) (id : ℕ) → AreAsksRising asks → AllByRecursion (λ (q : OpenAsk). q.id ≡ id → ⊥) (without asks id)
 without-apart [] id r = tt
 without-apart (a ∷ asks) id r = go (a.id == id) refl (without-apart asks id r.1)
   where

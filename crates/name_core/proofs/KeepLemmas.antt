@@ -12,14 +12,14 @@ use Rattle.edit_ops.specs.declared.ops.EditOp.{EditOp}
 use Rattle.edit_ops.specs.declared.ops.EditOp.TheVariants as op
 use Rattle.name_store.specs.Causes.{id_at}
 use Rattle.name_store.specs.Replay.{AllBelow}
-use Rattle.name_store.specs.Store.{IsPending, IsStore, is_opening}
+use Rattle.name_store.specs.Store.{IsPendingOperation, IsStore, is_opening}
 use Rattle.name_store.specs.Table.{NameTable, after_table, is_among, new_directory, new_file, settled_table, uses, with_edeks}
 use Rattle.reenc_walk.specs.Walks.{WalkState}
 use Rattle.name_core.specs.declared.asks.OpenAsk.{OpenAsk}
 use Rattle.name_core.specs.State.{AreFree, AreRecent, IdsFit, IsNames, IsWaiting, NameService, NameState, RunningNames, WalksOnce, next_id, service_of, settled, took}
 use Rattle.name_core.specs.Asks.{closed}
 use Rattle.name_core.specs.Calls.{done_with}
-use Rattle.name_core.specs.Steps.{IsApart, IsBehind, Keeps}
+use Rattle.name_core.specs.Steps.{IsBehind, IsPendingApart, Keeps}
 use Rattle.name_core.proofs.AskLemmas.{each-append, each-map, each-without, fit-ask, fit-without, free-put, kind-below, kind-free, moved-below, moved-free}
 use Rattle.name_core.proofs.AllowedLemmas.{fit-rise, not-among}
 use Rattle.name_core.proofs.RowLemmas.{BelowId, all-put}
@@ -163,12 +163,12 @@ module _ (s left : NameState) (o : EditOp) (may : IsBehind s o left) where
 pub settled-took : (s : NameState) (o : EditOp) → settled true (record { names = s; pending = Some o }) ≡ took s o
 settled-took s o = refl
 
-pub settled-opening : (kept : Bool) (pending : Option EditOp) (s : NameState) (t : NameTable) → IfSome pending (IsApart s) → (settled_table kept pending t).opening ≡ t.opening
+pub settled-opening : (kept : Bool) (pending : Option EditOp) (s : NameState) (t : NameTable) → IfSome pending (IsPendingApart s) → (settled_table kept pending t).opening ≡ t.opening
 settled-opening kept None s t h = refl
 settled-opening true (Some o) s t h = same-opening t o h.no_opening
 settled-opening false (Some o) s t h = refl
 
-settled-ids : (kept : Bool) (pending : Option EditOp) (s : NameState) → IfSome pending (IsApart s) → IdsFit s.table.rows s.asks (next_id s) → IdsFit (settled_table kept pending s.table).rows s.asks (next_id s)
+settled-ids : (kept : Bool) (pending : Option EditOp) (s : NameState) → IfSome pending (IsPendingApart s) → IdsFit s.table.rows s.asks (next_id s) → IdsFit (settled_table kept pending s.table).rows s.asks (next_id s)
 settled-ids kept None s h fit = fit
 settled-ids true (Some o) s h fit = fit-op s.table o s.asks (next_id s) h.no_opening h.below h.free fit
 settled-ids false (Some o) s h fit = fit
@@ -194,7 +194,7 @@ keeps-closed s id k = record {
   waits = go s.pending k.waits;
 }
   where
-    go : (pending : Option EditOp) → IfSome pending (IsApart s.names) → IfSome pending (IsApart (closed s.names id))
+    go : (pending : Option EditOp) → IfSome pending (IsPendingApart s.names) → IfSome pending (IsPendingApart (closed s.names id))
     go None h = tt
     go (Some o) h = record { no_opening = h.no_opening; below = h.below; free = each-without (λ (a : OpenAsk). is_among (uses o) a.id ≡ false) s.names.asks id h.free }
 
@@ -213,7 +213,7 @@ keeps-asked s q is left k = record {
   waits = go s.pending k.waits;
 }
   where
-    go : (pending : Option EditOp) → IfSome pending (IsApart s.names) → IfSome pending (IsApart (with_ask s.names q))
+    go : (pending : Option EditOp) → IfSome pending (IsPendingApart s.names) → IfSome pending (IsPendingApart (with_ask s.names q))
     go None h = tt
     go (Some o) h = record {
       no_opening = h.no_opening;
@@ -231,7 +231,7 @@ keeps_later s n later few k = record {
   waits = go s.pending k.waits;
 }
   where
-    go : (pending : Option EditOp) → IfSome pending (IsApart s.names) → IfSome pending (IsApart (record s.names { next = n }))
+    go : (pending : Option EditOp) → IfSome pending (IsPendingApart s.names) → IfSome pending (IsPendingApart (record s.names { next = n }))
     go None h = tt
     go (Some o) h = record { no_opening = h.no_opening; below = below-more (next_id s.names) (next_id (record s.names { next = n })) (omega (arith, later)) (uses o) h.below; free = h.free }
 
@@ -240,7 +240,7 @@ keeps_later s n later few k = record {
 pub keeps-walking : (s : NameService) (walks : List WalkState) → Keeps s → Keeps (record { names = record s.names { walks = walks }; pending = s.pending })
 keeps-walking s walks k = record { few = k.few; ids = k.ids; recent = k.recent; waits = go s.pending k.waits }
   where
-    go : (pending : Option EditOp) → IfSome pending (IsApart s.names) → IfSome pending (IsApart (record s.names { walks = walks }))
+    go : (pending : Option EditOp) → IfSome pending (IsPendingApart s.names) → IfSome pending (IsPendingApart (record s.names { walks = walks }))
     go None h = tt
     go (Some o) h = record { no_opening = h.no_opening; below = h.below; free = h.free }
 
@@ -257,7 +257,7 @@ keeps-started r next asks none earlier =
 
 -- with the rules of its store, it is a namesystem
 
-waiting : (pending : Option EditOp) (s : NameState) → IfSome pending (IsPending s.table) → IfSome pending (IsApart s) → IfSome pending (IsWaiting s)
+waiting : (pending : Option EditOp) (s : NameState) → IfSome pending (IsPendingOperation s.table) → IfSome pending (IsPendingApart s) → IfSome pending (IsWaiting s)
 waiting None s h k = tt
 waiting (Some o) s h k = record { pending = h; below = k.below; free = k.free }
 
@@ -273,7 +273,7 @@ is-names r store some most k once = record {
   size = (some, most);
 }
 
-apart-of : (pending : Option EditOp) (s : NameState) → IfSome pending (IsWaiting s) → IfSome pending (IsApart s)
+apart-of : (pending : Option EditOp) (s : NameState) → IfSome pending (IsWaiting s) → IfSome pending (IsPendingApart s)
 apart-of None s h = tt
 apart-of (Some o) s h = record { no_opening = h.pending.no_opening; below = h.below; free = h.free }
 

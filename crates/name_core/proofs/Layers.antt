@@ -25,7 +25,7 @@ use Rattle.name_core.specs.Updating.{OwnOfUpdate}
 use Rattle.name_core.specs.declared.walks.Walked.{Walked}
 use Rattle.reenc_update.specs.declared.changes.Changes.{Changes}
 use Rattle.reenc_update.specs.Changes.{all_failed, changes_of}
-use Rattle.reenc_update.specs.Replies.{Fits, ReplyState}
+use Rattle.reenc_update.specs.Replies.{FitsSent, ReplyState}
 use Rattle.reenc_walk.specs.declared.sent.BatchNote.{BatchNote}
 use Rattle.name_calls.specs.declared.status.Delivered.{Delivered}
 use Rattle.name_core.proofs.AskLemmas.{each-append}
@@ -117,7 +117,7 @@ by_update s note changes o opened may logs = go (is_outstanding s note) refl log
     go true is logs = let same : update_op s note changes ≡ o = cc in subst (Writable s) same (allowed-update s note changes opened (may is), refl)
     go false is logs = absurd cc
 
-pub own_of_delivery : (s : NameService) (reply : ReplyState) (answer : Result Delivered NameRefusal) (s' : NameService) (kept : Bool) (o : EditOp) → IsNames s → Fits reply.note.sent reply.result
+pub own_of_delivery : (s : NameService) (reply : ReplyState) (answer : Result Delivered NameRefusal) (s' : NameService) (kept : Bool) (o : EditOp) → IsNames s → FitsSent reply.note.sent reply.result
     → OwnOfUpdate s (deliver_deed reply) answer s' kept o → Writable (settled kept s) o
 own_of_delivery s reply answer s' kept o n fits own =
     let t = settled kept s in

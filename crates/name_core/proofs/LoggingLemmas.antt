@@ -7,7 +7,7 @@ use Rattle.hk_base.specs.Faults.{Rose}
 use Rattle.hk_base.proofs.Runs.{begin, compose, weaker}
 use Rattle.edit_ops.specs.declared.ops.EditOp.{EditOp}
 use Rattle.name_store.specs.Replay.{AllBelow, Applies, name_replay}
-use Rattle.name_store.specs.Store.{Commits, IsLeftOf, IsWritten, NothingMore, SettlesNames, made_with}
+use Rattle.name_store.specs.Store.{CommitsOperation, IsLeftOf, IsWritten, NothingMore, SettlesNames, made_with}
 use Rattle.name_store.specs.Store as store
 use Rattle.name_store.specs.Table.{Replayed, after, applies, is_among, is_fresh, kept_op, nothing_logged, settled_log, settled_ops, settled_used, uses}
 use Rattle.reenc_walk.specs.declared.sent.Sent.{Sent}
@@ -15,7 +15,7 @@ use Rattle.reenc_walk.specs.Walks.{WalkState}
 use Rattle.name_core.specs.declared.asks.OpenAsk.{OpenAsk}
 use Rattle.name_core.specs.State.{AreFree, NameService, NameState, RunningNames, IsNamesystemOf, names_of, next_id, service_of, settled, settled_walks}
 use Rattle.name_core.specs.Asks.{without}
-use Rattle.name_core.specs.Steps.{Grows, Growing, IsApart, IsUnsettled, Keeps, Leaving, Logging, MayWrite, Settling, walks_with}
+use Rattle.name_core.specs.Steps.{Grows, Growing, IsPendingApart, IsUnsettled, Keeps, Leaving, Logging, MayWrite, Settling, walks_with}
 use Rattle.name_core.proofs.AskLemmas.{each-without}
 use Rattle.name_core.proofs.KeepLemmas.{below-more, ids-rise, keeps-settled, settled-next}
 
@@ -162,7 +162,7 @@ free-settled false o used asks h k = k
 
 -- an operation was committed, or it wasn't
 pub committed : (old new : DiskState) (r t : RunningNames) (left : NameState) (o : EditOp) (written : Bool) → MayWrite (names_of r) o left → next_id (names_of t) ≡ next_id left → t.asks ≡ left.asks
-    → Commits old new r.store o written t.store → Logging old new r t (Growing r (λ own. own ≡ o)) (settled_ops written (Some o))
+    → CommitsOperation old new r.store o written t.store → Logging old new r t (Growing r (λ own. own ≡ o)) (settled_ops written (Some o))
 committed old new r t left o written may next_is asks_are k = record {
   stands = λ telling ops s. record {
     used = settled_used written (Some o) s.used;
@@ -187,11 +187,11 @@ committed old new r t left o written may next_is asks_are k = record {
 
 -- the pending operation was settled
 
-below-pending : (kept : Bool) (pending : Option EditOp) (s : NameState) (used : List ℕ) → IfSome pending (IsApart s) → AllBelow (next_id s) used → AllBelow (next_id s) (settled_used kept pending used)
+below-pending : (kept : Bool) (pending : Option EditOp) (s : NameState) (used : List ℕ) → IfSome pending (IsPendingApart s) → AllBelow (next_id s) used → AllBelow (next_id s) (settled_used kept pending used)
 below-pending kept None s used h k = k
 below-pending kept (Some o) s used h k = below-settled (next_id s) kept o used h.below k
 
-free-pending : (kept : Bool) (pending : Option EditOp) (s : NameState) (used : List ℕ) → IfSome pending (IsApart s) → AreFree used s.asks → AreFree (settled_used kept pending used) s.asks
+free-pending : (kept : Bool) (pending : Option EditOp) (s : NameState) (used : List ℕ) → IfSome pending (IsPendingApart s) → AreFree used s.asks → AreFree (settled_used kept pending used) s.asks
 free-pending kept None s used h k = k
 free-pending kept (Some o) s used h k = free-settled kept o used s.asks h.free k
 
@@ -232,7 +232,7 @@ settles old new r t answer keeps beside moments run k walks = record {
     is : service_of t ≡ record { names = settled k.kept (service_of r); pending = None }
     is = λ i. record { names = record { table = k.table i; next = (beside i).next; asks = (beside i).asks; walks = walks_are i; updating = (beside i).updating; batch = (beside i).batch }; pending = k.none i }
 
-pub unsettled : (old new : DiskState) (r t : RunningNames) → t ≡ r → Moments old new r → RunOn 1 old new → store.Unsettled old new r.store t.store → IsUnsettled old new r t
+pub unsettled : (old new : DiskState) (r t : RunningNames) → t ≡ r → Moments old new r → RunOn 1 old new → store.LeavesUnsettled old new r.store t.store → IsUnsettled old new r t
 unsettled old new r t same moments run k = record {
   waits = k.waits;
   failed = k.failed;

@@ -32,7 +32,7 @@ use Rattle.name_calls.specs.declared.calls.NameRefusal.{NameRefusal}
 use Rattle.name_calls.specs.declared.calls.NameRefusal.TheVariants as refusal
 use Rattle.name_calls.specs.declared.calls.NameReply.TheVariants as reply
 use Rattle.name_store.specs.Causes.{allowed_causes, directory_causes, disallow_causes, first_cause, id_at, id_of, is_root, kept_causes, make_causes, removal_causes, row_causes, unsnap_causes}
-use Rattle.name_store.specs.Table.{IsTable, NameTable, after_table, allows, ids_once, may_update, new_directory, new_file}
+use Rattle.name_store.specs.Table.{IsNameTable, NameTable, after_table, allows, ids_once, may_update, new_directory, new_file}
 use Rattle.name_store.proofs.CauseLemmas.{IsDisallowable, IsMarkable, allowed, clear, directory, disallowable, holds-none, makeable, markable, none-of-both, none-of-join, renamable}
 use Rattle.name_store.proofs.IdLemmas.{kind-id}
 use Rattle.name_store.proofs.RowLemmas.{directory-entry, entry-at}
@@ -338,7 +338,7 @@ among-without t p q name good r free = among-kept (λ (i : ℕ). not (i == id_at
 
 -- after each operation
 
-same-after : (t : NameTable) (o : EditOp) (p : List (List ℕ)) (name : List ℕ) → IsTable t → allows t o ≡ true → IsRead t p name → IsSame t (after_table t o) p
+same-after : (t : NameTable) (o : EditOp) (p : List (List ℕ)) (name : List ℕ) → IsNameTable t → allows t o ≡ true → IsRead t p name → IsSame t (after_table t o) p
 same-after t (op.Opened opening) p name good may r = same-rows t (after_table t (op.Opened opening)) p r.dir refl refl r.allowed
 same-after t (op.Mkdir id q) p name good may r =
     same-put t p (new_directory id q) r.dir r.allowed refl (makeable t.rows q (none-of-both (make_causes t.rows q) (row_causes t.rows) (allowed t (op.Mkdir id q) refl may).free).0).absent

@@ -15,7 +15,7 @@ use Rattle.inode_tree.specs.Rows.{Entry, IsRows, is_marked, is_zone_over, longer
 use Rattle.snap_store.specs.Snapshots.{Snapshot, is_named, snapshot_named, zone_depth}
 use Rattle.snap_store.proofs.Zones.{prefix-length}
 use Rattle.name_store.specs.Causes.{id_at, id_of}
-use Rattle.name_store.specs.Table.{IsTable, NameTable, path_of}
+use Rattle.name_store.specs.Table.{IsNameTable, NameTable, path_of}
 use Rattle.name_store.proofs.RowLemmas.{entry-at}
 use Rattle.name_core.specs.Reads.{path_of_zone, snapshot_rows, zone_in_or_above, zone_in_snapshot, zone_over}
 use Rattle.name_core.proofs.RowLemmas.{HoldsOf, zone-holds}
@@ -50,7 +50,7 @@ found P test (x ∷ taken) s all h = go (test x) refl (found P test taken s (All
 abbrev Keeps : List (List ℕ) → Entry → Type 0
 Keeps q e = is_relative (q ++ e.path) ≡ true
 
-whole-rows : (t : NameTable) (p : List (List ℕ)) (name : List ℕ) → IsTable t → is_some (row_at t.rows p) ≡ true → All (λ (e : Entry). is_relative (p ++ e.path) ≡ true) (snapshot_rows t p name)
+whole-rows : (t : NameTable) (p : List (List ℕ)) (name : List ℕ) → IsNameTable t → is_some (row_at t.rows p) ≡ true → All (λ (e : Entry). is_relative (p ++ e.path) ≡ true) (snapshot_rows t p name)
 whole-rows t p name good stands = go (snapshot_named t.snaps.taken (id_at t.rows p) name) refl
   where
     go : (o : Option Snapshot) → snapshot_named t.snaps.taken (id_at t.rows p) name ≡ o → All (Keeps p) (option_map_or (λ s. s.rows) o [])
@@ -89,7 +89,7 @@ pub record ZoneThere (t : NameTable) (p : List (List ℕ)) (part : SnapPart) (n 
   pub rule : is_relative (p ++ take n part.below) ≡ true
   pub zone : zone_in_snapshot t p part ≡ Some (p ++ take n part.below)
 
-pub zone-there : (t : NameTable) (p : List (List ℕ)) (part : SnapPart) (n : ℕ) → IsTable t → is_some (row_at t.rows p) ≡ true → Some n ≡ zone_depth (snapshot_rows t p part.name) part.below
+pub zone-there : (t : NameTable) (p : List (List ℕ)) (part : SnapPart) (n : ℕ) → IsNameTable t → is_some (row_at t.rows p) ≡ true → Some n ≡ zone_depth (snapshot_rows t p part.name) part.below
     → ZoneThere t p part n
 zone-there t p part n good stands h =
     go (zone_of (snapshot_rows t p part.name) part.below) refl (zone-prefix (snapshot_rows t p part.name) part.below)

@@ -15,7 +15,7 @@ use Rattle.name_store.specs.Table.{settled_ops}
 use Rattle.inode_tree.specs.Rows.{Entry}
 use Rattle.reenc_update.specs.declared.changes.Changes.{Changes}
 use Rattle.reenc_update.specs.Changes.{changes_of}
-use Rattle.reenc_update.specs.Replies.{Fits, ReplyState}
+use Rattle.reenc_update.specs.Replies.{FitsSent, ReplyState}
 use Rattle.reenc_walk.specs.declared.sent.BatchNote.{BatchNote}
 use Rattle.name_core.specs.State.{NameService, NameState, RunningNames, WalksOnce, names_of, service_of, settled}
 use Rattle.name_core.specs.Calls.{NoRoom, Plain, done_with}
@@ -181,7 +181,7 @@ delivery-wanting disk r reply note none same there =
     update-wanting disk r (deliver_deed reply) note changes none (delivery-deed s reply note s.table.rows changes same refl there refl)
 
 pub delivery-may : (s : NameState) (reply : ReplyState) (note : BatchNote) (rows : List Entry) (changes : Changes) → note ≡ reply.note → rows ≡ s.table.rows → is_outstanding s note ≡ true
-    → changes ≡ changes_of rows reply.note.zone reply.note.sent reply.result → WalksOnce s.walks → Fits reply.note.sent reply.result → MayUpdate s note changes
+    → changes ≡ changes_of rows reply.note.zone reply.note.sent reply.result → WalksOnce s.walks → FitsSent reply.note.sent reply.result → MayUpdate s note changes
 delivery-may s reply note rows changes same rows_are there is once fits =
     subst (λ (x : BatchNote × Changes). MayUpdate s x.0 x.1) (λ i. (sym same i, sym (is ∙ ap (λ (es : List Entry). changes_of es reply.note.zone reply.note.sent reply.result) rows_are) i))
     (may-deliver s reply.note reply.result once fits (ap (is_outstanding s) (sym same) ∙ there))

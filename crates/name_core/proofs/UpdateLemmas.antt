@@ -19,7 +19,7 @@ use Rattle.reenc_update.specs.declared.reply.BatchResult.{BatchResult}
 use Rattle.reenc_update.specs.declared.reply.BatchResult.TheVariants.{Refused, Ready}
 use Rattle.reenc_update.specs.declared.changes.Changes.{Changes}
 use Rattle.reenc_update.specs.Changes.{all_failed, changed, changes_of, has_edek, is_changed}
-use Rattle.reenc_update.specs.Replies.{Fits, ReplyState, are_of_keys}
+use Rattle.reenc_update.specs.Replies.{FitsSent, ReplyState, are_of_keys}
 use Rattle.zone_table.specs.declared.statuses.StatusRow.{StatusRow}
 use Rattle.zone_table.specs.Statuses.{goes_on, goes_on_under, session_goes_on, status_of}
 use Rattle.zone_table.proofs.StatusLists.{found-at}
@@ -174,7 +174,7 @@ going-under s note o =
     ap (λ (x : Option StatusRow). option_map_or (goes_on_under note.session) x false) o.found
     ∙ join (o.status.session == note.session) (goes_on o.status) (eq-eqb o.status.session note.session o.session_is) o.goes
 
-pub may-deliver : (s : NameState) (note : BatchNote) (result : BatchResult) → WalksOnce s.walks → Fits note.sent result → is_outstanding s note ≡ true
+pub may-deliver : (s : NameState) (note : BatchNote) (result : BatchResult) → WalksOnce s.walks → FitsSent note.sent result → is_outstanding s note ≡ true
     → MayUpdate s note (changes_of s.table.rows note.zone note.sent result)
 may-deliver s note Refused once fits h = (h, refl)
 may-deliver s note (Ready edeks) once fits h = (

@@ -29,7 +29,7 @@ use Rattle.name_core.specs.declared.walks.Walked.TheVariants as result
 use Rattle.name_core.specs.State.{NameService, NameState, RunningNames, WalksOnce, names_of, service_of, settled}
 use Rattle.name_core.specs.Calls.{NoRoom, Plain, done_with, path_causes}
 use Rattle.name_core.specs.Service.{Logs}
-use Rattle.name_core.specs.Steps.{Begins, Growing, IsAtEnd, IsUnsettled, Leaving, Logging, OwnWalk, Settling, Takes, TakesBatch, TakesNext, WalksSettled, Writes, outstanding_under, walk_answer}
+use Rattle.name_core.specs.Steps.{BeginsWalk, Growing, IsAtEnd, IsUnsettled, Leaving, Logging, OwnWalk, Settling, Takes, TakesBatch, TakesNext, WalksSettled, Writes, outstanding_under, walk_answer}
 use Rattle.name_core.specs.Walking.{NameWalks, OwnOfWalk, WalkActs, WalkGoes, WalkServesUnless, unless_not_walked, walk_logs}
 use Rattle.name_core.specs.Walks.{WalkDeed, deed_by_files, deed_by_status, going_on, is_walk_of, new_walk, none_left, or_new_walk, session_at, status_at, taken, walk_causes, walk_deed, walk_of, walk_under, with_walk}
 use Rattle.name_core.proofs.LoggingLemmas.{behind-settling, logging-growing, logging-leaving, rose_since, unchanged, walking}
@@ -335,13 +335,13 @@ walk-ended old new r t p session count written free end session_is count_is none
 
 -- the first batch of a walk is its next one
 pub next-new : (rows : List Entry) (zone size : ℕ) (st : StatusRow) (walks : List WalkState) (answer : Walk) (walks' : List WalkState) → None ≡ position (is_walk_of st.session) walks
-    → Begins rows zone size st walks answer walks' → TakesNext rows zone size st walks answer walks'
+    → BeginsWalk rows zone size st walks answer walks' → TakesNext rows zone size st walks answer walks'
 next-new rows zone size st walks answer walks' none b = go answer b
   where
     is : new_walk st ≡ walk_of walks st
     is = walk-new walks st (found-none (is_walk_of st.session) walks none)
 
-    go : (answer : Walk) → Begins rows zone size st walks answer walks' → TakesNext rows zone size st walks answer walks'
+    go : (answer : Walk) → BeginsWalk rows zone size st walks answer walks' → TakesNext rows zone size st walks answer walks'
     go (walk.Batch note) b = (
       subst (λ (w : WalkState). walk_list rows zone w.cursor ≢ []) is b.0,
       b.1 ∙ ap (note_of rows zone size) is,

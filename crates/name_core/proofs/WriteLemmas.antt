@@ -3,11 +3,11 @@ use Rattle.std.proofs.Common.{◌≡◌, [], Some, None, true, false, ap, sym, �
 use Rattle.hk_base.specs.Disk.{DiskState}
 use Rattle.hk_base.specs.Faults.{Rose}
 use Rattle.edit_ops.specs.declared.ops.EditOp.{EditOp}
-use Rattle.name_store.specs.Store.{Commits}
+use Rattle.name_store.specs.Store.{CommitsOperation}
 use Rattle.name_store.specs.Table.{NameTable, after_table}
 use Rattle.name_core.specs.State.{NameService, NameState, RunningNames, names_of, next_id, service_of, walks_after}
 use Rattle.name_core.specs.Calls.{done_with}
-use Rattle.name_core.specs.Steps.{Growing, IsDone, IsPendingNow, IsWanting, Keeps, Logging, MayWrite}
+use Rattle.name_core.specs.Steps.{Growing, IsOperationDone, IsPendingNow, IsWanting, Keeps, Logging, MayWrite}
 use Rattle.name_core.proofs.KeepLemmas.{keeps-done, keeps-pending, next-done}
 use Rattle.name_core.proofs.LoggingLemmas.{committed, unchanged}
 
@@ -22,10 +22,10 @@ pub record Committing (F : RunningNames → NameState) (r s t : RunningNames) (o
 
 -- the operation was written
 pub write-done : (F : RunningNames → NameState) (old new : DiskState) (r s t : RunningNames) (o : EditOp) → Committing F r s t o
-    → t.walks ≡ walks_after (F r).updating o (F r).walks → t.store.table ≡ after_table r.store.table o → t.store.log.pending ≡ None → Commits old new r.store o true t.store
-    → IsDone old new s (F s) o t × Keeps (service_of t)
+    → t.walks ≡ walks_after (F r).updating o (F r).walks → t.store.table ≡ after_table r.store.table o → t.store.log.pending ≡ None → CommitsOperation old new r.store o true t.store
+    → IsOperationDone old new s (F s) o t × Keeps (service_of t)
 write-done F old new r s t o c walks table pending k =
-    (subst (λ (x : RunningNames). IsDone old new x (F x) o t) c.same done, subst Keeps (sym is) (keeps-done (names_of r) (F r) o may.behind))
+    (subst (λ (x : RunningNames). IsOperationDone old new x (F x) o t) c.same done, subst Keeps (sym is) (keeps-done (names_of r) (F r) o may.behind))
   where
     may : MayWrite (names_of r) o (F r)
     may = subst (λ (x : RunningNames). MayWrite (names_of x) o (F x)) (sym c.same) c.may
@@ -36,12 +36,12 @@ write-done F old new r s t o c walks table pending k =
     is : service_of t ≡ record { names = done_with (Some o) (F r); pending = None }
     is = λ i. record { names = record { table = table_is i; next = c.next i; asks = c.asks i; walks = walks i; updating = c.updating i; batch = c.batch i }; pending = pending i }
 
-    done : IsDone old new r (F r) o t
+    done : IsOperationDone old new r (F r) o t
     done = record { service = is; disk = committed old new r t (F r) o true may (ap (λ (x : NameService). next_id x.names) is ∙ next-done (names_of r) (F r) o may.behind) c.asks k }
 
 -- the disk failed
 pub write-failed : (F : RunningNames → NameState) (old new : DiskState) (r s t : RunningNames) (o : EditOp) → Committing F r s t o
-    → t.walks ≡ (F r).walks → t.store.table ≡ r.store.table → t.store.log.pending ≡ Some o → Rose old.faults new.faults → Commits old new r.store o false t.store
+    → t.walks ≡ (F r).walks → t.store.table ≡ r.store.table → t.store.log.pending ≡ Some o → Rose old.faults new.faults → CommitsOperation old new r.store o false t.store
     → IsPendingNow old new s (F s) o t × Keeps (service_of t)
 write-failed F old new r s t o c walks table pending failed k =
     (subst (λ (x : RunningNames). IsPendingNow old new x (F x) o t) c.same waits, subst Keeps (sym is) (keeps-pending (names_of r) (F r) o may.behind))

@@ -27,7 +27,7 @@ use Rattle.zone_table.specs.Statuses.{status_of, zone_goes_on}
 use Rattle.edit_ops.specs.declared.ops.EditOp.{EditOp}
 use Rattle.edit_ops.specs.declared.ops.EditOp.TheVariants as op
 use Rattle.name_store.specs.Causes.{first_cause, id_at, unsnap_causes}
-use Rattle.name_store.specs.Table.{IsTable, NameTable, after_table, allows}
+use Rattle.name_store.specs.Table.{IsNameTable, NameTable, after_table, allows}
 use Rattle.name_calls.specs.declared.calls.Ask.{Ask}
 use Rattle.name_calls.specs.declared.calls.Ask.TheVariants as ask
 use Rattle.name_calls.specs.declared.calls.AskNote.{AskNote}
@@ -222,7 +222,7 @@ SnapshotsStay =
 abbrev pub SnapshotsTellTheSame : Type 0
 SnapshotsTellTheSame =
     (t : NameTable) (o : EditOp) (p : NPath) (name : Text) (below : NPath)
-    → IsTable t → allows t o ≡ true → removes_snapshot (id_at t.rows p) name t.rows o ≡ false → first_cause (unsnap_causes t.rows t.snaps p name) ≡ None
+    → IsNameTable t → allows t o ≡ true → removes_snapshot (id_at t.rows p) name t.rows o ≡ false → first_cause (unsnap_causes t.rows t.snaps p name) ≡ None
     → (info_answer (after_table t o) (as_it_was p name below) ≡ info_answer t (as_it_was p name below)) × (list_answer (after_table t o) (as_it_was p name below) ≡ list_answer t (as_it_was p name below))
 
 -- the pending operation does not remove the snapshot

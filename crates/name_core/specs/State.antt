@@ -7,9 +7,9 @@ use Rattle.inode_tree.specs.Rows.{Entry, entry_of}
 use Rattle.edit_ops.specs.declared.ops.EditOp.{EditOp}
 use Rattle.edit_ops.specs.declared.ops.EditOp.TheVariants as op
 use Rattle.name_store.specs.Causes.{has_most_rows}
-use Rattle.name_store.specs.Table.{IsTable, NameTable, after_table, is_among, next_opening, settled_table, uses}
+use Rattle.name_store.specs.Table.{IsNameTable, NameTable, after_table, is_among, next_opening, settled_table, uses}
 use Rattle.name_store.specs.Replay.{AllBelow}
-use Rattle.name_store.specs.Store.{IsPending, StoreState}
+use Rattle.name_store.specs.Store.{IsPendingOperation, StoreState}
 use Rattle.name_store.specs.Store as store
 use Rattle.reenc_walk.specs.declared.batches.WalkedBatch.{WalkedBatch}
 use Rattle.reenc_walk.specs.declared.sent.Sent.{Sent}
@@ -119,16 +119,16 @@ abbrev pub service_of : RunningNames → NameService
 service_of r = record { names = names_of r; pending = r.store.log.pending }
 
 -- ids rise from ask to ask
-abbrev pub IsRising : List OpenAsk → Type 0
-IsRising [] = ⊤
-IsRising (a ∷ asks) = AllByRecursion (λ (b : OpenAsk). a.id < b.id) asks × IsRising asks
+abbrev pub AreAsksRising : List OpenAsk → Type 0
+AreAsksRising [] = ⊤
+AreAsksRising (a ∷ asks) = AllByRecursion (λ (b : OpenAsk). a.id < b.id) asks × AreAsksRising asks
 
 -- ids of rows and of open asks are below the next one, ids rise from ask to ask, and no row has the id of an open ask
 pub record IdsFit (rows : List Entry) (asks : List OpenAsk) (next : ℕ) : Type 0 where
   pub of_rows : All (λ e. e.row.id < next) rows
   pub of_asks : AllByRecursion (λ (a : OpenAsk). a.id < next) asks
   pub free : AllByRecursion (λ (a : OpenAsk). entry_of rows a.id ≡ None) asks
-  pub rising : IsRising asks
+  pub rising : AreAsksRising asks
 
 -- open asks were made in this opening
 abbrev pub AreRecent : ℕ → List OpenAsk → Type 0
@@ -140,7 +140,7 @@ AreFree ids asks = AllByRecursion (λ (a : OpenAsk). is_among ids a.id ≡ false
 
 -- an operation that may be pending: the table allows it, its id is taken, and no open ask has it
 pub record IsWaiting (s : NameState) (op : EditOp) : Type 0 where
-  pub pending : IsPending s.table op
+  pub pending : IsPendingOperation s.table op
   pub below : AllBelow (next_id s) (uses op)
   pub free : AreFree (uses op) s.asks
 
@@ -149,7 +149,7 @@ pub record IsWaiting (s : NameState) (op : EditOp) : Type 0 where
 pub record IsNames (s : NameService) : Type 0 where
   pub opened : 0 < s.names.table.opening
   pub few : s.names.next ≤ 2 ^ 32
-  pub table : IsTable s.names.table
+  pub table : IsNameTable s.names.table
   pub ids : IdsFit s.names.table.rows s.names.asks (next_id s.names)
   pub recent : AreRecent s.names.table.opening s.names.asks
   pub waits : IfSome s.pending (IsWaiting s.names)

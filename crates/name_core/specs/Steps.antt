@@ -54,7 +54,7 @@ abbrev pub AreKeyed : List (ℕ × OpenAsk) → Type 0
 AreKeyed entries = AllByRecursion (λ (e : ℕ × OpenAsk). e.0 ≡ e.1.id) entries
 
 -- a pending operation is not an opening, its ids are taken, and no open ask has one
-pub record IsApart (s : NameState) (op : EditOp) : Type 0 where
+pub record IsPendingApart (s : NameState) (op : EditOp) : Type 0 where
   pub no_opening : is_opening op ≡ false
   pub below : AllBelow (next_id s) (uses op)
   pub free : AreFree (uses op) s.asks
@@ -65,7 +65,7 @@ pub record Keeps (s : NameService) : Type 0 where
   pub few : s.names.next ≤ 2 ^ 32
   pub ids : IdsFit s.names.table.rows s.names.asks (next_id s.names)
   pub recent : AreRecent s.names.table.opening s.names.asks
-  pub waits : IfSome s.pending (IsApart s.names)
+  pub waits : IfSome s.pending (IsPendingApart s.names)
 
 -- An operation, and the state that its call leaves apart from the effect of the operation: ids are in order after it.
 pub record IsBehind (s : NameState) (op : EditOp) (left : NameState) : Type 0 where
@@ -127,7 +127,7 @@ pub record IsUnsettled (old new : DiskState) (r r' : RunningNames) : Type 0 wher
   pub disk : Logging old new r r' (Leaving r NothingMore) []
 
 -- the operation was written and took effect
-pub record IsDone (old new : DiskState) (r : RunningNames) (left : NameState) (op : EditOp) (r' : RunningNames) : Type 0 where
+pub record IsOperationDone (old new : DiskState) (r : RunningNames) (left : NameState) (op : EditOp) (r' : RunningNames) : Type 0 where
   pub service : service_of r' ≡ record { names = done_with (Some op) left; pending = None }
   pub disk : Logging old new r r' (Growing r (λ own. own ≡ op)) (op ∷ [])
 
@@ -144,7 +144,7 @@ pub record IsPendingNow (old new : DiskState) (r : RunningNames) (left : NameSta
 
 -- the result of writing an operation while nothing is pending
 abbrev pub Writes : DiskState → DiskState → RunningNames → NameState → EditOp → Result (Unit {0}) StoreRefusal → RunningNames → Type 0
-Writes old new r left op (Ok done) r' = IsDone old new r left op r'
+Writes old new r left op (Ok done) r' = IsOperationDone old new r left op r'
 Writes old new r left op (Err store.NoMemory) r' = IsWanting old new r r'
 Writes old new r left op (Err store.StoreFault) r' = IsPendingNow old new r left op r'
 
@@ -198,11 +198,11 @@ outstanding_under walks session = option_map_or (λ w. outstanding w.batches) (w
 -- What a walk of the session of a status answers, and the walks after it.
 
 -- its first batch
-abbrev pub Begins : List Entry → ℕ → ℕ → StatusRow → List WalkState → Walk → List WalkState → Type 0
-Begins rows zone size st walks (walk.Batch note) walks' =
+abbrev pub BeginsWalk : List Entry → ℕ → ℕ → StatusRow → List WalkState → Walk → List WalkState → Type 0
+BeginsWalk rows zone size st walks (walk.Batch note) walks' =
     (walk_list rows zone st.mark ≢ []) × (note ≡ note_of rows zone size (new_walk st)) × (walks' ≡ walks ++ walked rows zone size (new_walk st) ∷ [])
-Begins rows zone size st walks walk.NoneLeft walks' = (walk_list rows zone st.mark ≡ []) × (walks' ≡ walks)
-Begins rows zone size st walks walk.NoMemory walks' = walks' ≡ walks
+BeginsWalk rows zone size st walks walk.NoneLeft walks' = (walk_list rows zone st.mark ≡ []) × (walks' ≡ walks)
+BeginsWalk rows zone size st walks walk.NoMemory walks' = walks' ≡ walks
 
 -- its next batch
 abbrev pub TakesNext : List Entry → ℕ → ℕ → StatusRow → List WalkState → Walk → List WalkState → Type 0

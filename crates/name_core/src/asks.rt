@@ -42,14 +42,14 @@ impl Model for OpenAsks {
     ghost use Rattle.std.specs.Prelude.{List};
     ghost use Rattle.std.specs.BTreeMap.{values};
     ghost use Rattle.name_core.specs.declared.asks.OpenAsk.{OpenAsk};
-    ghost use Rattle.name_core.specs.State.{IsRising};
+    ghost use Rattle.name_core.specs.State.{AreAsksRising};
     ghost use Rattle.name_core.specs.Steps.{AreKeyed};
 
     ghost Value = { List OpenAsk };
 
     ghost view = { λ list. values list.asks };
 
-    ghost invariant = { λ list. IsRising (values list.asks) × AreKeyed list.asks.entries };
+    ghost invariant = { λ list. AreAsksRising (values list.asks) × AreKeyed list.asks.entries };
 }
 
 impl OpenAsks {

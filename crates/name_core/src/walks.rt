@@ -2,7 +2,7 @@
 ghost use Rattle.std.specs.Prelude.{◌≡◌, ◌≤◌, IfOk, None, Some, is_some, position, true};
 ghost use Rattle.zone_table.specs.declared.statuses.StatusRow.{StatusRow};
 ghost use Rattle.zone_table.specs.Statuses.{status_of};
-ghost use Rattle.name_core.specs.Steps.{Begins, TakesBatch, TakesNext, outstanding_under};
+ghost use Rattle.name_core.specs.Steps.{BeginsWalk, TakesBatch, TakesNext, outstanding_under};
 ghost use Rattle.name_core.specs.Walks.{going_on, is_walk_of, walk_of};
 
 use hk_base::NoMemory;
@@ -78,7 +78,7 @@ fn begin(
 ) -> Walk
     requires some { 1 ≤ size }
     requires most { size ≤ 1000 }
-    ensures { Begins tree.now.rows zone size status.now walks.old.items result walks.new.items }
+    ensures { BeginsWalk tree.now.rows zone size status.now walks.old.items result walks.new.items }
 {
     let Ok(mark) = copy_of_mark(alloc, &status.mark) else {
         return Walk::NoMemory;

@@ -28,23 +28,23 @@ IsOneOf name _ = ⊥
 
 -- The reply answers the call that was wanted: a refusal or one encrypted key of that name, a refusal or the metadata of that name; or there
 -- is none, if no call was wanted.
-abbrev pub Answers : Want → Option KmsReply → Type 0
-Answers want.Nothing None = ⊤
-Answers (want.Generate name) (Some (reply.Refused why)) = ⊤
-Answers (want.Generate name) (Some (reply.Ready edeks)) = IsOneOf name edeks
-Answers (want.Metadata name) (Some (reply.Refused why)) = ⊤
-Answers (want.Metadata name) (Some (reply.Metadata meta)) = meta.name ≡ name
-Answers _ _ = ⊥
+abbrev pub AnswersWant : Want → Option KmsReply → Type 0
+AnswersWant want.Nothing None = ⊤
+AnswersWant (want.Generate name) (Some (reply.Refused why)) = ⊤
+AnswersWant (want.Generate name) (Some (reply.Ready edeks)) = IsOneOf name edeks
+AnswersWant (want.Metadata name) (Some (reply.Refused why)) = ⊤
+AnswersWant (want.Metadata name) (Some (reply.Metadata meta)) = meta.name ≡ name
+AnswersWant _ _ = ⊥
 
 -- the reply answers the call that an open ask wants
 abbrev pub AnswersAsk : Option OpenAsk → Option KmsReply → Type 0
 AnswersAsk None reply = ⊤
-AnswersAsk (Some a) reply = Answers a.want reply
+AnswersAsk (Some a) reply = AnswersWant a.want reply
 
 -- the reply is for the ask of this note, and answers the call that it wants
 pub record IsAnswered (note : AskNote) (answered : Answered) : Type 0 where
   pub id : answered.id ≡ note.id
-  pub answers : Answers note.want answered.reply
+  pub answers : AnswersWant note.want answered.reply
 
 module _ {S : Type 0} where
   -- the entry is an ask that was answered with this note

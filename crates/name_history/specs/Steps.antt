@@ -102,7 +102,7 @@ abbrev pub KeysLegal : {D W : Type 0} → (D → DiskState) → (W → ℕ → �
 KeysLegal {D = D} {W = W} state to_come w = LegalOf (KmsSteps {D = D} {W = W} state to_come) (KmsAllows {S = KmsView D W}) w.start w.seen
 
 -- What the kept pass has seen is a legal history that begins with what it had seen, and its ended numbers stay.
-pub record Grows {D W : Type 0} (state : D → DiskState) (to_come : W → ℕ → ℕ) (s t : KmsKnown D W) : Type 0 where
+pub record GrowsPass {D W : Type 0} (state : D → DiskState) (to_come : W → ℕ → ℕ) (s t : KmsKnown D W) : Type 0 where
   pub legal : KeysLegal state to_come t
   pub start : t.start ≡ s.start
   pub begins : IsPrefix s.seen t.seen
@@ -112,7 +112,7 @@ pub record Grows {D W : Type 0} (state : D → DiskState) (to_come : W → ℕ �
 pub record NameSteps {D W : Type 0} (state : D → DiskState) (to_come : W → ℕ → ℕ) (v : NameView D W) (q : NameAct) (r : NameActed) (v' : NameView D W) : Type 0 where
   pub before : IsNames (service_of v.names)
   pub after : IsNames (service_of v'.names)
-  pub grows : Grows state to_come v.keys v'.keys
+  pub grows : GrowsPass state to_come v.keys v'.keys
   pub keeps : NameKeeps v q v'
   pub does : NameDoes state v q r v'
 

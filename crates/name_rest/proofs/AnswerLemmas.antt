@@ -16,15 +16,15 @@ use Rattle.name_rest.specs.declared.operation.Operation.{Operation}
 use Rattle.name_rest.specs.declared.operation.Operation.TheVariants as op
 use Rattle.name_rest.specs.declared.order.NameOrder.{NameOrder}
 use Rattle.name_rest.specs.Operations.{HasBadMethod, HasNoRoute}
-use Rattle.name_rest.specs.Orders.{Reading, and_then, any_path_in, delete_in, flag_or_false, key_in, needed, on_any_path, on_path, on_snapshot, only, order_of, path_in, path_of, recursive_in, rename_in, snapshot_name_of, zone_in}
+use Rattle.name_rest.specs.Orders.{OrderReading, and_then, any_path_in, delete_in, flag_or_false, key_in, needed, on_any_path, on_path, on_snapshot, only, order_of, path_in, path_of, recursive_in, rename_in, snapshot_name_of, zone_in}
 use Rattle.kms_rest.specs.Requests.{query_in}
-use Rattle.name_rest.specs.Requests.{HasBadPath, IsBadRequest, IsOf, Gives, Says}
+use Rattle.name_rest.specs.Requests.{HasBadPath, IsBadRequest, IsOfOperation, GivesOrder, Says}
 use Rattle.name_rest.specs.Laws.{SaysOneThing}
 use Rattle.name_rest.proofs.RouteLemmas.{same_operation}
 
 -- ---- the faults of an order are BadRequest and BadPath
 
-abbrev IsOfQuery : {A : Type 0} → Reading A → Type 0
+abbrev IsOfQuery : {A : Type 0} → OrderReading A → Type 0
 IsOfQuery (Ok a) = Unit {0}
 IsOfQuery (Err fault.NoRoute) = ⊥
 IsOfQuery (Err fault.BadMethod) = ⊥
@@ -33,7 +33,7 @@ IsOfQuery (Err fault.BadRequest) = Unit {0}
 IsOfQuery (Err fault.BadPath) = Unit {0}
 IsOfQuery (Err fault.NoMemory) = ⊥
 
-after : {A B : Type 0} (read : Reading A) (next : A → Reading B) → IsOfQuery read → ((a : A) → IsOfQuery (next a)) → IsOfQuery (and_then read next)
+after : {A B : Type 0} (read : OrderReading A) (next : A → OrderReading B) → IsOfQuery read → ((a : A) → IsOfQuery (next a)) → IsOfQuery (and_then read next)
 after (Ok a) next h k = k a
 after (Err fault.NoRoute) next h k = absurd h
 after (Err fault.BadMethod) next h k = absurd h
@@ -42,7 +42,7 @@ after (Err fault.BadRequest) next h k = tt
 after (Err fault.BadPath) next h k = tt
 after (Err fault.NoMemory) next h k = absurd h
 
-either : {A : Type 0} (b : Bool) (x y : Reading A) → IsOfQuery x → IsOfQuery y → IsOfQuery (cond b x y)
+either : {A : Type 0} (b : Bool) (x y : OrderReading A) → IsOfQuery x → IsOfQuery y → IsOfQuery (cond b x y)
 either true x y h k = h
 either false x y h k = k
 
@@ -123,13 +123,13 @@ no_user_named ps user is (inr empty) = is.some (unhead user [] (sym is.once ∙ 
     unhead : (u v : List ℕ) → u ∷ [] ≡ v ∷ [] → u ≡ v
     unhead u v e = cc
 
-abbrev failed : NameRestFault → Reading NameOrder
+abbrev failed : NameRestFault → OrderReading NameOrder
 failed e = Err e
 
-no_such_fault : (e : NameRestFault) (read : Reading NameOrder) → read ≡ Err e → IsOfQuery read → IsOfQuery (failed e)
-no_such_fault e read is h = subst (λ (r : Reading NameOrder). IsOfQuery r) is h
+no_such_fault : (e : NameRestFault) (read : OrderReading NameOrder) → read ≡ Err e → IsOfQuery read → IsOfQuery (failed e)
+no_such_fault e read is h = subst (λ (r : OrderReading NameOrder). IsOfQuery r) is h
 
-pub said_nothing : (request : Message) (o : Operation) (ps : List Parameter) (user : List ℕ) → IsOf request o → ps ≡ query_in request → NamesUser ps user
+pub said_nothing : (request : Message) (o : Operation) (ps : List Parameter) (user : List ℕ) → IsOfOperation request o → ps ≡ query_in request → NamesUser ps user
     → (e : NameRestFault) → (¬ (e ≡ fault.NoMemory) → order_of o ps ≡ Err e) → Says request (Err e)
 said_nothing request o ps user is q u fault.NoRoute h = absurd (no_such_fault fault.NoRoute (order_of o ps) (h (λ x. cc)) (order_given o ps))
 said_nothing request o ps user is q u fault.BadMethod h = absurd (no_such_fault fault.BadMethod (order_of o ps) (h (λ x. cc)) (order_given o ps))
@@ -151,37 +151,37 @@ said_nothing request o ps user is q u fault.NoMemory h = tt
 
 -- ---- one meaning
 
-same : (request : Message) (o q : Operation) → IsOf request o → IsOf request q → o ≡ q
+same : (request : Message) (o q : Operation) → IsOfOperation request o → IsOfOperation request q → o ≡ q
 same request o q x y = same_operation (target_path request.target) o q x.there y.there
 
 unhead_user : (vs : List (List ℕ)) (u v : List ℕ) → vs ≡ u ∷ [] → vs ≡ v ∷ [] → u ≡ v
 unhead_user vs u v x y = cc
 
-unok : (r : Reading NameOrder) (a b : NameOrder) → r ≡ Ok a → r ≡ Ok b → a ≡ b
+unok : (r : OrderReading NameOrder) (a b : NameOrder) → r ≡ Ok a → r ≡ Ok b → a ≡ b
 unok r a b x y = cc
 
-no_two : (r : Reading NameOrder) (a : NameOrder) (e : NameRestFault) → r ≡ Ok a → r ≡ Err e → ⊥
+no_two : (r : OrderReading NameOrder) (a : NameOrder) (e : NameRestFault) → r ≡ Ok a → r ≡ Err e → ⊥
 no_two r a e x y = cc
 
-two_faults : (r : Reading NameOrder) → r ≡ Err fault.BadRequest → r ≡ Err fault.BadPath → ⊥
+two_faults : (r : OrderReading NameOrder) → r ≡ Err fault.BadRequest → r ≡ Err fault.BadPath → ⊥
 two_faults r x y = cc
 
 -- what one operation gives, the other one gives
-moved : (request : Message) (o q : Operation) (r : Reading NameOrder) → IsOf request o → IsOf request q → order_of o (query_in request) ≡ r → order_of q (query_in request) ≡ r
+moved : (request : Message) (o q : Operation) (r : OrderReading NameOrder) → IsOfOperation request o → IsOfOperation request q → order_of o (query_in request) ≡ r → order_of q (query_in request) ≡ r
 moved request o q r x y e = ap (λ p. order_of p (query_in request)) (same request q o y x) ∙ e
 
-same_order : (request : Message) (u v : List ℕ) (a b : NameOrder) → Gives request u a → Gives request v b → (u ≡ v) × (a ≡ b)
+same_order : (request : Message) (u v : List ℕ) (a b : NameOrder) → GivesOrder request u a → GivesOrder request v b → (u ≡ v) × (a ≡ b)
 same_order request u v a b x y =
     (unhead_user (user_values (query_in request)) u v x.named.once y.named.once, unok (order_of x.operation (query_in request)) a b x.order_is (moved request y.operation x.operation (Ok b) y.of x.of y.order_is))
 
-order_not_bad : (request : Message) (u : List ℕ) (a : NameOrder) → Gives request u a → IsBadRequest request → ⊥
+order_not_bad : (request : Message) (u : List ℕ) (a : NameOrder) → GivesOrder request u a → IsBadRequest request → ⊥
 order_not_bad request u a x y = by y.why
   where
     by : NamesBadUser (query_in request) ⊎ (order_of y.operation (query_in request) ≡ Err fault.BadRequest) → ⊥
     by (inl bad) = bad.1 u x.named
     by (inr e) = no_two (order_of x.operation (query_in request)) a fault.BadRequest x.order_is (moved request y.operation x.operation (Err fault.BadRequest) y.of x.of e)
 
-order_not_path : (request : Message) (u : List ℕ) (a : NameOrder) → Gives request u a → HasBadPath request → ⊥
+order_not_path : (request : Message) (u : List ℕ) (a : NameOrder) → GivesOrder request u a → HasBadPath request → ⊥
 order_not_path request u a x y = no_two (order_of x.operation (query_in request)) a fault.BadPath x.order_is (moved request y.operation x.operation (Err fault.BadPath) y.of x.of y.why)
 
 path_not_bad : (request : Message) → HasBadPath request → IsBadRequest request → ⊥
@@ -191,13 +191,13 @@ path_not_bad request x y = by y.why
     by (inl bad) = bad.1 x.user x.named
     by (inr e) = two_faults (order_of x.operation (query_in request)) (moved request y.operation x.operation (Err fault.BadRequest) y.of x.of e) x.why
 
-no_route_of : (request : Message) (o : Operation) → HasNoRoute (target_path request.target) → IsOf request o → ⊥
+no_route_of : (request : Message) (o : Operation) → HasNoRoute (target_path request.target) → IsOfOperation request o → ⊥
 no_route_of request o none x = none o x.there
 
 no_route_bad : (request : Message) → HasNoRoute (target_path request.target) → HasBadMethod request.method (target_path request.target) → ⊥
 no_route_bad request none bad = none bad.operation bad.there
 
-bad_method_of : (request : Message) (o : Operation) → HasBadMethod request.method (target_path request.target) → IsOf request o → ⊥
+bad_method_of : (request : Message) (o : Operation) → HasBadMethod request.method (target_path request.target) → IsOfOperation request o → ⊥
 bad_method_of request o bad x = bad.other o x
 
 pub one_answer : (request : Message) → SaysOneThing request

@@ -6,18 +6,18 @@ use Rattle.json.specs.Written.{Written}
 use Rattle.serde_json.specs.Data.{Data}
 use Rattle.serde_json.specs.Written.{compact_text}
 use Rattle.serde_json.proofs.Texts.{print-outline}
-use Rattle.kms_json.specs.Writing.{Adds, AddsValue, tokens_of}
+use Rattle.kms_json.specs.Writing.{AddsData, AddsTokens, tokens_of}
 
 -- one token was written
-pub adds_token : {t : Token} {old new : Written} → new.tokens ≡ old.tokens ++ t ∷ [] → new.before ≡ old.before → Adds (t ∷ []) old new
+pub adds_token : {t : Token} {old new : Written} → new.tokens ≡ old.tokens ++ t ∷ [] → new.before ≡ old.before → AddsTokens (t ∷ []) old new
 adds_token added same = record { tokens = added; before = same }
 
-pub adds_then : {a b : List Token} {old mid new : Written} → Adds a old mid → Adds b mid new → Adds (a ++ b) old new
+pub adds_then : {a b : List Token} {old mid new : Written} → AddsTokens a old mid → AddsTokens b mid new → AddsTokens (a ++ b) old new
 adds_then {a = a} {b = b} {old = old} first next = record {
   tokens = next.tokens ∙ ap (λ ts. ts ++ b) first.tokens ∙ append_assoc old.tokens a b;
   before = next.before ∙ first.before;
 }
 
-pub text_written : (d : Data) (old new : Written) → old.tokens ≡ [] → old.before ≡ [] → AddsValue d old new → new.before ++ print new.tokens ≡ compact_text d
+pub text_written : (d : Data) (old new : Written) → old.tokens ≡ [] → old.before ≡ [] → AddsData d old new → new.before ++ print new.tokens ≡ compact_text d
 text_written d old new none start added =
     ap (λ bs. bs ++ print new.tokens) (added.before ∙ start) ∙ ap print (added.tokens ∙ ap (λ ts. ts ++ tokens_of d) none) ∙ print-outline d

@@ -4,70 +4,70 @@ use Rattle.matchit.specs.Order.{placed}
 use Rattle.matchit.specs.Seek.{first}
 use Rattle.matchit.specs.Router.{RouteOf}
 use Rattle.matchit.proofs.OnLiterals.{matchit_on_literals}
-use Rattle.path_routes.specs.Routes.{Table, with_route}
+use Rattle.path_routes.specs.Routes.{RouteTable, with_route}
 use Rattle.path_routes.proofs.SoundLemmas.{Each, Follows-literal, seek-sound}
 use Rattle.name_rest.specs.Operations.{path_at}
 use Rattle.name_rest.specs.Rows.{row_of, table, written}
 use Rattle.name_rest.specs.declared.operation.Operation.{Operation}
 use Rattle.name_rest.specs.declared.operation.Operation.TheVariants as op
 
-add-Mkdir : (rows : Table Operation) → with_route (codes "/nn/v1/mkdir") op.Mkdir rows ≡ placed (row_of op.Mkdir) rows
+add-Mkdir : (rows : RouteTable Operation) → with_route (codes "/nn/v1/mkdir") op.Mkdir rows ≡ placed (row_of op.Mkdir) rows
 unfolding matchit_on_literals
 add-Mkdir rows = refl
 
-add-Create : (rows : Table Operation) → with_route (codes "/nn/v1/create") op.Create rows ≡ placed (row_of op.Create) rows
+add-Create : (rows : RouteTable Operation) → with_route (codes "/nn/v1/create") op.Create rows ≡ placed (row_of op.Create) rows
 unfolding matchit_on_literals
 add-Create rows = refl
 
-add-Delete : (rows : Table Operation) → with_route (codes "/nn/v1/delete") op.Delete rows ≡ placed (row_of op.Delete) rows
+add-Delete : (rows : RouteTable Operation) → with_route (codes "/nn/v1/delete") op.Delete rows ≡ placed (row_of op.Delete) rows
 unfolding matchit_on_literals
 add-Delete rows = refl
 
-add-Rename : (rows : Table Operation) → with_route (codes "/nn/v1/rename") op.Rename rows ≡ placed (row_of op.Rename) rows
+add-Rename : (rows : RouteTable Operation) → with_route (codes "/nn/v1/rename") op.Rename rows ≡ placed (row_of op.Rename) rows
 unfolding matchit_on_literals
 add-Rename rows = refl
 
-add-Zone : (rows : Table Operation) → with_route (codes "/nn/v1/zone") op.Zone rows ≡ placed (row_of op.Zone) rows
+add-Zone : (rows : RouteTable Operation) → with_route (codes "/nn/v1/zone") op.Zone rows ≡ placed (row_of op.Zone) rows
 unfolding matchit_on_literals
 add-Zone rows = refl
 
-add-Reencrypt : (rows : Table Operation) → with_route (codes "/nn/v1/reencrypt") op.Reencrypt rows ≡ placed (row_of op.Reencrypt) rows
+add-Reencrypt : (rows : RouteTable Operation) → with_route (codes "/nn/v1/reencrypt") op.Reencrypt rows ≡ placed (row_of op.Reencrypt) rows
 unfolding matchit_on_literals
 add-Reencrypt rows = refl
 
-add-Cancel : (rows : Table Operation) → with_route (codes "/nn/v1/cancel") op.Cancel rows ≡ placed (row_of op.Cancel) rows
+add-Cancel : (rows : RouteTable Operation) → with_route (codes "/nn/v1/cancel") op.Cancel rows ≡ placed (row_of op.Cancel) rows
 unfolding matchit_on_literals
 add-Cancel rows = refl
 
-add-Allow : (rows : Table Operation) → with_route (codes "/nn/v1/allow") op.Allow rows ≡ placed (row_of op.Allow) rows
+add-Allow : (rows : RouteTable Operation) → with_route (codes "/nn/v1/allow") op.Allow rows ≡ placed (row_of op.Allow) rows
 unfolding matchit_on_literals
 add-Allow rows = refl
 
-add-Disallow : (rows : Table Operation) → with_route (codes "/nn/v1/disallow") op.Disallow rows ≡ placed (row_of op.Disallow) rows
+add-Disallow : (rows : RouteTable Operation) → with_route (codes "/nn/v1/disallow") op.Disallow rows ≡ placed (row_of op.Disallow) rows
 unfolding matchit_on_literals
 add-Disallow rows = refl
 
-add-Snapshot : (rows : Table Operation) → with_route (codes "/nn/v1/snapshot") op.Snapshot rows ≡ placed (row_of op.Snapshot) rows
+add-Snapshot : (rows : RouteTable Operation) → with_route (codes "/nn/v1/snapshot") op.Snapshot rows ≡ placed (row_of op.Snapshot) rows
 unfolding matchit_on_literals
 add-Snapshot rows = refl
 
-add-Unsnapshot : (rows : Table Operation) → with_route (codes "/nn/v1/unsnapshot") op.Unsnapshot rows ≡ placed (row_of op.Unsnapshot) rows
+add-Unsnapshot : (rows : RouteTable Operation) → with_route (codes "/nn/v1/unsnapshot") op.Unsnapshot rows ≡ placed (row_of op.Unsnapshot) rows
 unfolding matchit_on_literals
 add-Unsnapshot rows = refl
 
-add-Info : (rows : Table Operation) → with_route (codes "/nn/v1/info") op.Info rows ≡ placed (row_of op.Info) rows
+add-Info : (rows : RouteTable Operation) → with_route (codes "/nn/v1/info") op.Info rows ≡ placed (row_of op.Info) rows
 unfolding matchit_on_literals
 add-Info rows = refl
 
-add-List : (rows : Table Operation) → with_route (codes "/nn/v1/list") op.List rows ≡ placed (row_of op.List) rows
+add-List : (rows : RouteTable Operation) → with_route (codes "/nn/v1/list") op.List rows ≡ placed (row_of op.List) rows
 unfolding matchit_on_literals
 add-List rows = refl
 
-add-Status : (rows : Table Operation) → with_route (codes "/nn/v1/status") op.Status rows ≡ placed (row_of op.Status) rows
+add-Status : (rows : RouteTable Operation) → with_route (codes "/nn/v1/status") op.Status rows ≡ placed (row_of op.Status) rows
 unfolding matchit_on_literals
 add-Status rows = refl
 
-add-Zones : (rows : Table Operation) → with_route (codes "/nn/v1/zones") op.Zones rows ≡ placed (row_of op.Zones) rows
+add-Zones : (rows : RouteTable Operation) → with_route (codes "/nn/v1/zones") op.Zones rows ≡ placed (row_of op.Zones) rows
 unfolding matchit_on_literals
 add-Zones rows = refl
 

@@ -1,7 +1,7 @@
 //! The JSON bodies of responses.
 ghost use Rattle.std.specs.Prelude.{◌≡◌, IfOk, OnOk};
 ghost use Rattle.serde_json.specs.Data.{string};
-ghost use Rattle.kms_json.specs.Writing.{AddsMember, AddsValue};
+ghost use Rattle.kms_json.specs.Writing.{AddsData, AddsMember};
 ghost use Rattle.name_rest.specs.Responses as spec;
 
 use hk_base::{ByteList, NoMemory};
@@ -31,7 +31,7 @@ pub(crate) fn refusal_body(alloc: Global, why: &NameRefusal) -> Result<ByteList,
 }
 
 fn write_answer(text: &str, out: &mut Writer) -> Result<(), NoMemory>
-    ensures { OnOk result (AddsValue (spec.answer_data text.now) out.old out.new) }
+    ensures { OnOk result (AddsData (spec.answer_data text.now) out.old out.new) }
 {
     out.begin_object()?;
     write_member("answer", text, out)?;
@@ -40,7 +40,7 @@ fn write_answer(text: &str, out: &mut Writer) -> Result<(), NoMemory>
 }
 
 fn write_error(name: &str, message: &str, out: &mut Writer) -> Result<(), NoMemory>
-    ensures { OnOk result (AddsValue (spec.error_data name.now message.now) out.old out.new) }
+    ensures { OnOk result (AddsData (spec.error_data name.now message.now) out.old out.new) }
 {
     out.begin_object()?;
     out.key("RemoteException")?;
@@ -50,7 +50,7 @@ fn write_error(name: &str, message: &str, out: &mut Writer) -> Result<(), NoMemo
 }
 
 fn write_exception(name: &str, message: &str, out: &mut Writer) -> Result<(), NoMemory>
-    ensures { OnOk result (AddsValue (spec.exception_data name.now message.now) out.old out.new) }
+    ensures { OnOk result (AddsData (spec.exception_data name.now message.now) out.old out.new) }
 {
     out.begin_object()?;
     write_member("exception", name, out)?;

@@ -14,7 +14,7 @@ use Rattle.edit_log.specs.Log.{EditLogState}
 use Rattle.edit_log.specs.Log as edits
 use Rattle.name_store.specs.Table.{NameTable, after_table, allows, applies, is_fresh, nothing_logged, settled_ops, settled_used, uses}
 use Rattle.name_store.specs.Replay.{Applies}
-use Rattle.name_store.specs.Store.{Commits, IsWritten, IsNameStoreOf, StoreState, made_with}
+use Rattle.name_store.specs.Store.{CommitsOperation, IsWritten, IsNameStoreOf, StoreState, made_with}
 use Rattle.name_store.proofs.Replays.{replay_more}
 
 pub each_more : {X : Type 0} (P : X → Type 0) (xs : List X) (x : X) → AllByRecursion P xs → P x → AllByRecursion P (xs ++ x ∷ [])
@@ -58,14 +58,14 @@ module _ (old new : DiskState) (store store' : StoreState) (op : EditOp) (run : 
   unwritten : (used : List ℕ) (ops : List EditOp) → IsNameStoreOf new store' used ops → IsNameStoreOf new store' (settled_used false (Some op) used) (ops ++ settled_ops false (Some op))
   unwritten used ops s = subst (λ (l : List EditOp). IsNameStoreOf new store' used l) (sym (append-nil ops)) s
 
-  pub commits_done : allows store.table op ≡ true → store'.log.pending ≡ None → store'.table ≡ after_table store.table op → Moments → Added → Commits old new store op true store'
+  pub commits_done : allows store.table op ≡ true → store'.log.pending ≡ None → store'.table ≡ after_table store.table op → Moments → Added → CommitsOperation old new store op true store'
   commits_done may none then_is any added = record {
     stands = λ tells used ops s fresh. one_more old new store store' used ops op s (and_from (allows store.table op) (is_fresh used op) may fresh) none then_is (added tells ops s.log);
     moments = λ tells used ops s. let now = added tells ops s.log in weaker (λ c with. (each_last HasSpelling ops op now.spelled, with)) (any tells ops s.log);
     run = run;
   }
 
-  pub commits_pending : allows store.table op ≡ true → store'.log.pending ≡ Some op → store'.table ≡ store.table → Moments → Kept → Commits old new store op false store'
+  pub commits_pending : allows store.table op ≡ true → store'.log.pending ≡ Some op → store'.table ≡ store.table → Moments → Kept → CommitsOperation old new store op false store'
   commits_pending may waits same any kept = record {
     stands = λ tells used ops s fresh.
         let now : Applies (made_with store used) store'.log.pending = subst (λ (o : Option EditOp). Applies (made_with store used) o) (sym waits) (and_from (allows store.table op) (is_fresh used op) may fresh) in
@@ -77,7 +77,7 @@ module _ (old new : DiskState) (store store' : StoreState) (op : EditOp) (run : 
     run = run;
   }
 
-  pub commits_none : store'.log ≡ store.log → store'.table ≡ store.table → ((P : List ℕ → Type 0) → LeavesOnly 1 old new P) → Kept → Commits old new store op false store'
+  pub commits_none : store'.log ≡ store.log → store'.table ≡ store.table → ((P : List ℕ → Type 0) → LeavesOnly 1 old new P) → Kept → CommitsOperation old new store op false store'
   commits_none log_is same still kept = record {
     stands = λ tells used ops s fresh.
         let now : Applies (made_with store used) store'.log.pending = subst (λ (l : EditLogState). Applies (made_with store used) l.pending) (sym log_is) s.waits in
@@ -87,7 +87,7 @@ module _ (old new : DiskState) (store store' : StoreState) (op : EditOp) (run : 
   }
 
   pub commits_refused : (refusal : StoreRefusal) → allows store.table op ≡ true → store'.table ≡ store.table → Moments → Kept → (refusal ≡ refused.StoreFault → store'.log.pending ≡ Some op)
-      → (refusal ≡ refused.NoMemory → (store'.log ≡ store.log) × ((P : List ℕ → Type 0) → LeavesOnly 1 old new P)) → Commits old new store op false store'
+      → (refusal ≡ refused.NoMemory → (store'.log ≡ store.log) × ((P : List ℕ → Type 0) → LeavesOnly 1 old new P)) → CommitsOperation old new store op false store'
   commits_refused refused.StoreFault may same any kept fault memory = commits_pending may (fault refl) same any kept
   commits_refused refused.NoMemory may same any kept fault memory = let m = memory refl in commits_none m.0 same m.1 kept
 

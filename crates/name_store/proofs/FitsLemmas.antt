@@ -22,7 +22,7 @@ use Rattle.snap_store.specs.Snapshots.{SnapTable, Snapshot, frozen, holds_snapsh
 use Rattle.edit_ops.specs.declared.ops.EditOp.{EditOp}
 use Rattle.edit_ops.specs.declared.ops.EditOp.TheVariants as op
 use Rattle.name_store.specs.Causes.{id_at, kept_causes, removal_causes}
-use Rattle.name_store.specs.Table.{FitsRows, IsTable, NameTable, after_table, allows, new_directory, new_file, path_of, row_of, with_edeks}
+use Rattle.name_store.specs.Table.{FitsRows, IsNameTable, NameTable, after_table, allows, new_directory, new_file, path_of, row_of, with_edeks}
 use Rattle.name_store.proofs.CauseLemmas.{allowable, allowed, holds-none, id-may-be-used, none-of-both, renamable, snappable}
 use Rattle.name_store.proofs.RowLemmas.{directory-entry}
 use Rattle.name_store.proofs.UpdateLemmas.{dirs-kept, entry-kind, updated-files}
@@ -54,14 +54,14 @@ among-holds P (i ∷ ids) id h all = go (i == id) refl h (λ k. among-holds P id
     go false is k rest = rest k
 
 -- the directory of each snapshot stands
-dirs-stand : (t : NameTable) → IsTable t → All (λ (s : Snapshot). Stands t.rows s.dir) t.snaps.taken
+dirs-stand : (t : NameTable) → IsNameTable t → All (λ (s : Snapshot). Stands t.rows s.dir) t.snaps.taken
 dirs-stand t good =
     All-weaker (λ (s : Snapshot). is_among t.snaps.allowed s.dir ≡ true) (λ (s : Snapshot). Stands t.rows s.dir)
     (λ s h. among-holds (Stands t.rows) t.snaps.allowed s.dir h good.fits.stand) t.snaps.taken
     (AllPass-from_list_all (λ (s : Snapshot). is_among t.snaps.allowed s.dir) t.snaps.taken good.snaps.housed)
 
 -- every standing directory stays
-fits-all : (t : NameTable) (rows : List Entry) → IsTable t → ((id : ℕ) → Stands t.rows id → Stays t.rows rows id) → FitsRows rows t.snaps
+fits-all : (t : NameTable) (rows : List Entry) → IsNameTable t → ((id : ℕ) → Stands t.rows id → Stays t.rows rows id) → FitsRows rows t.snaps
 fits-all t rows good stays =
     fits-stay t.rows rows t.snaps (All-weaker (Stands t.rows) (Stays t.rows rows) stays t.snaps.allowed good.fits.stand)
     (All-weaker (λ (s : Snapshot). Stands t.rows s.dir) (λ (s : Snapshot). Stays t.rows rows s.dir) (λ s. stays s.dir) t.snaps.taken (dirs-stand t good)) good.fits.whole
@@ -129,7 +129,7 @@ not-any q (x ∷ xs) h = let parts = neither (q x) (list_any q xs) h in All-cons
     neither true b k = absurd cc
     neither false b k = (refl, k)
 
-fits-removed : (t : NameTable) (p : List (List ℕ)) → IsTable t → holds_snapshot t.rows t.snaps.taken p ≡ false → FitsRows (removed p t.rows) (record t.snaps { allowed = without_below t.rows p t.snaps.allowed })
+fits-removed : (t : NameTable) (p : List (List ℕ)) → IsNameTable t → holds_snapshot t.rows t.snaps.taken p ≡ false → FitsRows (removed p t.rows) (record t.snaps { allowed = without_below t.rows p t.snaps.allowed })
 fits-removed t p good none =
     let beside = not-any (λ (s : Snapshot). at_or_below t.rows s.dir p) t.snaps.taken none in
     let left = All-filter (λ id. not (at_or_below t.rows id p)) (Stands t.rows) t.snaps.allowed good.fits.stand in
@@ -162,7 +162,7 @@ path-renamed rows p q id good can beside = ap path_in (entry-renamed rows p q go
     go None out = refl
     go (Some e) out = ap (λ (b : Bool). cond b (q ++ drop (length p) e.path) e.path) out
 
-fits-renamed : (t : NameTable) (p q : List (List ℕ)) → IsTable t → CanMove t.rows p q → holds_snapshot t.rows t.snaps.taken p ≡ false → FitsRows (renamed p q t.rows) t.snaps
+fits-renamed : (t : NameTable) (p q : List (List ℕ)) → IsNameTable t → CanMove t.rows p q → holds_snapshot t.rows t.snaps.taken p ≡ false → FitsRows (renamed p q t.rows) t.snaps
 fits-renamed t p q good can none =
     let beside = not-any (λ (s : Snapshot). at_or_below t.rows s.dir p) t.snaps.taken none in
     record {
@@ -248,7 +248,7 @@ whole-frozen rows dir good h =
     subst (λ (o : Option Entry). All (λ (e : Entry). is_relative (option_map_or (λ e. e.path) o [] ++ e.path) ≡ true) (option_map_or (λ e. rows_below rows e.path) o [])) (sym there.1)
     (whole-below there.0.path rows good.ruled)
 
-module _ (t : NameTable) (good : IsTable t) where
+module _ (t : NameTable) (good : IsNameTable t) where
   fits-taken : (p : List (List ℕ)) (name : List ℕ) → is_dir_at (row_at t.rows p) ≡ true → FitsRows t.rows (table_after_take t.rows (id_at t.rows p) name t.snaps)
   fits-taken p name dir = record {
     stand = good.fits.stand;

@@ -7,7 +7,7 @@ use Rattle.std.proofs.lemmas.Bool.Decides.{nat_tests}
 use Rattle.std.proofs.lemmas.Option.{get_or_from_slice_get}
 use Rattle.std.proofs.lemmas.Bool.{le-leb, leb-true, leb-false, lt-leb}
 use Rattle.name_store.specs.declared.runs.Run.{Run}
-use Rattle.name_store.specs.Runs.{Rising, is_in, is_in_runs}
+use Rattle.name_store.specs.Runs.{AreRunsRising, is_in, is_in_runs}
 
 -- ---- the place of an id
 
@@ -26,7 +26,7 @@ later-at a [] k d all b = absurd (omega arith)
 later-at a (r ∷ rs) zero d all b = all.0
 later-at a (r ∷ rs) (suc k) d all b = later-at a rs k d all.1 (omega arith)
 
-pub firsts_rise : (runs : List Run) → Rising runs → IsNonDecreasingBy (λ run. run.first) runs
+pub firsts_rise : (runs : List Run) → AreRunsRising runs → IsNonDecreasingBy (λ run. run.first) runs
 firsts_rise [] h i j d l b = absurd (omega arith)
 firsts_rise (r ∷ rs) h zero zero d l b = omega arith
 firsts_rise (r ∷ rs) h zero (suc j) d l b = omega (arith, h.0, later-at r.last rs j d h.1 (omega arith))
@@ -34,7 +34,7 @@ firsts_rise (r ∷ rs) h (suc i) zero d l b = absurd (omega arith)
 firsts_rise (r ∷ rs) h (suc i) (suc j) d l b = firsts_rise rs h.2 i j d (omega arith) (omega arith)
 
 -- where the last run begins at the id or before it, all do
-pub parted_past : (runs : List Run) (id : ℕ) (run : Run) → Rising runs → Some run ≡ slice_get runs (length runs - 1) → run.first ≤ id → PartedAt runs id (length runs)
+pub parted_past : (runs : List Run) (id : ℕ) (run : Run) → AreRunsRising runs → Some run ≡ slice_get runs (length runs - 1) → run.first ≤ id → PartedAt runs id (length runs)
 parted_past runs id run rise last le = (λ k d low high. begun k d high, λ k d low high. absurd (omega arith))
   where
     begun : (k : ℕ) (d : Run) → k < length runs → nat_le (get_or runs k d).first id ≡ true
@@ -65,7 +65,7 @@ or-false true = refl
 or-false false = refl
 
 -- a run has the id exactly if the last one does that begins at the id or before it
-pub in_last : (runs : List Run) (id k : ℕ) (d : Run) → Rising runs → k < length runs → PartedAt runs id (suc k) → is_in_runs runs id ≡ nat_le id (get_or runs k d).last
+pub in_last : (runs : List Run) (id k : ℕ) (d : Run) → AreRunsRising runs → k < length runs → PartedAt runs id (suc k) → is_in_runs runs id ≡ nat_le id (get_or runs k d).last
 in_last [] id k d rise b h = absurd (omega arith)
 in_last (r ∷ rs) id zero d rise b h =
     ap (λ (t : Bool). (t && nat_le id r.last) || is_in_runs rs id) (h.0 0 r (omega arith) (omega arith))
@@ -95,7 +95,7 @@ assoc-tests : (a b c : Bool) → ((a || b) || c) ≡ (a || (b || c))
 assoc-tests true b c = refl
 assoc-tests false b c = refl
 
-pub extended_has : (runs : List Run) (id k x : ℕ) (run : Run) → Rising runs → k < length runs → run ≡ get_or runs k run → run.last + 1 ≡ id
+pub extended_has : (runs : List Run) (id k x : ℕ) (run : Run) → AreRunsRising runs → k < length runs → run ≡ get_or runs k run → run.last + 1 ≡ id
     → is_in_runs (set runs k (longer run id)) x ≡ ((id == x) || is_in_runs runs x)
 extended_has [] id k x run rise b here next = absurd (omega arith)
 extended_has (r ∷ rs) id zero x run rise b here next =
@@ -114,11 +114,11 @@ all-after : (a : ℕ) (rs : List Run) → PartedAt rs a 0 → AllByRecursion (λ
 all-after a [] h = tt
 all-after a (r ∷ rs) h = (leb-false r.first a (h.1 0 r (omega arith) (omega arith)), all-after a rs (parted-first r rs a h))
 
-pub extended_rises : (runs : List Run) (id k : ℕ) (run : Run) → Rising runs → k < length runs → PartedAt runs id (suc k) → run ≡ get_or runs k run → run.last + 1 ≡ id
-    → Rising (set runs k (longer run id))
+pub extended_rises : (runs : List Run) (id k : ℕ) (run : Run) → AreRunsRising runs → k < length runs → PartedAt runs id (suc k) → run ≡ get_or runs k run → run.last + 1 ≡ id
+    → AreRunsRising (set runs k (longer run id))
 extended_rises [] id k run rise b h here next = absurd (omega arith)
 extended_rises (r ∷ rs) id zero run rise b h here next =
-    subst (λ (q : Run). (q.first ≤ id) × AllByRecursion (λ (later : Run). id < later.first) rs × Rising rs) (sym here)
+    subst (λ (q : Run). (q.first ≤ id) × AllByRecursion (λ (later : Run). id < later.first) rs × AreRunsRising rs) (sym here)
     (leb-true r.first id (h.0 0 r (omega arith) (omega arith)), all-after id rs (parted-next r rs id 0 h), rise.2)
 extended_rises (r ∷ rs) id (suc k) run rise b h here next =
     (rise.0, all-longer r.last id rs k run (omega arith) here rise.1, extended_rises rs id k run rise.2 (omega arith) (parted-next r rs id (suc k) h) here next)
@@ -146,7 +146,7 @@ ends-before run id b begun free = go (nat_le id run.last) refl (sym (ap (λ (t :
     go true e f = absurd cc
     go false e f = (leb-false id run.last e, f)
 
-pub appended_rises : (runs : List Run) (id : ℕ) → Rising runs → PartedAt runs id (length runs) → is_in_runs runs id ≡ false → Rising (runs ++ alone id ∷ [])
+pub appended_rises : (runs : List Run) (id : ℕ) → AreRunsRising runs → PartedAt runs id (length runs) → is_in_runs runs id ≡ false → AreRunsRising (runs ++ alone id ∷ [])
 appended_rises [] id rise h free = (omega arith, tt, tt)
 appended_rises (r ∷ rs) id rise h free =
     let rest = ends-before r id (is_in_runs rs id) (h.0 0 r (omega arith) (omega arith)) free in

@@ -11,7 +11,7 @@ use Rattle.edit_log.specs.Log.{EditLogState}
 use Rattle.edit_log.specs.Log as edits
 use Rattle.name_store.specs.Table.{Replayed, after_table, applies, kept_op, settled_ops, settled_table, settled_used}
 use Rattle.name_store.specs.Replay.{Applies}
-use Rattle.name_store.specs.Store.{IsLeftOf, IsLogOf, NothingMore, SettlesNames, IsNameStoreOf, StoreState, Unsettled, made_with}
+use Rattle.name_store.specs.Store.{IsLeftOf, IsLogOf, NothingMore, SettlesNames, IsNameStoreOf, StoreState, LeavesUnsettled, made_with}
 use Rattle.name_store.proofs.Commits.{as_before, one_more}
 
 some_of : {X : Type 0} (o : Option X) → (o ≡ None → ⊥) → is_some o ≡ true
@@ -100,7 +100,7 @@ module _ (old new : DiskState) (store store' : StoreState) where
 
   -- the disk failed
   pub unsettled : (store.log.pending ≡ None → ⊥) → Rose old.faults new.faults → store'.log ≡ store.log → store'.table ≡ store.table
-      → (Tells old → (ops : List EditOp) → edits.IsEditLogOf old store.log ops → edits.IsEditLogOf new store'.log ops) → Unsettled old new store store'
+      → (Tells old → (ops : List EditOp) → edits.IsEditLogOf old store.log ops → edits.IsEditLogOf new store'.log ops) → LeavesUnsettled old new store store'
   unsettled some failed log_is same kept = record {
     waits = some_of store.log.pending some;
     failed = failed;

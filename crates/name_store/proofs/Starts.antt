@@ -7,7 +7,7 @@ use Rattle.std.proofs.lemmas.Bool.{and_parts}
 use Rattle.hk_base.specs.Disk.{DiskState, LeavesOnly, Reads, RunOn, Tells}
 use Rattle.hk_base.proofs.Runs.{Going, weaker}
 use Rattle.frame_log.specs.Format.{Found, IsAsFound, Log_as_found, log_of}
-use Rattle.frame_log.specs.Opens.{FailsFor, Recovers}
+use Rattle.frame_log.specs.Opens.{FailsFor, RecoversLog}
 use Rattle.frame_log.proofs.Openings.{opens_as, opens_then}
 use Rattle.frame_log.specs.declared.fault.StartFault.{StartFault}
 use Rattle.frame_log.specs.declared.fault.StartFault.TheVariants as fault
@@ -15,7 +15,7 @@ use Rattle.edit_ops.specs.Records.{HasSpelling}
 use Rattle.edit_ops.specs.declared.ops.EditOp.{EditOp}
 use Rattle.edit_ops.specs.declared.ops.EditOp.TheVariants as op
 use Rattle.edit_log.specs.declared.reader.OpReader.{OpReader}
-use Rattle.edit_log.specs.Reader.{IsOpened}
+use Rattle.edit_log.specs.Reader.{IsReaderOpened}
 use Rattle.edit_log.proofs.Readers.{still_stands_for}
 use Rattle.edit_log.specs.Replay.{in_turn, openings, then_last}
 use Rattle.edit_log.specs.Replay as turns
@@ -105,7 +105,7 @@ damaged_at bytes todo gate at found r = Not_a_name_log (record {
 })
 
 -- a log that was recovered, and the table that its reader's operations make
-module _ (bytes : List ℕ) (disk : DiskState) (log : EditLogState) (reader : OpReader) (table : NameTable) (m : IsMade disk reader table) (opened : IsOpened bytes disk log reader) (tells : Tells disk) where
+module _ (bytes : List ℕ) (disk : DiskState) (log : EditLogState) (reader : OpReader) (table : NameTable) (m : IsMade disk reader table) (opened : IsReaderOpened bytes disk log reader) (tells : Tells disk) where
   pub name_log : IsNameLog bytes m.ops (record { table = table; used = m.used })
   name_log =
       let all = m.all tells opened.payloads opened.ahead in
@@ -166,11 +166,11 @@ module _ (old new : DiskState) (was is : EditLogState) (o : EditOp) (any : Tells
   fault_moments fault.Spent kept waits memory spent damaged tells ops s = spent refl (IsWritten ops o)
 
 -- a recovery of the edit log, as a start
-pub opens_log : (old new : DiskState) {fails : StartFault → Type 0} → Recovers 1 old new fails → OpensNames old new fails
+pub opens_log : (old new : DiskState) {fails : StartFault → Type 0} → RecoversLog 1 old new fails → OpensNames old new fails
 opens_log old new o = opens_as old new (λ bytes at none. Not_a_log none) (λ bytes none. absurd none) (λ bytes c held. Recovered held) o
 
 -- a log that was recovered, and calls that read its operations
-module _ (old mid read : DiskState) {fails : StartFault → Type 0} (opened : fails fault.StoreFault → ⊥) (o : Recovers 1 old mid fails) (leaves : Tells old → (c : List ℕ) → mid.leaves 1 c → IsAsFound 1 (old.reads 1) c) (on : Going 1 mid read (mid.leaves 1)) where
+module _ (old mid read : DiskState) {fails : StartFault → Type 0} (opened : fails fault.StoreFault → ⊥) (o : RecoversLog 1 old mid fails) (leaves : Tells old → (c : List ℕ) → mid.leaves 1 c → IsAsFound 1 (old.reads 1) c) (on : Going 1 mid read (mid.leaves 1)) where
   pub opens_read : {fails' : StartFault → Type 0} → FailsFor 1 IsDamagedAt SpentNames old read fails' → OpensNames old read fails'
   opens_read why = opens_then old mid read opened (opens_log old mid o) on.run (λ tells. weaker (λ c here. Recovered (Log_as_found (leaves tells c here))) on.moments) why
 

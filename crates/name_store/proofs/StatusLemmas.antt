@@ -20,7 +20,7 @@ use Rattle.snap_store.specs.Snapshots.{SnapTable}
 use Rattle.edit_ops.specs.declared.ops.EditOp.{EditOp}
 use Rattle.edit_ops.specs.declared.ops.EditOp.TheVariants as op
 use Rattle.name_store.specs.Causes.{first_cause, id_at, id_of, mark_at, zone_causes}
-use Rattle.name_store.specs.Table.{FitsRows, IsTable, NameTable, after_table, allows, fits_noted, key_of_zone, new_directory, new_file}
+use Rattle.name_store.specs.Table.{FitsRows, IsNameTable, NameTable, after_table, allows, fits_noted, key_of_zone, new_directory, new_file}
 use Rattle.name_store.proofs.CauseLemmas.{allowed, id-may-be-used, markable, submittable}
 use Rattle.name_store.proofs.FitsLemmas.{fits-after}
 use Rattle.name_store.proofs.RowLemmas.{entry-at, is-unmarked, same-prefix}
@@ -130,7 +130,7 @@ unmarked-id rows p good may = go (row_at rows p) refl (markable rows p may).dir
         ap (option_and_then (λ (e : Entry). mark_of e.row.kind)) at.2 ∙ ap (λ (r : Row). mark_of r.kind) at.1 ∙ is-unmarked rows p row may is
 
 -- an operation that is allowed
-statuses-after : (t : NameTable) → IsTable t → (o : EditOp) → allows t o ≡ true → StatusesFit (after_table t o).rows (after_table t o).statuses
+statuses-after : (t : NameTable) → IsNameTable t → (o : EditOp) → allows t o ≡ true → StatusesFit (after_table t o).rows (after_table t o).statuses
 statuses-after t good (op.Opened opening) may = good.statuses
 statuses-after t good (op.Mkdir id p) may = fit-put (new_directory id p) t.rows t.statuses (id-may-be-used t id (allowed t (op.Mkdir id p) refl may).ids).free good.statuses
 statuses-after t good (op.File id p edek) may = fit-put (new_file id p edek) t.rows t.statuses (id-may-be-used t id (allowed t (op.File id p edek) refl may).ids).free good.statuses
@@ -157,7 +157,7 @@ abbrev pub Fit : List Entry → SnapTable → List StatusRow → Type 0
 Fit rows snaps statuses = FitsRows rows snaps × StatusesFit rows statuses
 
 -- an operation that is allowed, of a table and an operation that are known by other names
-pub fit-of : (t t' : NameTable) (o o' : EditOp) → t ≡ t' → o' ≡ o → IsTable t → allows t' o' ≡ true → Fit (after_table t o).rows (after_table t o).snaps (after_table t o).statuses
+pub fit-of : (t t' : NameTable) (o o' : EditOp) → t ≡ t' → o' ≡ o → IsNameTable t → allows t' o' ≡ true → Fit (after_table t o).rows (after_table t o).snaps (after_table t o).statuses
 fit-of t t' o o' same is good may =
     let here = ap (λ (u : NameTable). allows u o) same ∙ ap (allows t') (sym is) ∙ may in
     (fits-after t good o here, statuses-after t good o here)

@@ -24,7 +24,7 @@ use Rattle.edit_ops.specs.declared.files.FileKey.{FileKey}
 use Rattle.edit_ops.specs.declared.ops.EditOp.{EditOp}
 use Rattle.edit_ops.specs.declared.ops.EditOp.TheVariants as op
 use Rattle.name_store.specs.Table.{NameTable, allows, ids_once, is_of_key, is_under, may_update, with_edeks}
-use Rattle.name_store.specs.Updates.{AreFiles, IsFileAt}
+use Rattle.name_store.specs.Updates.{AreFiles, IsFileRow}
 use Rattle.name_store.proofs.CauseLemmas.{allowed, and-yes}
 use Rattle.name_store.proofs.IdLemmas.{kind-id}
 
@@ -40,7 +40,7 @@ with-edek x h = go x.row.kind h
     go (Dir key) h = absurd cc
     go (File edek) h = refl
 
-file-at : (t : NameTable) (session : ℕ) (f : FileKey) → may_update t session f ≡ true → IsFileAt t.rows f
+file-at : (t : NameTable) (session : ℕ) (f : FileKey) → may_update t session f ≡ true → IsFileRow t.rows f
 file-at t session f may = go (entry_of t.rows f.id) may
   where
     go : (o : Option Entry) → option_map_or (λ (e : Entry). is_under t session e && is_of_key f e) o false ≡ true → kind_in o ≡ Some false
@@ -90,7 +90,7 @@ module _ (f : FileKey) where
   keyed rows = set_kind rows f.id own
 
   -- a file stays one
-  still-file : (rows : List Entry) (g : FileKey) → IsFileAt rows g → IsFileAt (keyed rows) g
+  still-file : (rows : List Entry) (g : FileKey) → IsFileRow rows g → IsFileRow (keyed rows) g
   still-file rows g file = ap kind_in (entry-kind f.id own rows g.id) ∙ go (entry_of rows g.id) file
     where
       by : (x : Entry) (b : Bool) → is_dir x.row.kind ≡ false → is_dir (cond b (record x { row = record { id = f.id; kind = own } }) x).row.kind ≡ false
@@ -106,7 +106,7 @@ module _ (f : FileKey) where
   still-files rows (g ∷ gs) h = (still-file rows g h.0, still-files rows gs h.1)
 
   -- the entry of a directory is unchanged
-  dir-kept : (rows : List Entry) (id : ℕ) → IsFileAt rows f → is_dir_at (option_map (λ e. e.row) (entry_of rows id)) ≡ true → entry_of (keyed rows) id ≡ entry_of rows id
+  dir-kept : (rows : List Entry) (id : ℕ) → IsFileRow rows f → is_dir_at (option_map (λ e. e.row) (entry_of rows id)) ≡ true → entry_of (keyed rows) id ≡ entry_of rows id
   dir-kept rows id file dir = entry-kind f.id own rows id ∙ go (entry_of rows id) refl dir
     where
       same : (x : Entry) → entry_of rows id ≡ Some x → is_dir x.row.kind ≡ true → (b : Bool) → (x.row.id == f.id) ≡ b → (id == f.id) ≡ b
@@ -129,7 +129,7 @@ module _ (f : FileKey) where
       go None found h = refl
       go (Some x) found h = ap (λ (y : Entry). Some y) (same x found h (x.row.id == f.id) refl (ap (λ (i : ℕ). i == f.id) (sym (id-of id rows x found))))
 
-  no-mark : (rows : List Entry) → IsFileAt rows f → mark_of_id rows f.id ≡ None
+  no-mark : (rows : List Entry) → IsFileRow rows f → mark_of_id rows f.id ≡ None
   no-mark rows file = go (entry_of rows f.id) file
     where
       of-kind : (k : Kind) → is_dir k ≡ false → mark_of k ≡ None
@@ -141,7 +141,7 @@ module _ (f : FileKey) where
       go (Some x) h = of-kind x.row.kind (cc h)
 
   -- the marks are unchanged
-  zones-kept : (rows : List Entry) → All (FoundIn rows) rows → IsFileAt rows f → zones_of (keyed rows) ≡ zones_of rows
+  zones-kept : (rows : List Entry) → All (FoundIn rows) rows → IsFileRow rows f → zones_of (keyed rows) ≡ zones_of rows
   zones-kept rows once file = over rows once
     where
       mark-kept : (x : Entry) (b : Bool) → (x.row.id == f.id) ≡ b → FoundIn rows x → mark_of (cond b (record x { row = record { id = f.id; kind = own } }) x).row.kind ≡ mark_of x.row.kind

@@ -4,7 +4,7 @@ use Rattle.name_calls.specs.declared.paths.NPath.{NPath}
 use Rattle.inode_tree.specs.Rows.{need}
 use Rattle.zone_table.specs.Zones.{need_add}
 use Rattle.zone_table.specs.Statuses.{need_status}
-use Rattle.snap_store.specs.Snapshots.{IsReady, SnapRoom}
+use Rattle.snap_store.specs.Snapshots.{IsSnapshotReady, SnapRoom}
 use Rattle.edit_ops.specs.declared.ops.EditOp.{EditOp}
 use Rattle.edit_ops.specs.declared.ops.EditOp.TheVariants.{Opened, Mkdir, File, Remove, Rename, Zone, Allow, Disallow, Snap, Unsnap, Submit, Update, Cancel, Complete}
 use Rattle.name_store.specs.Causes.{id_at}
@@ -29,7 +29,7 @@ HasRoom (Rename p q) s = need q ≤ s.tree_spare
 HasRoom (Zone p key) s = need_add (id_at s.table.rows p) key ≤ s.zone_spare
 HasRoom (Allow p) s = 0 < s.snap_room.ids
 HasRoom (Disallow p) s = ⊤
-HasRoom (Snap p name) s = IsReady s.snap_room s.table.rows (id_at s.table.rows p) name
+HasRoom (Snap p name) s = IsSnapshotReady s.snap_room s.table.rows (id_at s.table.rows p) name
 HasRoom (Unsnap p name) s = ⊤
 HasRoom (Submit session p noted) s = need_status ≤ s.status_spare
 HasRoom (Update session failed mark files) s = s.mark ≡ mark

@@ -12,6 +12,6 @@ abbrev pub is_in_runs : List Run → ℕ → Bool
 is_in_runs runs id = list_any (is_in id) runs
 
 -- no run ends before it begins, and each ends before all later ones begin
-abbrev pub Rising : List Run → Type 0
-Rising [] = ⊤
-Rising (run ∷ runs) = (run.first ≤ run.last) × AllByRecursion (λ (later : Run). run.last < later.first) runs × Rising runs
+abbrev pub AreRunsRising : List Run → Type 0
+AreRunsRising [] = ⊤
+AreRunsRising (run ∷ runs) = (run.first ≤ run.last) × AllByRecursion (λ (later : Run). run.last < later.first) runs × AreRunsRising runs

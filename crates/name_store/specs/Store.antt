@@ -4,14 +4,14 @@ use Rattle.std.specs.List.{All, AllByRecursion}
 use Rattle.hk_base.specs.Disk.{DiskState, Tells, RunOn, LeavesOnly}
 use Rattle.hk_base.specs.Faults.{Rose}
 use Rattle.frame_log.specs.Format.{log_of, Found, NoLog, end_of, IsAtRest, IsRecovered}
-use Rattle.frame_log.specs.Opens.{Opens}
+use Rattle.frame_log.specs.Opens.{OpensLog}
 use Rattle.frame_log.specs.declared.fault.StartFault.{StartFault}
 use Rattle.edit_ops.specs.Records.{HasSpelling, spelling}
 use Rattle.edit_ops.specs.declared.ops.EditOp.{EditOp}
 use Rattle.edit_ops.specs.declared.ops.EditOp.TheVariants as op
 use Rattle.edit_log.specs.Log.{EditLogState}
 use Rattle.edit_log.specs.Log as edits
-use Rattle.name_store.specs.Table.{IsTable, NameTable, Replayed, after_table, allows, is_fresh, kept_op, next_opening, nothing_logged, settled_log, settled_ops, settled_table, settled_used}
+use Rattle.name_store.specs.Table.{IsNameTable, NameTable, Replayed, after_table, allows, is_fresh, kept_op, next_opening, nothing_logged, settled_log, settled_ops, settled_table, settled_used}
 use Rattle.name_store.specs.Replay.{AllBelow, Applies, IsNoNext, name_replay}
 
 -- its edit log with the pending operation, and the table
@@ -73,7 +73,7 @@ pub data IsLeftByStart (found bytes : List ℕ) : Type 0 where
 
 -- A start opens the edit log, or fails.
 abbrev pub OpensNames : DiskState → DiskState → (StartFault → Type 0) → Type 0
-OpensNames = Opens 1 IsDamagedAt SpentNames IsLeftByStart
+OpensNames = OpensLog 1 IsDamagedAt SpentNames IsLeftByStart
 
 -- what a crash may leave of a log: these operations, with one more or without it, now and if the end gate byte is read as 1
 abbrev pub IsLogOf : List EditOp → Option EditOp → List ℕ → Type 0
@@ -131,7 +131,7 @@ pub record Started (old new : DiskState) (store : StoreState) : Type 0 where
 
 -- A log during the commit of an operation: if the store held a list of acknowledged operations, among whose ids the operation's is
 -- not, it holds that list after it, with the operation if it was written.
-pub record Commits (old new : DiskState) (store : StoreState) (op : EditOp) (written : Bool) (store' : StoreState) : Type 0 where
+pub record CommitsOperation (old new : DiskState) (store : StoreState) (op : EditOp) (written : Bool) (store' : StoreState) : Type 0 where
   pub stands : Tells old → (used : List ℕ) (ops : List EditOp) → IsNameStoreOf old store used ops → IsTrue (is_fresh used op)
       → IsNameStoreOf new store' (settled_used written (Some op) used) (ops ++ settled_ops written (Some op))
   -- a crash at any moment leaves the earlier operations, with the new one or without
@@ -148,20 +148,20 @@ pub record SettlesNames (old new : DiskState) (store : StoreState) (answer : Opt
       → IsNameStoreOf new store' (settled_used kept store.log.pending used) (ops ++ settled_ops kept store.log.pending)
 
 -- The disk failed, and the operation is still pending.
-pub record Unsettled (old new : DiskState) (store store' : StoreState) : Type 0 where
+pub record LeavesUnsettled (old new : DiskState) (store store' : StoreState) : Type 0 where
   pub waits : is_some store.log.pending ≡ true
   pub failed : Rose old.faults new.faults
   pub same : store' ≡ store
   pub stands : Tells old → (used : List ℕ) (ops : List EditOp) → IsNameStoreOf old store used ops → IsNameStoreOf new store' used ops
 
 -- What is true of a pending operation: it is allowed, and it is not an opening.
-pub record IsPending (t : NameTable) (waiting : EditOp) : Type 0 where
+pub record IsPendingOperation (t : NameTable) (waiting : EditOp) : Type 0 where
   pub allowed : allows t waiting ≡ true
   pub no_opening : is_opening waiting ≡ false
 
 pub record IsStore (store : StoreState) : Type 0 where
   pub opened : 0 < store.table.opening
-  pub table : IsTable store.table
-  pub waits : IfSome store.log.pending (IsPending store.table)
+  pub table : IsNameTable store.table
+  pub waits : IfSome store.log.pending (IsPendingOperation store.table)
   -- the log is that of file 1
   pub file : store.log.log.file ≡ 1

@@ -238,7 +238,7 @@ pub record FitsRows (rows : List Entry) (snaps : SnapTable) : Type 0 where
   pub whole : All (λ (s : Snapshot). All (λ (e : Entry). is_relative (path_of rows s.dir ++ e.path) ≡ true) s.rows) snaps.taken
 
 -- what is always true of a table
-pub record IsTable (t : NameTable) : Type 0 where
+pub record IsNameTable (t : NameTable) : Type 0 where
   pub rules : IsRows t.rows
   pub snaps : IsSnapshots t.snaps.allowed t.snaps.taken
   pub fits : FitsRows t.rows t.snaps

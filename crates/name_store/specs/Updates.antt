@@ -6,8 +6,8 @@ use Rattle.edit_ops.specs.declared.files.FileKey.{FileKey}
 use Rattle.inode_tree.specs.Rows.{Entry, entry_of, is_dir}
 
 -- the row of the id is a file
-abbrev pub IsFileAt : List Entry → FileKey → Type 0
-IsFileAt rows f = option_map (λ e. is_dir e.row.kind) (entry_of rows f.id) ≡ Some false
+abbrev pub IsFileRow : List Entry → FileKey → Type 0
+IsFileRow rows f = option_map (λ e. is_dir e.row.kind) (entry_of rows f.id) ≡ Some false
 
 abbrev pub AreFiles : List Entry → List FileKey → Type 0
-AreFiles rows files = AllByRecursion (IsFileAt rows) files
+AreFiles rows files = AllByRecursion (IsFileRow rows) files

@@ -6,7 +6,7 @@ ghost use Rattle.inode_tree.specs.Rows.{entry_of, need, put, removed};
 ghost use Rattle.zone_table.specs.declared.statuses.StatusRow.{StatusRow};
 ghost use Rattle.zone_table.specs.Statuses.{counted, without_below};
 ghost use Rattle.zone_table.specs.Zones.{need_add, zones_of};
-ghost use Rattle.snap_store.specs.Snapshots.{IsReady, SnapTable, table_after_disallow, table_after_disallow_below, table_after_take};
+ghost use Rattle.snap_store.specs.Snapshots.{IsSnapshotReady, SnapTable, table_after_disallow, table_after_disallow_below, table_after_take};
 ghost use Rattle.name_store.specs.Causes.{disallow_causes, first_cause, id_at, kept_causes, make_causes, removal_causes, rename_causes, row_causes, snap_causes, zone_causes};
 ghost use Rattle.name_store.specs.Table.{marked, new_directory, new_file, with_edeks};
 ghost use Rattle.name_store.specs.Updates.{AreFiles};
@@ -146,7 +146,7 @@ pub(crate) fn snap(
         table_after_take tree.now.rows (id_at tree.now.rows path.now) name.now
         snaps.old.table) }
     ensures err { OnErr result (snaps.new.table ≡ snaps.old.table) }
-    ensures room { IsReady snaps.old.room tree.now.rows (id_at tree.now.rows path.now) name.now →
+    ensures room { IsSnapshotReady snaps.old.room tree.now.rows (id_at tree.now.rows path.now) name.now →
         IsOk result }
 {
     // Each id is that of one row.

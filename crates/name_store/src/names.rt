@@ -56,7 +56,7 @@ impl Model for NameTables {
 impl NameTables {
     ghost use Rattle.std.specs.Prelude.{◌≡◌, IfOk, IsOk, IsTrue, OnOk, OnErr};
     ghost use Rattle.zone_table.specs.Zones.{zone_paths};
-    ghost use Rattle.name_store.specs.Table.{IsTable, after_table, allows, nothing_logged};
+    ghost use Rattle.name_store.specs.Table.{IsNameTable, after_table, allows, nothing_logged};
     ghost use Rattle.name_store.specs.Names.{HasMark, HasRoom};
     ghost use Rattle.name_store.specs.Causes.{first_cause, rename_causes};
     ghost use Rattle.name_store.specs.Used.{HasFreeIds};
@@ -237,7 +237,7 @@ impl NameTables {
     /// Returns the directories and files.
     pub(crate) fn tree(&self) -> &Tree
         ensures rows { result.now.rows ≡ self.now.table.rows }
-        ensures rules { IsTable self.now.table }
+        ensures rules { IsNameTable self.now.table }
     {
         let _ = self.tree.rows();
         self.snaps.invariants();

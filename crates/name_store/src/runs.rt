@@ -1,7 +1,7 @@
 //! Ids as runs of numbers.
 ghost use Rattle.std.specs.Prelude.{◌≡◌, ◌+◌, ◌<◌, ◌≤◌, ◌||◌, ◌==◌, ℕ, false, true, nat_le, length, slice_index_or, OnOk, OnErr};
 ghost use Rattle.std.specs.List.Sorted.{IsPartitionPoint};
-ghost use Rattle.name_store.specs.Runs.{Rising, is_in_runs};
+ghost use Rattle.name_store.specs.Runs.{AreRunsRising, is_in_runs};
 
 use hk_base::NoMemory;
 use std::alloc::Global;
@@ -23,13 +23,13 @@ pub(crate) struct Runs {
 impl Model for Runs {
     ghost use Rattle.std.specs.Prelude.{List};
     ghost use Rattle.name_store.specs.declared.runs.Run.{Run};
-    ghost use Rattle.name_store.specs.Runs.{Rising};
+    ghost use Rattle.name_store.specs.Runs.{AreRunsRising};
 
     ghost Value = { List Run };
 
     ghost view = { λ a. a.list.items };
 
-    ghost invariant = { λ a. Rising a.list.items };
+    ghost invariant = { λ a. AreRunsRising a.list.items };
 }
 
 impl Runs {
@@ -75,7 +75,7 @@ impl Runs {
 
 /// Returns whether a run has the id.
 fn has(runs: &Vec<Run>, id: u64) -> bool
-    requires { Rising runs.now.items }
+    requires { AreRunsRising runs.now.items }
     ensures { result ≡ is_in_runs runs.now.items id }
 {
     let place = place(runs, id);
@@ -87,7 +87,7 @@ fn has(runs: &Vec<Run>, id: u64) -> bool
 
 /// Returns how many runs begin at the id or before it. Tries the last run first.
 fn place(runs: &Vec<Run>, id: u64) -> usize
-    requires { Rising runs.now.items }
+    requires { AreRunsRising runs.now.items }
     ensures most { result ≤ length runs.now.items }
     ensures parted { IsPartitionPoint (λ run. nat_le run.first id ≡ true)
         (λ run. nat_le run.first id ≡ false) runs.now.items result }
@@ -105,7 +105,7 @@ fn place(runs: &Vec<Run>, id: u64) -> usize
 }
 
 fn search(runs: &Vec<Run>, id: u64) -> usize
-    requires { Rising runs.now.items }
+    requires { AreRunsRising runs.now.items }
     ensures most { result ≤ length runs.now.items }
     ensures parted { IsPartitionPoint (λ run. nat_le run.first id ≡ true)
         (λ run. nat_le run.first id ≡ false) runs.now.items result }
@@ -129,12 +129,12 @@ fn is_next(runs: &Vec<Run>, place: usize, id: u64) -> bool
 
 /// Adds the id at the end of the run at an index.
 fn extend(runs: &mut Vec<Run>, at: usize, id: u64)
-    requires rising { Rising runs.old.items }
+    requires rising { AreRunsRising runs.old.items }
     requires within { at < length runs.old.items }
     requires begun { IsPartitionPoint (λ run. nat_le run.first id ≡ true)
         (λ run. nat_le run.first id ≡ false) runs.old.items (at + 1) }
     requires next { (d : Run) → (slice_index_or runs.old.items at d).last + 1 ≡ id }
-    ensures rising { Rising runs.new.items }
+    ensures rising { AreRunsRising runs.new.items }
     ensures ids { (x : ℕ) →
         is_in_runs runs.new.items x ≡ ((id == x) || is_in_runs runs.old.items x) }
 {
@@ -143,11 +143,11 @@ fn extend(runs: &mut Vec<Run>, at: usize, id: u64)
 
 /// Adds a run of the id alone, which is after all runs.
 fn append(runs: &mut Vec<Run>, id: u64) -> Result<(), NoMemory>
-    requires rising { Rising runs.old.items }
+    requires rising { AreRunsRising runs.old.items }
     requires free { is_in_runs runs.old.items id ≡ false }
     requires begun { IsPartitionPoint (λ run. nat_le run.first id ≡ true)
         (λ run. nat_le run.first id ≡ false) runs.old.items (length runs.old.items) }
-    ensures rising { Rising runs.new.items }
+    ensures rising { AreRunsRising runs.new.items }
     ensures ids { OnOk result
         ((x : ℕ) → is_in_runs runs.new.items x ≡ ((id == x) || is_in_runs runs.old.items x)) }
 {

@@ -27,14 +27,14 @@ pub struct NameStore {
 impl Model for NameStore {
     ghost use Rattle.std.specs.Prelude.{◌<◌, IfSome};
     ghost use Rattle.name_store.specs.Names.{HasRoom};
-    ghost use Rattle.name_store.specs.Store.{IsPending, StoreState};
+    ghost use Rattle.name_store.specs.Store.{IsPendingOperation, StoreState};
 
     ghost Value = { StoreState };
 
     ghost view = { λ a. record { log = a.log; table = a.names.table } };
 
     ghost invariant = { λ a. (0 < a.names.table.opening) ×
-        IfSome a.log.pending (λ op. IsPending a.names.table op × HasRoom op a.names) };
+        IfSome a.log.pending (λ op. IsPendingOperation a.names.table op × HasRoom op a.names) };
 }
 
 impl NameStore {
@@ -47,7 +47,7 @@ impl NameStore {
     ghost use Rattle.zone_table.specs.Zones.{zone_paths};
     ghost use Rattle.name_store.specs.Causes.{first_cause, rename_causes};
     ghost use Rattle.name_store.specs.Table.{after_table, allows};
-    ghost use Rattle.name_store.specs.Store.{Commits, IsLeftOf, IsStore, NothingMore, OpensNames, SettlesNames, IsNameStoreOf, Started, Unsettled, is_opening, made_with};
+    ghost use Rattle.name_store.specs.Store.{CommitsOperation, IsLeftOf, IsStore, NothingMore, OpensNames, SettlesNames, IsNameStoreOf, Started, LeavesUnsettled, is_opening, made_with};
 
     /// Opens the edit log of a disk, makes the table of its operations, and commits the record of a new
     /// opening. A crash may stop this call at any moment; start again then.
@@ -109,8 +109,8 @@ impl NameStore {
         ensures memory { IsErrOf result store.NoMemory →
             (self.new ≡ self.old) × (disk.new ≡ disk.old) }
         ensures log { MatchResult result
-            (λ _. Commits (D.state disk.old) (D.state disk.new) self.old op.now true self.new)
-            (λ _. Commits (D.state disk.old) (D.state disk.new) self.old op.now false self.new) }
+            (λ _. CommitsOperation (D.state disk.old) (D.state disk.new) self.old op.now true self.new)
+            (λ _. CommitsOperation (D.state disk.old) (D.state disk.new) self.old op.now false self.new) }
         ensures cause { IsErrOf result store.StoreFault →
             Rose (D.state disk.old).faults (D.state disk.new).faults }
     {
@@ -136,7 +136,7 @@ impl NameStore {
             (result ≡ Ok None) × (self.new ≡ self.old) × (disk.new ≡ disk.old) }
         ensures settles { MatchResult result
             (λ answer. SettlesNames (D.state disk.old) (D.state disk.new) self.old answer self.new)
-            (λ _. Unsettled (D.state disk.old) (D.state disk.new) self.old self.new) }
+            (λ _. LeavesUnsettled (D.state disk.old) (D.state disk.new) self.old self.new) }
         ensures fault { IsErr result → IsErrOf result store.StoreFault }
 
         // A crash at any moment leaves the operations from before it, with the pending one or without.

@@ -28,8 +28,8 @@ Fills (Some text ∷ shape) k = Fills shape k
 Fills (None ∷ shape) k = k ≢ []
 
 -- the path has the segments of the shape, with this open part
-abbrev pub Fits : List ℕ → Shape → List ℕ → Type 0
-Fits path shape k = (segments path ≡ filled shape k) × Fills shape k
+abbrev pub FitsShape : List ℕ → Shape → List ℕ → Type 0
+FitsShape path shape k = (segments path ≡ filled shape k) × Fills shape k
 
 -- no byte is a slash
 abbrev pub HasNoSlash : List ℕ → Type 0

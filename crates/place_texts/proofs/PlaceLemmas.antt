@@ -13,7 +13,7 @@ use Rattle.name_calls.specs.declared.read_paths.SnapPart.{SnapPart}
 use Rattle.name_calls.specs.Paths.{absolute, is_absolute, is_component, is_plain_byte, is_relative, names_text, path_text, read_path, relative}
 use Rattle.name_calls.specs.ReadPaths.{as_it_is, as_it_was, mark, mark_at, read_any_path, read_around, read_below, read_directory, read_in_snapshot, read_parts, snapshot_name, starts_mark}
 use Rattle.name_calls.proofs.PathLemmas.{is_slash, parts_of, read-more}
-use Rattle.place_texts.specs.Places.{IsPart, IsRuled, below_part, is_whole_snapshot, part_text, place_below, raw, read_path_text, read_raw_place, whole_directory}
+use Rattle.place_texts.specs.Places.{IsRuled, IsSnapshotPart, below_part, is_whole_snapshot, part_text, place_below, raw, read_path_text, read_raw_place, whole_directory}
 
 -- ---- a name has no slash, is not empty and is not `.snapshot`
 
@@ -240,7 +240,7 @@ snapshot-back : (p : List (List ℕ)) (name : List ℕ) (b : List (List ℕ)) �
     → read_any_path (names_text p ++ mark ++ name ++ names_text b) ≡ Some (as_it_was p name b)
 snapshot-back p name b h e f = reads-parts p name b h e ∙ ap (read_parts (Some p) name) (read-below b f) ∙ ap (λ (t : Bool). cond t (Some (as_it_was p name b)) None) e
 
-part-back : (p : List (List ℕ)) (o : Option SnapPart) → is_absolute p ≡ true → IsPart o → read_any_path (part_text p o) ≡ Some (record { path = p; snapshot = o })
+part-back : (p : List (List ℕ)) (o : Option SnapPart) → is_absolute p ≡ true → IsSnapshotPart o → read_any_path (part_text p o) ≡ Some (record { path = p; snapshot = o })
 part-back p None h part = live-back p h
 part-back p (Some part) h (e, f) = snapshot-back p part.name part.below h e f
 
@@ -300,7 +300,7 @@ all-more : (p q : List (List ℕ)) → list_all is_component p ≡ true → list
 all-more [] q h e = e
 all-more (c ∷ p) q h e = let w = and_parts (is_component c) (list_all is_component p) h in let rest : list_all is_component (p ++ q) ≡ true = all-more p q w.1 e in ap (λ (t : Bool). t && list_all is_component (p ++ q)) w.0 ∙ rest
 
-part-only : (p below : List (List ℕ)) (o : Option SnapPart) (r : ReadPath) → is_absolute p ≡ true → IsPart o → is_relative below ≡ true
+part-only : (p below : List (List ℕ)) (o : Option SnapPart) (r : ReadPath) → is_absolute p ≡ true → IsSnapshotPart o → is_relative below ≡ true
     → read_any_path (read_path_text (below_part p o below)) ≡ Some r → r ≡ below_part p o below
 part-only p below None r h part few e = let a = absolute-parts p h in live-only (p ++ below) r (all-more p below a.names (relative-names below few)) e
 part-only p below (Some part) r h (n, b) few e = snapshot-only p part.name (part.below ++ below) r h n (all-more part.below below (relative-names part.below b) (relative-names below few)) e

@@ -22,14 +22,14 @@ abbrev pub read_path_text : ReadPath → List ℕ
 read_path_text place = part_text place.path place.snapshot
 
 -- the rule of a place in a snapshot
-abbrev pub IsPart : Option SnapPart → Type 0
-IsPart None = Unit {0}
-IsPart (Some part) = (is_component part.name ≡ true) × (is_relative part.below ≡ true)
+abbrev pub IsSnapshotPart : Option SnapPart → Type 0
+IsSnapshotPart None = Unit {0}
+IsSnapshotPart (Some part) = (is_component part.name ≡ true) × (is_relative part.below ≡ true)
 
 -- the rule of paths that are read
 pub record IsRuled (place : ReadPath) : Type 0 where
   pub directory : is_absolute place.path ≡ true
-  pub part : IsPart place.snapshot
+  pub part : IsSnapshotPart place.snapshot
 
 -- ---- the place to copy
 

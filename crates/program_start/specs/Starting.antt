@@ -9,6 +9,6 @@ abbrev pub EndsWith : ℕ → ℕ → Type 0
 EndsWith own status = (status ≡ own) ⊎ (status ≡ 8)
 
 -- An error ends the program: with 6 if an allocation failed, else with this status.
-pub record EndsBy (own : ℕ) (error : Error) (status : ℕ) : Type 0 where
+pub record EndsProgram (own : ℕ) (error : Error) (status : ℕ) : Type 0 where
   pub memory : error_kind error ≡ OutOfMemory → EndsWith 6 status
   pub other : error_kind error ≢ OutOfMemory → EndsWith own status

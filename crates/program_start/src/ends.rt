@@ -1,5 +1,5 @@
 //! How a program ends if its command cannot run.
-ghost use Rattle.program_start.specs.Starting.{EndsBy, EndsWith};
+ghost use Rattle.program_start.specs.Starting.{EndsProgram, EndsWith};
 
 use hk_base::{Sink, write_all};
 use std::io::{self, ErrorKind};
@@ -17,7 +17,7 @@ pub fn end_with<K: Sink>(out: &mut K, line: &[u8], status: u8) -> u8
 /// Tells of an error by a last line, as `end_with` does. A failed allocation has a line and a status of
 /// its own.
 pub fn end_by<K: Sink>(out: &mut K, error: &io::Error, line: &[u8], status: u8) -> u8
-    ensures { EndsBy status error.now result }
+    ensures { EndsProgram status error.now result }
 {
     if error.kind() == ErrorKind::OutOfMemory {
         return end_with(out, b"no memory\n", 6);

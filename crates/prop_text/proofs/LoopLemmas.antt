@@ -12,7 +12,7 @@ use Rattle.prop_text.specs.declared.faults.PropFault.TheVariants as fault
 use Rattle.prop_text.specs.declared.lines.PropLine.{PropLine}
 use Rattle.prop_text.specs.declared.reading.Reading.{Reading}
 use Rattle.prop_text.specs.declared.setting.Setting.{Setting}
-use Rattle.prop_text.specs.Properties.{HasFault, IsBadLine, IsFirst, IsProps, IsRepeated, IsUnknown, SayAll, Says, cut_at_equals, is_among, is_quiet, lines_of, longest_text, name_part, name_set, names_set}
+use Rattle.prop_text.specs.Properties.{HasFault, IsBadLine, IsFirst, IsProps, IsRepeated, IsUnknownName, SayAll, SaysProperty, cut_at_equals, is_among, is_quiet, lines_of, longest_text, name_part, name_set, names_set}
 use Rattle.prop_text.specs.Names.{setting_of}
 use Rattle.prop_text.specs.Sizes.{default_sizes, sizes_of, with_line}
 use Rattle.prop_text.specs.Steps.{AddsLine, AddsValue, LineHasFault, ReadsLine}
@@ -45,7 +45,7 @@ say_quiet [] line props quiet say = inl (quiet, say)
 say_quiet (l ∷ ls) line props quiet (inl (q, say)) = inl (q, say_quiet ls line props quiet say)
 say_quiet (l ∷ ls) line props quiet (inr (prop, rest, says, say, is)) = inr (prop, rest, says, say_quiet ls line rest quiet say, is)
 
-say_more : (lines : List (List ℕ)) (line : List ℕ) (props : List PropLine) (prop : PropLine) → Says line prop → SayAll lines props → SayAll (lines ++ line ∷ []) (props ++ prop ∷ [])
+say_more : (lines : List (List ℕ)) (line : List ℕ) (props : List PropLine) (prop : PropLine) → SaysProperty line prop → SayAll lines props → SayAll (lines ++ line ∷ []) (props ++ prop ∷ [])
 say_more [] line props prop says say = inr (prop, [], says, refl, ap (λ ps. ps ++ prop ∷ []) say)
 say_more (l ∷ ls) line props prop says (inl (q, say)) = inl (q, say_more ls line props prop says say)
 say_more (l ∷ ls) line props prop says (inr (first, rest, first_says, say, is)) =
@@ -57,7 +57,7 @@ names_more lines line = flat_map-append name_set lines (line ∷ []) ∙ ap (λ 
 name_quiet : (line : List ℕ) → is_quiet line ≡ true → name_set line ≡ []
 name_quiet line quiet = ap (λ t. cond t [] (name_part (cut_at_equals line))) quiet
 
-name_says : (line : List ℕ) (prop : PropLine) (says : Says line prop) → name_set line ≡ says.name ∷ []
+name_says : (line : List ℕ) (prop : PropLine) (says : SaysProperty line prop) → name_set line ≡ says.name ∷ []
 name_says line prop says = ap (λ t. cond t [] (name_part (cut_at_equals line))) says.sets.not_quiet ∙ ap name_part says.sets.cut
 
 turned : (a b : Bool) → (a || b) ≡ (b || (a || false))
@@ -149,7 +149,7 @@ moved_value some others line same (inr bad) = inr (record { name = bad.name; val
 moved_again : (some others : List (List ℕ)) (line : List ℕ) → ((name : List ℕ) → is_among name some ≡ is_among name others) → IsRepeated some line → IsRepeated others line
 moved_again some others line same again = record { name = again.name; value = again.value; what = again.what; sets = again.sets; again = sym (same again.name) ∙ again.again }
 
-moved_unknown : (some others : List (List ℕ)) (line : List ℕ) → IsUnknown some line → IsUnknown others line
+moved_unknown : (some others : List (List ℕ)) (line : List ℕ) → IsUnknownName some line → IsUnknownName others line
 moved_unknown some others line unknown = record { name = unknown.name; value = unknown.value; not_quiet = unknown.not_quiet; cut = unknown.cut; unknown = unknown.unknown }
 
 first_fault : (text rest line : List ℕ) (more : List (List ℕ)) (now : Reading) (count number : ℕ) (IsFault : List (List ℕ) → List ℕ → Type 0) → length text ≤ longest_text → (so_far : SoFar text rest now count) → lines_of rest ≡ line ∷ more → number ≡ count + 1 → IsFault (names_set so_far.earlier) line → IsFirst text number IsFault
@@ -171,7 +171,7 @@ line_fault text rest line more now count (fault.BadLine n) short so_far is bad =
 line_fault text rest line more now count (fault.Repeated n) short so_far is bad =
     first_fault text rest line more now count n IsRepeated short so_far is bad.0 (moved_again now.names (names_set so_far.earlier) line so_far.said.names bad.1)
 line_fault text rest line more now count (fault.UnknownName n) short so_far is bad =
-    first_fault text rest line more now count n IsUnknown short so_far is bad.0 (moved_unknown now.names (names_set so_far.earlier) line bad.1)
+    first_fault text rest line more now count n IsUnknownName short so_far is bad.0 (moved_unknown now.names (names_set so_far.earlier) line bad.1)
 line_fault text rest line more now count fault.TooLong short so_far is bad = absurd bad
 line_fault text rest line more now count fault.NoMemory short so_far is bad = bad
 

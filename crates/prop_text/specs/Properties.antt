@@ -112,7 +112,7 @@ pub record Sets (line name value : List ℕ) (what : Setting) : Type 0 where
   pub cut : cut_at_equals line ≡ Some (name, value)
   pub known : setting_of name ≡ Some what
 
-pub record Says (line : List ℕ) (prop : PropLine) : Type 0 where
+pub record SaysProperty (line : List ℕ) (prop : PropLine) : Type 0 where
   pub name : List ℕ
   pub value : List ℕ
   pub what : Setting
@@ -122,7 +122,7 @@ pub record Says (line : List ℕ) (prop : PropLine) : Type 0 where
 -- the properties that lines set, in order; quiet lines set none
 abbrev pub SayAll : List (List ℕ) → List PropLine → Type 0
 SayAll [] props = props ≡ []
-SayAll (line ∷ lines) props = ((is_quiet line ≡ true) × SayAll lines props) ⊎ ((prop : PropLine) × (rest : List PropLine) × Says line prop × SayAll lines rest × (props ≡ prop ∷ rest))
+SayAll (line ∷ lines) props = ((is_quiet line ≡ true) × SayAll lines props) ⊎ ((prop : PropLine) × (rest : List PropLine) × SaysProperty line prop × SayAll lines rest × (props ≡ prop ∷ rest))
 
 abbrev pub name_part : Option (List ℕ × List ℕ) → List (List ℕ)
 name_part None = []
@@ -164,7 +164,7 @@ pub record IsRepeated (earlier : List (List ℕ)) (line : List ℕ) : Type 0 whe
   pub again : is_among name earlier ≡ true
 
 -- an unknown name
-pub record IsUnknown (earlier : List (List ℕ)) (line : List ℕ) : Type 0 where
+pub record IsUnknownName (earlier : List (List ℕ)) (line : List ℕ) : Type 0 where
   pub name : List ℕ
   pub value : List ℕ
   pub not_quiet : is_quiet line ≡ false
@@ -198,6 +198,6 @@ pub record IsFirst (text : List ℕ) (number : ℕ) (IsFault : List (List ℕ) �
 abbrev pub HasFault : List ℕ → PropFault → Type 0
 HasFault text (fault.BadLine number) = IsFirst text number IsBadLine
 HasFault text (fault.Repeated number) = IsFirst text number IsRepeated
-HasFault text (fault.UnknownName number) = IsFirst text number IsUnknown
+HasFault text (fault.UnknownName number) = IsFirst text number IsUnknownName
 HasFault text fault.TooLong = longest_text < length text
 HasFault text fault.NoMemory = Unit {0}

@@ -30,20 +30,20 @@ use Rattle.kms_acls.specs.Agreement.{AreListsOf}
 use Rattle.kms_acls.specs.Lists.{Lists}
 use Rattle.backup_names.specs.Orders.{OrdersNames}
 use Rattle.backup_names.proofs.OrderLemmas.{no_orders, orders_then}
-use Rattle.copy_target.specs.Targets.{BothRefuse, DiskFails, NamesRefuse, PartsRefuse, RepliedTo, VaultsFail, WorksOn, state_of}
+use Rattle.copy_target.specs.Targets.{BothRefuse, DiskFails, NamesRefuse, PartsRefuse, RepliedTo, VaultsFail, WorksOnTarget, state_of}
 use Rattle.copy_target.specs.declared.both.BothClusters.{BothClusters}
 use Rattle.row_copies.specs.Clusters.{EndsFor}
-use Rattle.row_copies.specs.Copies.{CopiesAll, CopyRefused, FailsLast, Steps, WholeEnds, StopsEarly, Done, Then, is_file}
+use Rattle.row_copies.specs.Copies.{CopiesAll, CopyRefused, FailsLast, ChainOf, WholeEnds, StopsEarly, Done, Then, is_file}
 use Rattle.row_copies.specs.Walks.{is_directory}
 use Rattle.row_copies.specs.declared.walk.Copied.{Copied}
 use Rattle.row_copies.proofs.CauseLemmas.{ends-so}
-use Rattle.world_desk.specs.Worlds.{IsReady}
+use Rattle.world_desk.specs.Worlds.{IsDeskReady}
 use Rattle.world_events.specs.Events.{LeadsAt, standing_of, HoldsSame as HoldsServices}
 use Rattle.world_run.specs.Acknowledged.{also}
 use Rattle.world_run.specs.Drives.{Standing}
 use Rattle.world_events.specs.declared.events.WorldEvents.{WorldEvents}
 use Rattle.world_run.specs.World.{WorldState, world_of}
-use Rattle.world_rows.specs.Rows.{CanRead, IsPlace, ReadRefused, ReadsOn, ReadsOnce, place_rows, table_of}
+use Rattle.world_rows.specs.Rows.{CanRead, EventRefused, IsPlace, ReadsOn, ReadsOnce, place_rows, table_of}
 use Rattle.world_rows.specs.declared.rows.WorldRows.{WorldRows}
 use Rattle.world_rows.proofs.FaultLemmas.{look_ends}
 use Rattle.world_rows.proofs.ReadLemmas.{look_once, looks_on, once_same, quiet, row_found}
@@ -52,12 +52,12 @@ use Rattle.raw_copy.specs.declared.backup.CopyFault.TheVariants.{End, Start}
 use Rattle.raw_copy.specs.Refusals.{CheckRefused, IntoRefused, RefusedFor}
 use Rattle.raw_copy.specs.Copies.{AreTexts, CopiesFrom, CopiesOpened, CopiesPlace, CopiesZone, Copying, EndsByCause, IsCopyEnd, OnlyRead, ReadsOnceIn, StopsPlace, StopsZone, VaultsFailed, copied_or, copying, state_at}
 
-pub steps_join : {X : Type 0} (follows : X → X → Type 0) (a b c : X) → Steps follows a b → Steps follows b c → Steps follows a c
+pub steps_join : {X : Type 0} (follows : X → X → Type 0) (a b c : X) → ChainOf follows a b → ChainOf follows b c → ChainOf follows a c
 steps_join follows a b c s Done = s
 steps_join follows a b c s (Then m n t f) = Then m n (steps_join follows a b m s t) f
 
 module _ {S E V U : Type 0} (follows : S → S → Type 0) (disk : E → DiskState) (vault : V → VaultState) (copies : U → VaultState) where
-  two_works : (a b c : BothClusters S E V U) → WorksOn follows disk vault copies a b → WorksOn follows disk vault copies b c → WorksOn follows disk vault copies a c
+  two_works : (a b c : BothClusters S E V U) → WorksOnTarget follows disk vault copies a b → WorksOnTarget follows disk vault copies b c → WorksOnTarget follows disk vault copies a c
   two_works a b c x y = record {
     holds = record {
       source = y.holds.source ∙ x.holds.source;
@@ -74,23 +74,23 @@ module _ {S E V U : Type 0} (follows : S → S → Type 0) (disk : E → DiskSta
   }
 
   -- steps that work on two clusters work on them
-  pub worked : (a b : BothClusters S E V U) → Steps (WorksOn follows disk vault copies) a b → WorksOn follows disk vault copies a b
+  pub worked : (a b : BothClusters S E V U) → ChainOf (WorksOnTarget follows disk vault copies) a b → WorksOnTarget follows disk vault copies a b
   worked a b Done = record { holds = record { source = refl; names = refl; backup = refl; vault = refl; copies = refl; user = refl }; source = Done; orders = no_orders (disk a.backup.now) a.names.now; vault_later = omega arith; copies_later = omega arith }
   worked a b (Then m n t f) = two_works a m n (worked a m t) f
 
   -- why they ended
 
   module _ (rows : S → List Entry) (a b : BothClusters S E V U) where
-    disk_cause : FailsLast (state_of rows vault copies) (WorksOn follows disk vault copies) (DiskFails disk) a b → Rose (disk a.backup.now).faults (disk b.backup.now).faults
+    disk_cause : FailsLast (state_of rows vault copies) (WorksOnTarget follows disk vault copies) (DiskFails disk) a b → Rose (disk a.backup.now).faults (disk b.backup.now).faults
     disk_cause f =
         let w = worked a f.mid f.before in
         let later = w.orders.run.faults in
         rose_since (disk a.backup.now).faults (disk f.mid.backup.now).faults (disk b.backup.now).faults later f.last
 
-    vault_cause : FailsLast (state_of rows vault copies) (WorksOn follows disk vault copies) (VaultsFail vault copies) a b → VaultsFailed (vault a.vault.now) (vault b.vault.now) (copies a.copies.now) (copies b.copies.now)
+    vault_cause : FailsLast (state_of rows vault copies) (WorksOnTarget follows disk vault copies) (VaultsFail vault copies) a b → VaultsFailed (vault a.vault.now) (vault b.vault.now) (copies a.copies.now) (copies b.copies.now)
     vault_cause f = go f.last
       where
-        w : WorksOn follows disk vault copies a f.mid
+        w : WorksOnTarget follows disk vault copies a f.mid
         w = worked a f.mid f.before
 
         go : VaultsFail vault copies f.mid b → VaultsFailed (vault a.vault.now) (vault b.vault.now) (copies a.copies.now) (copies b.copies.now)
@@ -104,16 +104,16 @@ module _ {S E V U : Type 0} (follows : S → S → Type 0) (disk : E → DiskSta
 
     -- the steps before the last one are those of the source and of the namesystem
     module _ (refuses : S → S → FsEnd → Type 0) (replies : S → KeyName → KmsReply → S → Type 0) (to : List (List ℕ)) where
-      refused_cause : (why : FsEnd) → CopyRefused (state_of rows vault copies) (WorksOn follows disk vault copies) (BothRefuse refuses replies disk) to a b why
+      refused_cause : (why : FsEnd) → CopyRefused (state_of rows vault copies) (WorksOnTarget follows disk vault copies) (BothRefuse refuses replies disk) to a b why
           → IntoRefused follows refuses replies disk a.user.now to (state_of rows vault copies a) a.source.now b.source.now a.backup.now b.backup.now a.names.now b.names.now why
       refused_cause why (inr rule) = inl rule
       refused_cause why (inl f) = inr (go f.last)
         where
-          w : WorksOn follows disk vault copies a f.mid
+          w : WorksOnTarget follows disk vault copies a f.mid
           w = worked a f.mid f.before
 
           go : PartsRefuse refuses replies disk f.mid.user.now f.mid.source.now b.source.now f.mid.backup.now b.backup.now f.mid.names.now b.names.now why
-              → (mid : S) × Steps follows a.source.now mid × PartsRefuse refuses replies disk a.user.now mid b.source.now a.backup.now b.backup.now a.names.now b.names.now why
+              → (mid : S) × ChainOf follows a.source.now mid × PartsRefuse refuses replies disk a.user.now mid b.source.now a.backup.now b.backup.now a.names.now b.names.now why
           go (inl r) = (f.mid.source.now, w.source, inl r)
           go (inr t) = (
             f.mid.source.now,
@@ -126,21 +126,21 @@ module _ {S E V U : Type 0} (follows : S → S → Type 0) (disk : E → DiskSta
             }),
           )
 
-      both_end : (why : FsEnd) → WholeEnds (state_of rows vault copies) (WorksOn follows disk vault copies) (DiskFails disk) (VaultsFail vault copies) (BothRefuse refuses replies disk) to a b why
+      both_end : (why : FsEnd) → WholeEnds (state_of rows vault copies) (WorksOnTarget follows disk vault copies) (DiskFails disk) (VaultsFail vault copies) (BothRefuse refuses replies disk) to a b why
           → EndsFor (Rose (disk a.backup.now).faults (disk b.backup.now).faults) (VaultsFailed (vault a.vault.now) (vault b.vault.now) (copies a.copies.now) (copies b.copies.now))
           (IntoRefused follows refuses replies disk a.user.now to (state_of rows vault copies a) a.source.now b.source.now a.backup.now b.backup.now a.names.now b.names.now) why
       both_end why e =
-          ends-so (FailsLast (state_of rows vault copies) (WorksOn follows disk vault copies) (DiskFails disk) a b) (FailsLast (state_of rows vault copies) (WorksOn follows disk vault copies) (VaultsFail vault copies) a b)
+          ends-so (FailsLast (state_of rows vault copies) (WorksOnTarget follows disk vault copies) (DiskFails disk) a b) (FailsLast (state_of rows vault copies) (WorksOnTarget follows disk vault copies) (VaultsFail vault copies) a b)
           (Rose (disk a.backup.now).faults (disk b.backup.now).faults) (VaultsFailed (vault a.vault.now) (vault b.vault.now) (copies a.copies.now) (copies b.copies.now))
-          (CopyRefused (state_of rows vault copies) (WorksOn follows disk vault copies) (BothRefuse refuses replies disk) to a b)
+          (CopyRefused (state_of rows vault copies) (WorksOnTarget follows disk vault copies) (BothRefuse refuses replies disk) to a b)
           (IntoRefused follows refuses replies disk a.user.now to (state_of rows vault copies a) a.source.now b.source.now a.backup.now b.backup.now a.names.now b.names.now) why disk_cause vault_cause (refused_cause why) e
 
-      pub both_ends : (result : Result Copied FsEnd) → IfErr result (WholeEnds (state_of rows vault copies) (WorksOn follows disk vault copies) (DiskFails disk) (VaultsFail vault copies) (BothRefuse refuses replies disk) to a b)
+      pub both_ends : (result : Result Copied FsEnd) → IfErr result (WholeEnds (state_of rows vault copies) (WorksOnTarget follows disk vault copies) (DiskFails disk) (VaultsFail vault copies) (BothRefuse refuses replies disk) to a b)
           → IfErr result (EndsByCause (disk a.backup.now) (disk b.backup.now) (vault a.vault.now) (vault b.vault.now) (copies a.copies.now) (copies b.copies.now))
       both_ends (Ok counts) e = e
       both_ends (Err why) e = ends-so (Rose (disk a.backup.now).faults (disk b.backup.now).faults) (VaultsFailed (vault a.vault.now) (vault b.vault.now) (copies a.copies.now) (copies b.copies.now)) (Rose (disk a.backup.now).faults (disk b.backup.now).faults) (VaultsFailed (vault a.vault.now) (vault b.vault.now) (copies a.copies.now) (copies b.copies.now)) (IntoRefused follows refuses replies disk a.user.now to (state_of rows vault copies a) a.source.now b.source.now a.backup.now b.backup.now a.names.now b.names.now) (λ (w : FsEnd). ⊤) why (λ h. h) (λ h. h) (λ h. tt) (both_end why e)
 
-      pub both_refused : (result : Result Copied FsEnd) → IfErr result (WholeEnds (state_of rows vault copies) (WorksOn follows disk vault copies) (DiskFails disk) (VaultsFail vault copies) (BothRefuse refuses replies disk) to a b)
+      pub both_refused : (result : Result Copied FsEnd) → IfErr result (WholeEnds (state_of rows vault copies) (WorksOnTarget follows disk vault copies) (DiskFails disk) (VaultsFail vault copies) (BothRefuse refuses replies disk) to a b)
           → IfErr result (RefusedFor (IntoRefused follows refuses replies disk a.user.now to (state_of rows vault copies a) a.source.now b.source.now a.backup.now b.backup.now a.names.now b.names.now))
       both_refused (Ok counts) e = e
       both_refused (Err why) e = ends-so (Rose (disk a.backup.now).faults (disk b.backup.now).faults) (VaultsFailed (vault a.vault.now) (vault b.vault.now) (copies a.copies.now) (copies b.copies.now)) ⊤ ⊤ (IntoRefused follows refuses replies disk a.user.now to (state_of rows vault copies a) a.source.now b.source.now a.backup.now b.backup.now a.names.now b.names.now) (IntoRefused follows refuses replies disk a.user.now to (state_of rows vault copies a) a.source.now b.source.now a.backup.now b.backup.now a.names.now b.names.now) why (λ h. tt) (λ h. tt) (λ h. h) (both_end why e)
@@ -148,7 +148,7 @@ module _ {S E V U : Type 0} (follows : S → S → Type 0) (disk : E → DiskSta
 none_before : (k : ℕ) → 0 + k ≡ k
 none_before k = omega arith
 
-module _ {D W : Type 0} (state : D → DiskState) (to_come : W → ℕ → ℕ) (now : ℕ) (a b : Standing D W) (ready : IsReady state a) where
+module _ {D W : Type 0} (state : D → DiskState) (to_come : W → ℕ → ℕ) (now : ℕ) (a b : Standing D W) (ready : IsDeskReady state a) where
   -- no word was drawn
   once_rest : ReadsOnce state to_come now a b → (k : ℕ) → to_come b.words k ≡ to_come a.words k
   once_rest (inl same) k = ap (λ (v : Standing D W). to_come v.words k) same
@@ -158,8 +158,8 @@ module _ {D W : Type 0} (state : D → DiskState) (to_come : W → ℕ → ℕ) 
       s.rest k ∙ ap (λ (n : ℕ). to_come a.words (n + k)) q.0 ∙ ap (to_come a.words) (none_before k)
 
   -- and the services are ready for more events
-  once_ready : ReadsOnce state to_come now a b → IsReady state b
-  once_ready (inl same) = subst (IsReady state) (sym same) ready
+  once_ready : ReadsOnce state to_come now a b → IsDeskReady state b
+  once_ready (inl same) = subst (IsDeskReady state) (sym same) ready
   once_ready (inr (e, answer, only, leads)) =
       let s = leads ready.0 ready.1.lists in (
         ready.0,
@@ -195,12 +195,12 @@ module _ {D W : Type 0} (state : D → DiskState) (to_come : W → ℕ → ℕ) 
         };
       }
 
-  pub read_all : (a b : WorldRows D W) → CanRead state a → Steps (ReadsOn state to_come) a b → ReadAll state to_come a b
+  pub read_all : (a b : WorldRows D W) → CanRead state a → ChainOf (ReadsOn state to_come) a b → ReadAll state to_come a b
   read_all a b can Done = record { holds = (refl, (refl, (refl, refl))); place = refl; read = record { events = Done; same = refl; rest = λ k. refl; ready = can.events } }
   read_all a b can (Then m n t f) = read_more a m n (read_all a m can t) f
 
 module _ {D W : Type 0} (state : D → DiskState) (to_come : W → ℕ → ℕ) (now : ℕ) where
-  pub read_once : (a b : Standing D W) → IsReady state a → ReadsOnce state to_come now a b → OnlyRead state to_come now a b
+  pub read_once : (a b : Standing D W) → IsDeskReady state a → ReadsOnce state to_come now a b → OnlyRead state to_come now a b
   read_once a b ready once = record {
     events = Then a b Done once;
     same = once_same state to_come now a b ready once;
@@ -208,7 +208,7 @@ module _ {D W : Type 0} (state : D → DiskState) (to_come : W → ℕ → ℕ) 
     ready = once_ready state to_come now a b ready once;
   }
 
-  pub read_nothing : (a : Standing D W) → IsReady state a → OnlyRead state to_come now a a
+  pub read_nothing : (a : Standing D W) → IsDeskReady state a → OnlyRead state to_come now a a
   read_nothing a ready = record { events = Done; same = refl; rest = λ k. refl; ready = ready }
 
   pub read_then : (a b c : Standing D W) → OnlyRead state to_come now a b → OnlyRead state to_come now b c → OnlyRead state to_come now a c
@@ -228,7 +228,7 @@ pub directory_if : (result : Result (Unit {0}) FsEnd) (found : Option Row) (row 
 directory_if (Ok done) found row e is = ap is_dir_at e ∙ is
 directory_if (Err why) found row e is = tt
 
-module _ {D W : Type 0} (state : D → DiskState) (to_come : W → ℕ → ℕ) (a b : WorldEvents D W) (ready : IsReady state (standing_of a)) (user : Text) (is_user : user ≡ superuser) (place : ReadPath) (root : NPath) (result : Result Row FsEnd)
+module _ {D W : Type 0} (state : D → DiskState) (to_come : W → ℕ → ℕ) (a b : WorldEvents D W) (ready : IsDeskReady state (standing_of a)) (user : Text) (is_user : user ≡ superuser) (place : ReadPath) (root : NPath) (result : Result Row FsEnd)
     (looks : Looks (λ (old : WorldEvents D W) e answer new. HoldsServices old new × LeadsAt state to_come old.now (standing_of old) e answer (standing_of new)) user (place_below place root) a result b) where
   pub look_reads : HoldsServices a b × OnlyRead state to_come a.now (standing_of a) (standing_of b)
   look_reads =
@@ -240,9 +240,9 @@ module _ {D W : Type 0} (state : D → DiskState) (to_come : W → ℕ → ℕ) 
       let w = looks_on state to_come a b user (place_below place root) result looks in
       go result (look_ends state to_come a.now (standing_of a) (standing_of b) ready user is_user (place_below place root) result w.1)
     where
-      go : (r : Result Row FsEnd) → IfErr r (EndsFor ⊥ ⊥ (ReadRefused state to_come a.now (standing_of a) (standing_of b))) → IfErr r (EndsFor ⊥ ⊥ (CheckRefused (LeadsAt state to_come a.now) rows (standing_of a) (standing_of b)))
+      go : (r : Result Row FsEnd) → IfErr r (EndsFor ⊥ ⊥ (EventRefused state to_come a.now (standing_of a) (standing_of b))) → IfErr r (EndsFor ⊥ ⊥ (CheckRefused (LeadsAt state to_come a.now) rows (standing_of a) (standing_of b)))
       go (Ok row) e = tt
-      go (Err why) e = ends-so ⊥ ⊥ ⊥ ⊥ (ReadRefused state to_come a.now (standing_of a) (standing_of b)) (CheckRefused (LeadsAt state to_come a.now) rows (standing_of a) (standing_of b)) why (λ h. h) (λ h. h) (λ h. inr h) e
+      go (Err why) e = ends-so ⊥ ⊥ ⊥ ⊥ (EventRefused state to_come a.now (standing_of a) (standing_of b)) (CheckRefused (LeadsAt state to_come a.now) rows (standing_of a) (standing_of b)) why (λ h. h) (λ h. h) (λ h. inr h) e
 
   pub root_found : IsPlace place → root ≡ [] → (row : Row) → result ≡ Ok row → row_at (place_rows (table_of a.world.now) place) [] ≡ Some row
   root_found is_place e row is =
@@ -299,7 +299,7 @@ module _ (from to : List ℕ) (place : ReadPath) (path : NPath) (texts : AreText
 
 -- Whatever follows the events of the services follows these, and only events that read happened there too.
 pub reads_followed : {D W Y : Type 0} (state : D → DiskState) (to_come : W → ℕ → ℕ) (now : ℕ) (others : Leading Y) (R : Standing D W → Y → Type 0) → Follows (LeadsAt state to_come now) others R
-    → (a b : Standing D W) → Steps (ReadsOnce state to_come now) a b → (y : Y) → R a y → (z : Y) × Steps (ReadsOnceIn others) y z × R b z
+    → (a b : Standing D W) → ChainOf (ReadsOnce state to_come now) a b → (y : Y) → R a y → (z : Y) × ChainOf (ReadsOnceIn others) y z × R b z
 reads_followed state to_come now others R follow a b Done y r = (y, Done, r)
 reads_followed {D} {W} state to_come now others R follow a b (Then m n t (inl same)) y r =
     let w = reads_followed state to_come now others R follow a m t y r in (w.0, w.1, subst (λ (v : Standing D W). R v w.0) (sym same) w.2)

@@ -23,12 +23,12 @@ use Rattle.name_core.specs.Calls.{superuser}
 use Rattle.name_core.specs.State.{RunningNames}
 use Rattle.name_store.specs.Table.{NameTable}
 use Rattle.row_copies.specs.Clusters.{CopyState, EndsFor}
-use Rattle.row_copies.specs.Copies.{Done, RuleRefuses, Steps, Then}
+use Rattle.row_copies.specs.Copies.{ChainOf, Done, RuleRefuses, Then}
 use Rattle.row_copies.proofs.CauseLemmas.{ends-so}
 use Rattle.world_events.specs.Events.{LeadsAt, standing_of}
 use Rattle.world_desk.specs.Worlds.{standing}
 use Rattle.world_run.specs.World.{RunningWorld}
-use Rattle.world_rows.specs.Rows.{CanRead, ReadRefused, ReadsOn, ReadsOnce, RefusesTo, RepliesTo, place_rows, rows_seen, table_of}
+use Rattle.world_rows.specs.Rows.{CanRead, EventRefused, ReadsOn, ReadsOnce, RefusesTo, RepliesTo, place_rows, rows_seen, table_of}
 use Rattle.world_rows.specs.declared.rows.WorldRows.{WorldRows}
 use Rattle.world_run.specs.Drives.{Standing}
 use Rattle.raw_copy.specs.Copies.{Copying, OnlyRead, ReadsOnceIn, copy_state, copying, state_at}
@@ -59,7 +59,7 @@ module _ {E : Type 0} (disk : E → DiskState) (user : Text) (old new : E) (r r'
 
 -- ---- the rows that are read
 
-pub as_in : {D W : Type 0} (state : D → DiskState) (to_come : W → ℕ → ℕ) (now : ℕ) (a b : Standing D W) → Steps (ReadsOnce state to_come now) a b → Steps (ReadsOnceIn (LeadsAt state to_come now)) a b
+pub as_in : {D W : Type 0} (state : D → DiskState) (to_come : W → ℕ → ℕ) (now : ℕ) (a b : Standing D W) → ChainOf (ReadsOnce state to_come now) a b → ChainOf (ReadsOnceIn (LeadsAt state to_come now)) a b
 as_in state to_come now a b Done = Done
 as_in state to_come now a b (Then m n t f) = Then m n (as_in state to_come now a m t) f
 
@@ -75,8 +75,8 @@ module _ {D W E : Type 0} (state : D → DiskState) (to_come : W → ℕ → ℕ
       same = let h = x.holds in h.1.1.1
 
       go : PartsRefuse (RefusesTo state to_come) (RepliesTo state to_come) disk user mid b old new r r' why
-          → ReadRefused state to_come a.events.now (standing_of mid.events) (standing_of b.events) why ⊎ TargetRefuses disk user (KeyToldIn (LeadsAt state to_come a.events.now) (standing_of mid.events) (standing_of b.events)) old new r r' why
-      go (inl own) = inl (subst (λ (n : ℕ). ReadRefused state to_come n (standing_of mid.events) (standing_of b.events) why) same own)
+          → EventRefused state to_come a.events.now (standing_of mid.events) (standing_of b.events) why ⊎ TargetRefuses disk user (KeyToldIn (LeadsAt state to_come a.events.now) (standing_of mid.events) (standing_of b.events)) old new r r' why
+      go (inl own) = inl (subst (λ (n : ℕ). EventRefused state to_come n (standing_of mid.events) (standing_of b.events) why) same own)
       go (inr t) =
           inr (target_so disk user old new r r' why (RepliedTo (RepliesTo state to_come) mid b) (KeyToldIn (LeadsAt state to_come a.events.now) (standing_of mid.events) (standing_of b.events))
           (λ reply told. (told.0, subst (λ (n : ℕ). LeadsAt state to_come n (standing_of mid.events) (event.Kms superuser (call.Metadata told.0)) (line.Kms reply) (standing_of b.events)) same told.1)) t)
@@ -157,7 +157,7 @@ not_read_cause store vault none why (inr (is, lacks)) = subst (EndsFor store vau
 
 module _ {X Y : Type 0} (leads : Leading X) (others : Leading Y) (R : X → Y → Type 0) (follow : Follows leads others R) where
   -- events that read are followed by events that read
-  pub steps_followed : (a b : X) → Steps (ReadsOnceIn leads) a b → (y : Y) → R a y → (z : Y) × Steps (ReadsOnceIn others) y z × R b z
+  pub steps_followed : (a b : X) → ChainOf (ReadsOnceIn leads) a b → (y : Y) → R a y → (z : Y) × ChainOf (ReadsOnceIn others) y z × R b z
   steps_followed a b Done y r = (y, Done, r)
   steps_followed a b (Then m n t (inl same)) y r = let w = steps_followed a m t y r in (w.0, w.1, subst (λ (v : X). R v w.0) (sym same) w.2)
   steps_followed a b (Then m n t (inr (e, answer, only, led))) y r =
@@ -165,12 +165,12 @@ module _ {X Y : Type 0} (leads : Leading X) (others : Leading Y) (R : X → Y �
       let f = follow m n w.0 e answer w.2 led in
       (f.0, Then w.0 f.0 w.1 (inr (e, answer, only, f.1.0)), f.1.1)
 
-  module _ (a b : X) (read : Steps (ReadsOnceIn leads) a b) (y : Y) (r : R a y) where
+  module _ (a b : X) (read : ChainOf (ReadsOnceIn leads) a b) (y : Y) (r : R a y) where
     -- so a refusal is followed by that refusal
     abbrev Followed : (Y → Type 0) → Type 0
-    Followed P = (z : Y) × Steps (ReadsOnceIn others) y z × R b z × P z
+    Followed P = (z : Y) × ChainOf (ReadsOnceIn others) y z × R b z × P z
 
-    pub nothing_refused : (P : Y → Type 0) → ((z : Y) → P z) → (z : Y) × Steps (ReadsOnceIn others) y z × R b z × P z
+    pub nothing_refused : (P : Y → Type 0) → ((z : Y) → P z) → (z : Y) × ChainOf (ReadsOnceIn others) y z × R b z × P z
     nothing_refused P p = let w = steps_followed a b read y r in (w.0, w.1, w.2, p w.0)
 
     module _ {E : Type 0} (disk : E → DiskState) (old new : E) (s s' : RunningNames) (why : FsEnd) where
@@ -224,7 +224,7 @@ module _ {X Y : Type 0} (leads : Leading X) (others : Leading Y) (R : X → Y �
       plain : (why : FsEnd) → ((z : Y) → RefusedFor (OverRefused others disk batch from to t vault copies y z old new) why) → Then_over why
       plain why p = nothing_refused (λ (z : Y). RefusedFor (OverRefused others disk batch from to t vault copies y z old new) why) p
 
-      pub over_followed : (why : FsEnd) → RefusedFor (OverRefused leads disk batch from to t vault copies a b old new) why → (z : Y) × Steps (ReadsOnceIn others) y z × R b z × RefusedFor (OverRefused others disk batch from to t vault copies y z old new) why
+      pub over_followed : (why : FsEnd) → RefusedFor (OverRefused leads disk batch from to t vault copies a b old new) why → (z : Y) × ChainOf (ReadsOnceIn others) y z × R b z × RefusedFor (OverRefused others disk batch from to t vault copies y z old new) why
       over_followed (end.Put count) e = absurd e.0
       over_followed (end.Read count) e = absurd e.0
       over_followed (end.NameRefused own) e = let f = over_so (end.NameRefused own) e.1 in (f.0, f.1, f.2, (tt, f.3))

@@ -20,16 +20,16 @@ use Rattle.name_core.specs.State.{IsNamesystemOf, RunningNames, service_of, star
 use Rattle.name_store.specs.Store.{IsNameLog, OpensNames}
 use Rattle.name_store.specs.Table.{NameTable, next_opening}
 use Rattle.place_texts.specs.Places.{read_raw_place}
-use Rattle.row_copies.specs.Clusters.{CopyState, EndsFor, IsTree}
-use Rattle.row_copies.specs.Copies.{CopiesAll, Steps, StopsEarly, is_file}
+use Rattle.row_copies.specs.Clusters.{CopyState, EndsFor, IsTreeOfRows}
+use Rattle.row_copies.specs.Copies.{ChainOf, CopiesAll, StopsEarly, is_file}
 use Rattle.row_copies.specs.Walks.{is_directory}
 use Rattle.row_copies.specs.declared.walk.Copied.{Copied}
 use Rattle.raw_copy.specs.declared.backup.CopyFault.{CopyFault}
 use Rattle.raw_copy.specs.declared.backup.CopyFault.TheVariants.{End, Start}
-use Rattle.world_desk.specs.Worlds.{IsReady}
+use Rattle.world_desk.specs.Worlds.{IsDeskReady}
 use Rattle.world_run.specs.Drives.{Standing}
 use Rattle.world_run.specs.World.{world_of}
-use Rattle.world_rows.specs.Rows.{IsPlace, OnlyReads, ReadsOnce, place_rows}
+use Rattle.world_rows.specs.Rows.{IsPlace, IsReadEvent, ReadsOnce, place_rows}
 
 -- the rows that are copied and the bodies of their files, and the namesystem that gets them with its vault
 abbrev pub copy_state : List Entry → VaultState → RunningNames → VaultState → CopyState
@@ -41,14 +41,14 @@ copy_state rows vault names copies = record {
 -- Both services of a world were only read, as the superuser: events happened that read entries and the metadata of keys. The world is as it
 -- was, and no random word was drawn.
 pub record OnlyRead {D W : Type 0} (state : D → DiskState) (to_come : W → ℕ → ℕ) (now : ℕ) (a b : Standing D W) : Type 0 where
-  pub events : Steps (ReadsOnce state to_come now) a b
+  pub events : ChainOf (ReadsOnce state to_come now) a b
   pub same : world_of b.world ≡ world_of a.world
   pub rest : (k : ℕ) → to_come b.words k ≡ to_come a.words k
-  pub ready : IsReady state b
+  pub ready : IsDeskReady state b
 
 -- somewhere else, an event happened that only reads, or none
 abbrev pub ReadsOnceIn : {Y : Type 0} → Leading Y → Y → Y → Type 0
-ReadsOnceIn others y z = (z ≡ y) ⊎ ((e : Event) × (answer : Line) × OnlyReads e × others y e answer z)
+ReadsOnceIn others y z = (z ≡ y) ⊎ ((e : Event) × (answer : Line) × IsReadEvent e × others y e answer z)
 
 -- ---- why a copy failed
 
@@ -68,7 +68,7 @@ EndsByCause disk disk' vault vault' copies copies' why = EndsFor (Rose disk.faul
 
 -- the rows of each place whose first row is that of a directory are a tree
 abbrev pub PlacesAreTrees : NameTable → Type 0
-PlacesAreTrees t = (place : ReadPath) → IsPlace place → is_dir_at (row_at (place_rows t place) []) ≡ true → IsTree (place_rows t place)
+PlacesAreTrees t = (place : ReadPath) → IsPlace place → is_dir_at (row_at (place_rows t place) []) ≡ true → IsTreeOfRows (place_rows t place)
 
 -- What a copy works on: the namesystem that is read, the namesystem that gets the copy, and the vaults of both.
 pub record Copying : Type 0 where
@@ -154,7 +154,7 @@ abbrev pub not_started : StartFault → Result RunningNames StartFault
 not_started fault = Err fault
 
 -- The edit log could not be opened, and nothing else was done.
-pub record CannotOpen (result : Result Copied CopyFault) (t t' : NameTable) (vault vault' copies copies' : VaultState) (disk disk' : DiskState) : Type 0 where
+pub record CannotOpenBackup (result : Result Copied CopyFault) (t t' : NameTable) (vault vault' copies copies' : VaultState) (disk disk' : DiskState) : Type 0 where
   pub fault : StartFault
   pub result_is : result ≡ Err (Start fault)
   pub opens : OpensNames disk disk' (IsErrOf (not_started fault))
@@ -163,4 +163,4 @@ pub record CannotOpen (result : Result Copied CopyFault) (t t' : NameTable) (vau
   pub same_copies : copies' ≡ copies
 
 abbrev pub CopiesOver : (batch : ℕ) (from to : List ℕ) (result : Result Copied CopyFault) (t t' : NameTable) (vault vault' copies copies' : VaultState) (disk disk' : DiskState) → Type 0
-CopiesOver batch from to result t t' vault vault' copies copies' disk disk' = CannotOpen result t t' vault vault' copies copies' disk disk' ⊎ CopiesOpened batch from to result t t' vault vault' copies copies' disk disk'
+CopiesOver batch from to result t t' vault vault' copies copies' disk disk' = CannotOpenBackup result t t' vault vault' copies copies' disk disk' ⊎ CopiesOpened batch from to result t t' vault vault' copies copies' disk disk'

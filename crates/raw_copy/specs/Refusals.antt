@@ -28,12 +28,12 @@ use Rattle.name_core.specs.State.{RunningNames}
 use Rattle.name_store.specs.Table.{NameTable}
 use Rattle.place_texts.specs.Places.{read_raw_place}
 use Rattle.row_copies.specs.Clusters.{CopyState, EndsFor}
-use Rattle.row_copies.specs.Copies.{RuleRefuses, Steps}
+use Rattle.row_copies.specs.Copies.{ChainOf, RuleRefuses}
 use Rattle.row_copies.specs.declared.walk.Copied.{Copied}
 use Rattle.raw_copy.specs.declared.backup.CopyFault.{CopyFault}
 use Rattle.raw_copy.specs.declared.backup.CopyFault.TheVariants.{End}
 use Rattle.world_events.specs.Events.{LeadsAt, standing_of}
-use Rattle.world_rows.specs.Rows.{OnlyReads, ShowsRefused, place_rows}
+use Rattle.world_rows.specs.Rows.{IsReadEvent, ShowsRefused, place_rows}
 use Rattle.world_rows.specs.declared.rows.WorldRows.{WorldRows}
 use Rattle.raw_copy.specs.Copies.{AreTexts, Copying, ReadsOnceIn, copying, state_at}
 
@@ -53,11 +53,11 @@ CopyEndsBy result refused = (why : FsEnd) → result ≡ Err (End why) → Refus
 
 -- after steps, the source refused, or the namesystem that gets the copy did; or a rule refuses the copy by what was there in the beginning
 abbrev pub IntoRefused : {S E : Type 0} → (S → S → Type 0) → (S → S → FsEnd → Type 0) → (S → KeyName → KmsReply → S → Type 0) → (E → DiskState) → (user : Text) (to : List (List ℕ)) (s : CopyState) (source source' : S) (old new : E) (r r' : RunningNames) → FsEnd → Type 0
-IntoRefused {S} follows refuses replies disk user to s source source' old new r r' why = RuleRefuses to s why ⊎ ((mid : S) × Steps follows source mid × PartsRefuse refuses replies disk user mid source' old new r r' why)
+IntoRefused {S} follows refuses replies disk user to s source source' old new r r' why = RuleRefuses to s why ⊎ ((mid : S) × ChainOf follows source mid × PartsRefuse refuses replies disk user mid source' old new r r' why)
 
 -- an event that reads was answered by a refusal
 abbrev pub ReadRefusedIn : {Y : Type 0} → Leading Y → Y → Y → FsEnd → Type 0
-ReadRefusedIn others y z why = (e : Event) × (answer : Line) × OnlyReads e × others y e answer z × ShowsRefused answer why
+ReadRefusedIn others y z why = (e : Event) × (answer : Line) × IsReadEvent e × others y e answer z × ShowsRefused answer why
 
 -- this was the reply to the superuser's call for the metadata of a key
 abbrev pub KeyToldIn : {Y : Type 0} → Leading Y → Y → Y → KmsReply → Type 0
@@ -65,7 +65,7 @@ KeyToldIn others y z reply = (key : KeyName) × others y (event.Kms superuser (c
 
 -- After events that read, one was refused; or the namesystem that gets the copy refused an order.
 abbrev pub StepRefused : {Y E : Type 0} → Leading Y → (E → DiskState) → (user : Text) (y z : Y) (old new : E) (r r' : RunningNames) → FsEnd → Type 0
-StepRefused {Y} others disk user y z old new r r' why = (mid : Y) × Steps (ReadsOnceIn others) y mid × (ReadRefusedIn others mid z why ⊎ TargetRefuses disk user (KeyToldIn others mid z) old new r r' why)
+StepRefused {Y} others disk user y z old new r r' why = (mid : Y) × ChainOf (ReadsOnceIn others) y mid × (ReadRefusedIn others mid z why ⊎ TargetRefuses disk user (KeyToldIn others mid z) old new r r' why)
 
 -- ---- a place
 

@@ -1,8 +1,8 @@
 //! Copying a zone over the disk of the other cluster.
 ghost use Rattle.std.specs.Prelude.{◌≤◌, ◌≡◌, Err};
 ghost use Rattle.hk_base.specs.Faults.{Rose};
-ghost use Rattle.backup_names.specs.Orders.{HoldsNames, IsSettled};
-ghost use Rattle.world_desk.specs.Worlds.{IsReady, standing};
+ghost use Rattle.backup_names.specs.Orders.{HoldsNamesystem, IsSettled};
+ghost use Rattle.world_desk.specs.Worlds.{IsDeskReady, standing};
 ghost use Rattle.world_events.specs.Events.{LeadsAt};
 ghost use Rattle.world_rows.specs.Rows.{table_of};
 ghost use Rattle.raw_copy.specs.Copies.{CopiesFrom, CopiesOver, EndsByCause, IsCopyEnd, OnlyRead, PlacesAreTrees, VaultsFailed, copied_or, copying};
@@ -51,9 +51,9 @@ fn copy_from<D: Disk, E: Disk, V: Vault, U: Vault, W: Words>(
     vault: &mut V,
     copies: &mut U,
 ) -> Result<Copied, CopyFault>
-    requires ready { IsReady D.state (standing disk.old world.old rand.old) }
+    requires ready { IsDeskReady D.state (standing disk.old world.old rand.old) }
     requires trees { PlacesAreTrees (table_of world.old) }
-    requires holds { HoldsNames (E.state backup.old) name }
+    requires holds { HoldsNamesystem (E.state backup.old) name }
     requires settled { IsSettled name }
     ensures copies { CopiesFrom from.now to.now result (table_of world.old) (table_of world.new)
         (V.state vault.old) (V.state vault.new) (U.state copies.old) (U.state copies.new)
@@ -95,7 +95,7 @@ pub fn copy_over<D: Disk, E: Disk, V: Vault, U: Vault, W: Words>(
 ) -> Result<Copied, CopyFault>
     requires some { 1 ≤ batch }
     requires most { batch ≤ 1000 }
-    requires ready { IsReady D.state (standing disk.old world.old rand.old) }
+    requires ready { IsDeskReady D.state (standing disk.old world.old rand.old) }
     requires trees { PlacesAreTrees (table_of world.old) }
     ensures copies { CopiesOver batch from.now to.now result (table_of world.old)
         (table_of world.new) (V.state vault.old) (V.state vault.new) (U.state copies.old)

@@ -1,9 +1,9 @@
 //! Copying rows that are read into a namesystem over its disk.
 ghost use Rattle.std.specs.Prelude.{◌≡◌, Some, [], true, count_by, IfErr, IfOk, OnErr, OnOk};
-ghost use Rattle.backup_names.specs.Orders.{HoldsNames, IsSettled, OrdersNames};
-ghost use Rattle.copy_target.specs.Targets.{CanCopy, WorksOn, state_of};
+ghost use Rattle.backup_names.specs.Orders.{HoldsNamesystem, IsSettled, OrdersNames};
+ghost use Rattle.copy_target.specs.Targets.{CanCopy, WorksOnTarget, state_of};
 ghost use Rattle.inode_tree.specs.Rows.{is_marked, row_at};
-ghost use Rattle.row_copies.specs.Copies.{CopiesAll, Steps, StopsEarly, is_file};
+ghost use Rattle.row_copies.specs.Copies.{ChainOf, CopiesAll, StopsEarly, is_file};
 ghost use Rattle.row_copies.specs.Walks.{is_directory};
 ghost use Rattle.raw_copy.specs.Copies.{EndsByCause, copy_state};
 ghost use Rattle.raw_copy.specs.Refusals.{IntoRefused, RefusedFor};
@@ -44,7 +44,7 @@ fn copy_both<'a, S: SourceRows, E: Disk, V: Vault, U: Vault>(
         both.old.user.now to.now (state_of S.rows V.state U.state both.old) both.old.source.now
         both.new.source.now both.old.backup.now both.new.backup.now both.old.names.now
         both.new.names.now)) }
-    ensures works { WorksOn S.follows E.state V.state U.state both.old both.new }
+    ensures works { WorksOnTarget S.follows E.state V.state U.state both.old both.new }
     ensures ready { OnOk result (CanCopy S.ready E.state both.new) }
     ensures source { both.new.source.ghost_name ≡ both.old.source.ghost_name }
     ensures names { both.new.names.ghost_name ≡ both.old.names.ghost_name }
@@ -71,7 +71,7 @@ pub fn copy_into<S: SourceRows, E: Disk, V: Vault, U: Vault>(
     to: &NPath,
 ) -> Result<Copied, FsEnd>
     requires ready { S.ready source.old }
-    requires holds { HoldsNames (E.state backup.old) names.old }
+    requires holds { HoldsNamesystem (E.state backup.old) names.old }
     requires settled { IsSettled names.old }
     ensures all { OnOk result (CopiesAll to.now
         (copy_state (S.rows source.old) (V.state vault.old) names.old (U.state copies.old))
@@ -91,7 +91,7 @@ pub fn copy_into<S: SourceRows, E: Disk, V: Vault, U: Vault>(
         user.now to.now
         (copy_state (S.rows source.old) (V.state vault.old) names.old (U.state copies.old))
         source.old source.new backup.old backup.new names.old names.new)) }
-    ensures source { Steps S.follows source.old source.new }
+    ensures source { ChainOf S.follows source.old source.new }
     ensures orders { OrdersNames (E.state backup.old) (E.state backup.new) names.old names.new }
     ensures settled { OnOk result (IsSettled names.new) }
 {

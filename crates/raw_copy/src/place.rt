@@ -1,12 +1,12 @@
 //! Copying a place of a world.
 ghost use Rattle.std.specs.Prelude.{◌≡◌, Some, [], true, count_by, IfErr, IfOk, OnErr, OnOk};
-ghost use Rattle.backup_names.specs.Orders.{HoldsNames, IsSettled, OrdersNames};
+ghost use Rattle.backup_names.specs.Orders.{HoldsNamesystem, IsSettled, OrdersNames};
 ghost use Rattle.inode_tree.specs.Rows.{is_marked, row_at};
 ghost use Rattle.name_core.specs.Calls.{superuser};
-ghost use Rattle.row_copies.specs.Clusters.{IsTree};
+ghost use Rattle.row_copies.specs.Clusters.{IsTreeOfRows};
 ghost use Rattle.row_copies.specs.Copies.{CopiesAll, StopsEarly, is_file};
 ghost use Rattle.row_copies.specs.Walks.{is_directory};
-ghost use Rattle.world_desk.specs.Worlds.{IsReady, standing};
+ghost use Rattle.world_desk.specs.Worlds.{IsDeskReady, standing};
 ghost use Rattle.world_events.specs.Events.{LeadsAt, standing_of};
 ghost use Rattle.world_rows.specs.Rows.{CanRead, IsPlace, place_rows, rows_seen, table_of};
 ghost use Rattle.raw_copy.specs.Copies.{EndsByCause, OnlyRead, copy_state, copying};
@@ -36,7 +36,7 @@ fn copy_seen<'a, D: Disk, W: Words, E: Disk, V: Vault, U: Vault>(
     to: &NPath,
 ) -> Result<Copied, FsEnd>
     requires ready { CanRead D.state source.old }
-    requires holds { HoldsNames (E.state backup.old) names.old }
+    requires holds { HoldsNamesystem (E.state backup.old) names.old }
     requires settled { IsSettled names.old }
     ensures all { OnOk result (CopiesAll to.now
         (copy_state (rows_seen source.old) (V.state vault.old) names.old (U.state copies.old))
@@ -87,11 +87,11 @@ pub fn copy_place<D: Disk, E: Disk, V: Vault, U: Vault, W: Words>(
     vault: &mut V,
     copies: &mut U,
 ) -> Result<Copied, FsEnd>
-    requires world { IsReady D.state (standing disk.old world.old rand.old) }
+    requires world { IsDeskReady D.state (standing disk.old world.old rand.old) }
     requires user { user.now ≡ superuser }
     requires place { IsPlace place.now }
-    requires tree { IsTree (place_rows (table_of world.old) place.now) }
-    requires holds { HoldsNames (E.state backup.old) names.old }
+    requires tree { IsTreeOfRows (place_rows (table_of world.old) place.now) }
+    requires holds { HoldsNamesystem (E.state backup.old) names.old }
     requires settled { IsSettled names.old }
     ensures all { OnOk result (CopiesAll to.now
         (copy_state (place_rows (table_of world.old) place.now) (V.state vault.old) names.old

@@ -1,12 +1,12 @@
 //! Copying a zone by the texts of its place and of a path.
 ghost use Rattle.std.specs.Prelude.{◌≡◌, None, Some, [], true, IfErr, IfOk, OnErr, OnOk};
-ghost use Rattle.backup_names.specs.Orders.{HoldsNames, IsSettled, OrdersNames};
+ghost use Rattle.backup_names.specs.Orders.{HoldsNamesystem, IsSettled, OrdersNames};
 ghost use Rattle.inode_tree.specs.Rows.{is_dir_at, row_at};
 ghost use Rattle.name_calls.specs.Paths.{read_path};
 ghost use Rattle.name_core.specs.Calls.{superuser};
 ghost use Rattle.place_texts.specs.Places.{read_raw_place};
 ghost use Rattle.row_copies.specs.Clusters.{EndsFor};
-ghost use Rattle.world_desk.specs.Worlds.{IsReady, standing};
+ghost use Rattle.world_desk.specs.Worlds.{IsDeskReady, standing};
 ghost use Rattle.world_events.specs.Events.{LeadsAt, standing_of};
 ghost use Rattle.world_rows.specs.Rows.{IsPlace, place_rows, table_of};
 ghost use Rattle.raw_copy.specs.Copies.{AreTexts, CopiesPlace, CopiesZone, EndsByCause, OnlyRead, PlacesAreTrees, StopsPlace, StopsZone, copying};
@@ -96,7 +96,7 @@ fn check_seen<'a, D: Disk, W: Words>(
     place: &ReadPath,
     events: &mut WorldEvents<'a, D, W>,
 ) -> Result<(), FsEnd>
-    requires ready { IsReady D.state (standing_of events.old) }
+    requires ready { IsDeskReady D.state (standing_of events.old) }
     requires user { user.now ≡ superuser }
     requires place { IsPlace place.now }
     ensures directory { OnOk result
@@ -128,7 +128,7 @@ fn check_zone<D: Disk, W: Words>(
     rand: &mut W,
     now: u64,
 ) -> Result<(), FsEnd>
-    requires ready { IsReady D.state (standing disk.old world.old rand.old) }
+    requires ready { IsDeskReady D.state (standing disk.old world.old rand.old) }
     requires user { user.now ≡ superuser }
     requires place { IsPlace place.now }
     ensures directory { OnOk result
@@ -158,11 +158,11 @@ fn copy_named<D: Disk, E: Disk, V: Vault, U: Vault, W: Words>(
     vault: &mut V,
     copies: &mut U,
 ) -> Result<Copied, FsEnd>
-    requires ready { IsReady D.state (standing disk.old world.old rand.old) }
+    requires ready { IsDeskReady D.state (standing disk.old world.old rand.old) }
     requires user { user.now ≡ superuser }
     requires place { IsPlace place.now }
     requires trees { PlacesAreTrees (table_of world.old) }
-    requires holds { HoldsNames (E.state backup.old) names.old }
+    requires holds { HoldsNamesystem (E.state backup.old) names.old }
     requires settled { IsSettled names.old }
     ensures all { IfOk result (λ counts. CopiesPlace place.now path.now counts
         (copying (table_of world.old) (V.state vault.old) names.old (U.state copies.old))
@@ -213,9 +213,9 @@ pub fn copy_zone<D: Disk, E: Disk, V: Vault, U: Vault, W: Words>(
     vault: &mut V,
     copies: &mut U,
 ) -> Result<Copied, FsEnd>
-    requires ready { IsReady D.state (standing disk.old world.old rand.old) }
+    requires ready { IsDeskReady D.state (standing disk.old world.old rand.old) }
     requires trees { PlacesAreTrees (table_of world.old) }
-    requires holds { HoldsNames (E.state backup.old) names.old }
+    requires holds { HoldsNamesystem (E.state backup.old) names.old }
     requires settled { IsSettled names.old }
     ensures all { IfOk result (λ counts. CopiesZone from.now to.now counts
         (copying (table_of world.old) (V.state vault.old) names.old (U.state copies.old))

@@ -17,7 +17,7 @@ use Rattle.reenc_walk.specs.declared.sent.Sent.{Sent}
 use Rattle.reenc_walk.specs.Files.{same_edek}
 use Rattle.reenc_update.specs.Changes.{changed, changes_of, has_edek, is_changed}
 use Rattle.reenc_update.specs.Laws.{CameFor, HasInZone, In, IsDelivered, once_by}
-use Rattle.reenc_update.specs.Replies.{Fits, are_of_keys}
+use Rattle.reenc_update.specs.Replies.{FitsSent, are_of_keys}
 use Rattle.reenc_update.specs.declared.reply.BatchResult.{BatchResult}
 use Rattle.reenc_update.specs.declared.reply.BatchResult.TheVariants.{Refused, Ready}
 
@@ -219,7 +219,7 @@ module _ (rows : List Entry) (zone : ℕ) where
   came-of-key (x ∷ xs) (e ∷ es) file edek fits (inr came) =
       let p = and_parts (bytes_eq e.version.key x.edek.version.key) (are_of_keys xs es) fits in came-of-key xs es file edek p.1 came
 
-  pub keys-stay : (sent : List Sent) (r : BatchResult) (f : FileKey) (e : Entry) (edek : Encrypted) → Fits sent r → In f (changes_of rows zone sent r).files
+  pub keys-stay : (sent : List Sent) (r : BatchResult) (f : FileKey) (e : Entry) (edek : Encrypted) → FitsSent sent r → In f (changes_of rows zone sent r).files
       → entry_of rows f.id ≡ Some e → edek_of e.row.kind ≡ Some edek → f.edek.version.key ≡ edek.version.key
   keys-stay sent Refused f e edek fits i stands has = absurd i
   keys-stay sent (Ready edeks) f e edek fits i stands has =
@@ -239,7 +239,7 @@ module _ (rows : List Entry) (zone : ℕ) where
   each-in P [] h = tt
   each-in P (f ∷ fs) h = (h f (inl refl), each-in P fs (λ g i. h g (inr i)))
 
-  pub each-can-take : (sent : List Sent) (r : BatchResult) → Fits sent r → AllByRecursion CanTake (changes_of rows zone sent r).files
+  pub each-can-take : (sent : List Sent) (r : BatchResult) → FitsSent sent r → AllByRecursion CanTake (changes_of rows zone sent r).files
   each-can-take sent Refused fits = tt
   each-can-take sent (Ready edeks) fits = each-in CanTake (changed rows zone sent edeks) take
     where

@@ -7,7 +7,7 @@ use Rattle.inode_tree.specs.Rows.{Entry, entry_of, zone_id}
 use Rattle.inode_tree.specs.ZoneFiles.{edek_of}
 use Rattle.reenc_walk.specs.declared.sent.Sent.{Sent}
 use Rattle.reenc_update.specs.Changes.{changes_of}
-use Rattle.reenc_update.specs.Replies.{Fits}
+use Rattle.reenc_update.specs.Replies.{FitsSent}
 use Rattle.reenc_update.specs.declared.reply.BatchResult.{BatchResult}
 use Rattle.reenc_update.specs.declared.reply.BatchResult.TheVariants.{Ready}
 
@@ -60,5 +60,5 @@ IdsStayOnce =
 -- a new encrypted key is of the same key as the one that the file has
 abbrev pub KeysStayTheSame : Type 0
 KeysStayTheSame =
-    (rows : List Entry) (zone : ℕ) (sent : List Sent) (r : BatchResult) (f : FileKey) (e : Entry) (edek : Encrypted) → Fits sent r → In f (changes_of rows zone sent r).files
+    (rows : List Entry) (zone : ℕ) (sent : List Sent) (r : BatchResult) (f : FileKey) (e : Entry) (edek : Encrypted) → FitsSent sent r → In f (changes_of rows zone sent r).files
     → entry_of rows f.id ≡ Some e → edek_of e.row.kind ≡ Some edek → f.edek.version.key ≡ edek.version.key

@@ -19,6 +19,6 @@ are_of_keys [] (e ∷ es) = false
 are_of_keys (x ∷ xs) [] = false
 are_of_keys (x ∷ xs) (e ∷ es) = bytes_eq e.version.key x.edek.version.key && are_of_keys xs es
 
-abbrev pub Fits : List Sent → BatchResult → Type 0
-Fits sent Refused = ⊤
-Fits sent (Ready edeks) = IsTrue (are_of_keys sent edeks)
+abbrev pub FitsSent : List Sent → BatchResult → Type 0
+FitsSent sent Refused = ⊤
+FitsSent sent (Ready edeks) = IsTrue (are_of_keys sent edeks)

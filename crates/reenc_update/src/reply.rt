@@ -1,6 +1,6 @@
 //! The reply to the call for a batch.
 ghost use Rattle.std.specs.Prelude.{◌≡◌, IsTrue};
-ghost use Rattle.reenc_update.specs.Replies.{Fits};
+ghost use Rattle.reenc_update.specs.Replies.{FitsSent};
 
 use hk_base::{Edek, Listing};
 use reenc_walk::BatchNote;
@@ -24,20 +24,20 @@ pub struct BatchReply {
 }
 
 impl Model for BatchReply {
-    ghost use Rattle.reenc_update.specs.Replies.{Fits, ReplyState};
+    ghost use Rattle.reenc_update.specs.Replies.{FitsSent, ReplyState};
 
     ghost Value = { ReplyState };
 
     ghost view = { λ reply. record { note = reply.note; result = reply.result } };
 
-    ghost invariant = { λ reply. Fits reply.note.sent reply.result };
+    ghost invariant = { λ reply. FitsSent reply.note.sent reply.result };
 }
 
 impl BatchReply {
     /// Pairs a batch and the reply to the call for it. The reply must have as many keys as the batch has
     /// files, each of the same key as the one that was sent. It does not allocate.
     pub fn new(note: BatchNote, came: BatchResult) -> BatchReply
-        requires { Fits note.sent came }
+        requires { FitsSent note.sent came }
         ensures { result ≡ record { note = note; result = came } }
     {
         BatchReply { note, result: came }
@@ -53,7 +53,7 @@ impl BatchReply {
     /// Returns what the reply is.
     pub fn result(&self) -> &BatchResult
         ensures same { result.now ≡ self.now.result }
-        ensures fits { Fits self.now.note.sent self.now.result }
+        ensures fits { FitsSent self.now.note.sent self.now.result }
     {
         &self.result
     }

@@ -13,7 +13,7 @@ abbrev pub note_with : ℕ → Files → WalkState → BatchNote
 note_with zone files w = record { zone = zone; session = w.session; sent = files.sent }
 
 -- what is answered, and the state after it
-abbrev pub Adds : WalkState → ℕ → Files → Walk → WalkState → Type 0
-Adds w zone files (walk.Batch note) w' = (note ≡ note_with zone files w) × (w' ≡ with_files files w)
-Adds w zone files walk.NoneLeft w' = ⊥
-Adds w zone files walk.NoMemory w' = w' ≡ w
+abbrev pub AddsBatch : WalkState → ℕ → Files → Walk → WalkState → Type 0
+AddsBatch w zone files (walk.Batch note) w' = (note ≡ note_with zone files w) × (w' ≡ with_files files w)
+AddsBatch w zone files walk.NoneLeft w' = ⊥
+AddsBatch w zone files walk.NoMemory w' = w' ≡ w

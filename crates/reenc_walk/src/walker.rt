@@ -1,6 +1,6 @@
 //! The walk of a session.
 ghost use Rattle.std.specs.Prelude.{◌≡◌, ◌≤◌, ◌<◌, [], length, is_some, IfOk, IsTrue};
-ghost use Rattle.reenc_walk.specs.Adding.{Adds};
+ghost use Rattle.reenc_walk.specs.Adding.{AddsBatch};
 ghost use Rattle.reenc_walk.specs.Walks.{Walks, has_batch, mark_after, outstanding, retire};
 
 use crate::batches::{self, WalkedBatch};
@@ -107,7 +107,7 @@ impl Walker {
     /// Adds a batch of these files, and moves the cursor to the last one.
     fn add(&mut self, zone: u64, files: Files) -> Walk
         requires { length self.old.batches < 4294967295 }
-        ensures { Adds self.old zone files result self.new }
+        ensures { AddsBatch self.old zone files result self.new }
     {
         let Files {
             sent,

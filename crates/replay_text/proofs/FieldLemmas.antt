@@ -5,7 +5,7 @@ use Rattle.std.proofs.lemmas.List.{take_rest}
 use Rattle.std.proofs.lemmas.List.Sums.{position_or_len_is}
 use Rattle.std.proofs.lemmas.List.Splits.{slice_split_first, length-slice_split}
 use Rattle.std.proofs.lemmas.List.Quantifiers.{position-Some}
-use Rattle.replay_text.specs.Events.{IsQuiet}
+use Rattle.replay_text.specs.Events.{IsQuietLine}
 
 pub split_at : (p : ℕ → Bool) (bytes : List ℕ) (place : ℕ) → position p bytes ≡ Some place → slice_split p bytes ≡ take place bytes ∷ slice_split p (take (length bytes - (place + 1)) (drop (place + 1) bytes))
 split_at p bytes place is =
@@ -18,6 +18,6 @@ split_at p bytes place is =
 pub never_empty : (p : ℕ → Bool) (bytes : List ℕ) → slice_split p bytes ≡ [] → ⊥
 never_empty p bytes none = omega (arith, length-slice_split p bytes, ap length none)
 
-pub not_quiet : (line : List ℕ) → (length line ≡ 0 → ⊥) → (get_or line 0 0 ≡ 35 → ⊥) → ¬ IsQuiet line
+pub not_quiet : (line : List ℕ) → (length line ≡ 0 → ⊥) → (get_or line 0 0 ≡ 35 → ⊥) → ¬ IsQuietLine line
 not_quiet [] some other = λ _. some refl
 not_quiet (b ∷ bs) some other = λ quiet. other quiet.0

@@ -11,7 +11,7 @@ use Rattle.kms_calls.specs.declared.calls.KmsCall.{KmsCall}
 use Rattle.kms_calls.specs.declared.calls.KmsCall.TheVariants as call
 use Rattle.hk_events.specs.declared.event.Event.{Event}
 use Rattle.hk_events.specs.declared.event.Event.TheVariants as event
-use Rattle.replay_text.specs.Events.{AreTriples, IsEscaped, IsMaterial, IsQuiet, IsTriple, IsUser, Spells, SpellsAskPath, SpellsAskZone, SpellsBatch, SpellsCall, SpellsCreate, SpellsEdek, SpellsEvent, SpellsGenerate, SpellsKept, SpellsKms, SpellsMaterial, SpellsMetadatas, SpellsNamed, SpellsPath, SpellsRoll, SpellsSent, SpellsTwoFields, SpellsVersion, SpellsWalk, SpellsZones, delete_verb, fields_of, is_comma}
+use Rattle.replay_text.specs.Events.{AreTriples, IsEscaped, IsMaterial, IsQuietLine, IsTriple, IsUser, SpellsAskPath, SpellsAskZone, SpellsBatch, SpellsCall, SpellsCreate, SpellsEdek, SpellsEvent, SpellsGenerate, SpellsKept, SpellsKms, SpellsLine, SpellsMaterial, SpellsMetadatas, SpellsNamed, SpellsPath, SpellsRoll, SpellsSent, SpellsTwoFields, SpellsVersion, SpellsWalk, SpellsZones, delete_verb, fields_of, is_comma}
 use Rattle.replay_text.proofs.CallLemmas.{apart, two_verbs}
 
 -- versions
@@ -643,7 +643,7 @@ says_so fields e x = subst (λ (k : Kind). Says k fields e) (sym (kind_is fields
 event_once : (fields : List (List ℕ)) (a b : Event) → SpellsEvent fields a → SpellsEvent fields b → a ≡ b
 event_once fields a b x y = says_once (kind_of fields) fields a b (says_so fields a x) (says_so fields b y)
 
-pub spelled_once : (line : List ℕ) (a b : Event) → Spells line a → Spells line b → a ≡ b
+pub spelled_once : (line : List ℕ) (a b : Event) → SpellsLine line a → SpellsLine line b → a ≡ b
 spelled_once line a b x y = event_once (fields_of line) a b x.fields y.fields
 
 -- the first field of an event is not empty, and does not begin a comment
@@ -695,7 +695,7 @@ comment_first c bs more rest b quiet is =
     first_byte 35 c (fields_of bs) more rest (ap (λ d. fields_of (d ∷ bs)) (sym quiet) ∙ is)
 
 -- a quiet line has no event
-pub quiet_spells_none : (line : List ℕ) (event : Event) → IsQuiet line → ¬ Spells line event
+pub quiet_spells_none : (line : List ℕ) (event : Event) → IsQuietLine line → ¬ SpellsLine line event
 quiet_spells_none [] event quiet = λ x.
     let b = begins (fields_of []) event x.fields in none_of_empty b.first b.front b.more b.begin
 quiet_spells_none (c ∷ cs) event quiet = λ x.

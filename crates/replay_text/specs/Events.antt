@@ -287,7 +287,7 @@ SpellsEvent fields (event.Deliver reply) = SpellsKept (codes "deliver") fields r
 SpellsEvent fields (event.GiveUp batch) = SpellsKept (codes "giveup") fields batch
 
 -- the line is the text of the event
-pub record Spells (line : List ℕ) (event : Event) : Type 0 where
+pub record SpellsLine (line : List ℕ) (event : Event) : Type 0 where
   pub short : length line ≤ longest_line
   pub fields : SpellsEvent (fields_of line) event
 
@@ -324,11 +324,11 @@ IsNumberEvent verb number e =
     ⊎ ((verb ≡ codes "serve") × (e ≡ event.Serve number)) ⊎ ((verb ≡ codes "deliver") × (e ≡ event.Deliver number)) ⊎ ((verb ≡ codes "giveup") × (e ≡ event.GiveUp number))
 
 -- the line is empty or a comment: its first byte is '#'
-abbrev pub IsQuiet : List ℕ → Type 0
-IsQuiet [] = Unit {0}
-IsQuiet (b ∷ bs) = (b ≡ 35) × (length (b ∷ bs) ≤ longest_line)
+abbrev pub IsQuietLine : List ℕ → Type 0
+IsQuietLine [] = Unit {0}
+IsQuietLine (b ∷ bs) = (b ≡ 35) × (length (b ∷ bs) ≤ longest_line)
 
 -- the line is not quiet and not the text of an event
 pub record IsBad (line : List ℕ) : Type 0 where
-  pub not_quiet : ¬ IsQuiet line
-  pub no_event : (event : Event) → ¬ Spells line event
+  pub not_quiet : ¬ IsQuietLine line
+  pub no_event : (event : Event) → ¬ SpellsLine line event

@@ -1,7 +1,7 @@
 //! Event lines.
 ghost use Rattle.std.specs.Prelude.{◌≡◌, ◌≢◌, ◌≤◌, ◌⊎◌, ◌∷◌, [], ℕ, List, length, codes, IfOk, MatchOption, MatchResult};
 ghost use Rattle.kms_calls.specs.declared.calls.KmsCall.{KmsCall};
-ghost use Rattle.replay_text.specs.Events.{IsBad, IsPathEvent, IsPathVerb, IsQuiet, IsTwoFieldEvent, IsTwoFieldVerb, Spells, SpellsEvent, SpellsKms, SpellsPath, SpellsRestart, SpellsTicket, SpellsTwoFields, SpellsZones, fields_of};
+ghost use Rattle.replay_text.specs.Events.{IsBad, IsPathEvent, IsPathVerb, IsQuietLine, IsTwoFieldEvent, IsTwoFieldVerb, SpellsEvent, SpellsKms, SpellsLine, SpellsPath, SpellsRestart, SpellsTicket, SpellsTwoFields, SpellsZones, fields_of};
 ghost use Rattle.hk_events.specs.declared.event.Event.{Event};
 ghost use Rattle.hk_events.specs.declared.event.Event.TheVariants as event;
 
@@ -25,7 +25,7 @@ pub enum LineFault {
 /// Returns the event of a line, or `None` if the line is empty or a comment.
 pub fn read_event(alloc: Global, line: &[u8]) -> Result<Option<Event>, LineFault>
     requires { length line.now ≤ 1048576 }
-    ensures { MatchResult result (λ found. MatchOption found (IsQuiet line.now) (Spells line.now))
+    ensures { MatchResult result (λ found. MatchOption found (IsQuietLine line.now) (SpellsLine line.now))
         (λ fault. fault ≡ LineFault.BadLine → IsBad line.now) }
 {
     if line.is_empty() {

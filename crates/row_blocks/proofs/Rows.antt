@@ -15,7 +15,7 @@ use Rattle.inode_tree.proofs.Puts.{not-both, same-turned}
 use Rattle.inode_tree.proofs.Seeks.{before-not-same, not-before-itself, other-before, same-is, same-itself}
 use Rattle.inode_tree.proofs.ZoneLemmas.{prefix-itself, prefix-whole}
 use Rattle.std.proofs.lemmas.Bool.{cases_lt, and_parts, false_from_ne_true}
-use Rattle.row_blocks.specs.Below.{In, IsWalkable, below, belows}
+use Rattle.row_blocks.specs.Below.{IsRowIn, IsWalkable, below, belows}
 use Rattle.row_blocks.proofs.Groups.{filter-no, filter-yes, groups, leaders}
 use Rattle.row_blocks.proofs.Blocks.{Housed, IsBelow, after-in, blocks, both, child-long, child-take, itself, join, leads, same, take-prefix}
 
@@ -56,7 +56,7 @@ prefix-long [] x h = omega arith
 prefix-long (b ∷ a) [] h = cc
 prefix-long (b ∷ a) (c ∷ x) h = let parts = and_parts (bytes_eq b c) (is_prefix a x) h in omega (arith, prefix-long a x parts.1)
 
-pub filter-alike-in : (f g : Entry → Bool) (es : List Entry) → ((e : Entry) → In e es → f e ≡ g e) → filter f es ≡ filter g es
+pub filter-alike-in : (f g : Entry → Bool) (es : List Entry) → ((e : Entry) → IsRowIn e es → f e ≡ g e) → filter f es ≡ filter g es
 filter-alike-in f g [] h = refl
 filter-alike-in f g (e ∷ es) h =
     let rest = filter-alike-in f g es (λ x is. h x (inr is)) in
@@ -66,16 +66,16 @@ filter-alike : (f g : Entry → Bool) (es : List Entry) → ((e : Entry) → f e
 filter-alike f g [] h = refl
 filter-alike f g (e ∷ es) h = λ i. cond (h e i) (e ∷ filter-alike f g es h i) (filter-alike f g es h i)
 
-pub all-in : (P : Entry → Type 0) (xs : List Entry) (x : Entry) → All P xs → In x xs → P x
+pub all-in : (P : Entry → Type 0) (xs : List Entry) (x : Entry) → All P xs → IsRowIn x xs → P x
 all-in P [] x h is = absurd is
 all-in P (e ∷ es) x h (inl is) = subst P (sym is) (h 0 e (omega arith))
 all-in P (e ∷ es) x h (inr is) = all-in P es x (λ k d lt. h (suc k) d (omega (arith, lt))) is
 
-pub row-in : (rows : List Entry) (q : List (List ℕ)) → is_dir_at (row_at rows q) ≡ true → (k : Entry) × In k rows × (k.path ≡ q)
+pub row-in : (rows : List Entry) (q : List (List ℕ)) → is_dir_at (row_at rows q) ≡ true → (k : Entry) × IsRowIn k rows × (k.path ≡ q)
 row-in [] q h = cc
 row-in (e ∷ es) q h = go (same_path e.path q) refl h (row-in es q)
   where
-    go : (b : Bool) → same_path e.path q ≡ b → is_dir_at (cond b (Some e.row) (row_at es q)) ≡ true → (is_dir_at (row_at es q) ≡ true → (k : Entry) × In k es × (k.path ≡ q)) → (k : Entry) × In k (e ∷ es) × (k.path ≡ q)
+    go : (b : Bool) → same_path e.path q ≡ b → is_dir_at (cond b (Some e.row) (row_at es q)) ≡ true → (is_dir_at (row_at es q) ≡ true → (k : Entry) × IsRowIn k es × (k.path ≡ q)) → (k : Entry) × IsRowIn k (e ∷ es) × (k.path ≡ q)
     go true s h more = (e, inl refl, same-is e.path q s)
     go false s h more = let r = more h in (r.0, inr r.1, r.2)
 
@@ -100,7 +100,7 @@ module _ (p : List (List ℕ)) where
 
   -- the rows of each directory between
   module _ (rows : List Entry) (r : IsWalkable rows) where
-    pub ancestor : (f m : ℕ) (x : Entry) → In x rows → length x.path ≡ m + f → (k : Entry) × In k rows × (k.path ≡ take m x.path)
+    pub ancestor : (f m : ℕ) (x : Entry) → IsRowIn x rows → length x.path ≡ m + f → (k : Entry) × IsRowIn k rows × (k.path ≡ take m x.path)
     ancestor zero m x is long = (x, is, sym (take_all m x.path (omega (arith, long))))
     ancestor (suc f) m x is long =
         let up = row-in rows (parent x.path) (all-in (λ (e : Entry). is_dir_at (row_at rows (parent e.path)) ≡ true) rows x r.housed is) in
@@ -155,20 +155,20 @@ module _ (p : List (List ℕ)) where
       go true here more = (here, more)
       go false here more = more
 
-  in-under : (es : List Entry) (x : Entry) → In x es → IsBelow p x → In x (under es)
+  in-under : (es : List Entry) (x : Entry) → IsRowIn x es → IsBelow p x → IsRowIn x (under es)
   in-under [] x is h = absurd is
-  in-under (e ∷ es) x (inl is) h = subst (λ (l : List Entry). In x l) (sym (filter-yes is_under e es (subst (λ (y : Entry). is_under y ≡ true) is (under-yes x h)))) (inl is)
+  in-under (e ∷ es) x (inl is) h = subst (λ (l : List Entry). IsRowIn x l) (sym (filter-yes is_under e es (subst (λ (y : Entry). is_under y ≡ true) is (under-yes x h)))) (inl is)
   in-under (e ∷ es) x (inr is) h = go (is_under e) (in-under es x is h)
     where
-      go : (b : Bool) → In x (under es) → In x (cond b (e ∷ under es) (under es))
+      go : (b : Bool) → IsRowIn x (under es) → IsRowIn x (cond b (e ∷ under es) (under es))
       go true more = inr more
       go false more = more
 
-  under-in : (es : List Entry) (x : Entry) → In x (under es) → In x es × IsBelow p x
+  under-in : (es : List Entry) (x : Entry) → IsRowIn x (under es) → IsRowIn x es × IsBelow p x
   under-in [] x is = absurd is
   under-in (e ∷ es) x is = go (is_under e) refl is (under-in es x)
     where
-      go : (b : Bool) → is_under e ≡ b → In x (cond b (e ∷ under es) (under es)) → (In x (under es) → In x es × IsBelow p x) → In x (e ∷ es) × IsBelow p x
+      go : (b : Bool) → is_under e ≡ b → IsRowIn x (cond b (e ∷ under es) (under es)) → (IsRowIn x (under es) → IsRowIn x es × IsBelow p x) → IsRowIn x (e ∷ es) × IsBelow p x
       go true u (inl here) more = (inl here, subst (IsBelow p) (sym here) (under-is e u))
       go true u (inr there) more = let m = more there in (inr m.0, m.1)
       go false u there more = let m = more there in (inr m.0, m.1)
@@ -184,7 +184,7 @@ module _ (p : List (List ℕ)) where
   child-yes k h long = and-yes (is_prefix p k.path) _ h (grind (arith, nat_tests))
 
   -- the rows below a directory are its children, each with those below it
-  pub under-blocks : (rows : List Entry) (d : Entry) → IsWalkable rows → In d rows → d.path ≡ p → under rows ≡ belows (filter (leads p) (under rows)) (under rows)
+  pub under-blocks : (rows : List Entry) (d : Entry) → IsWalkable rows → IsRowIn d rows → d.path ≡ p → under rows ≡ belows (filter (leads p) (under rows)) (under rows)
   under-blocks rows d r is path =
       blocks p d (under rows) path (subst (λ (q : List (List ℕ)). AllAfter q (under rows)) (sym path) (after-directory (under rows) (all-under rows))) (rising-under rows r.rising) (all-under rows) housed
       ∙ groups-belows (filter (leads p) (under rows)) (under rows) (all-lead (under rows))
@@ -198,7 +198,7 @@ module _ (p : List (List ℕ)) where
           inr (inr (k.0, in-under rows k.0 k.1 (front, omega (arith, long)), child-yes k.0 front long, k.2))
 
   -- the directory comes first of the rows at and below it
-  directory-first : (es : List Entry) (d : Entry) → IsRising es → In d es → d.path ≡ p → below es p ≡ d ∷ under es
+  directory-first : (es : List Entry) (d : Entry) → IsRising es → IsRowIn d es → d.path ≡ p → below es p ≡ d ∷ under es
   directory-first [] d rising is path = absurd is
   directory-first (e ∷ es) d rising (inl is) path =
       let here : e.path ≡ p = ap (λ (y : Entry). y.path) (sym is) ∙ path in
@@ -247,7 +247,7 @@ module _ (p : List (List ℕ)) where
   belows-under (k ∷ ks) es h = λ i. below-under k es h.0 i ++ belows-under ks es h.1 i
 
   -- The rows at and below a directory are its own, and then those at and below each of its children.
-  pub below-blocks : (rows : List Entry) (d : Entry) → IsWalkable rows → In d rows → d.path ≡ p → below rows p ≡ d ∷ belows (filter (λ (e : Entry). is_child p e.path) rows) rows
+  pub below-blocks : (rows : List Entry) (d : Entry) → IsWalkable rows → IsRowIn d rows → d.path ≡ p → below rows p ≡ d ∷ belows (filter (λ (e : Entry). is_child p e.path) rows) rows
   below-blocks rows d r is path =
       directory-first rows d r.rising is path
       ∙ ap (λ (l : List Entry). d ∷ l) (under-blocks rows d r is path ∙ ap (λ (ks : List Entry). belows ks (under rows)) (children-under rows) ∙ belows-under (filter (leads p) rows) rows (all-lead rows))

@@ -14,9 +14,9 @@ use Rattle.inode_tree.specs.Below.{rows_below}
 use Rattle.inode_tree.specs.Rows.{Entry, IsRising, entry_of, is_dir, is_marked, removed, row_at, set_kind}
 use Rattle.inode_tree.proofs.MovedPaths.{prefix-append}
 use Rattle.row_blocks.proofs.Blocks.{both}
-use Rattle.row_copies.specs.Clusters.{ClusterState, CopiesFile, CopyState, KeepsBoth, KeepsCluster, KeepsRows, MakesDirectory, MarksDirectory, directory_at, file_at}
-use Rattle.row_copies.specs.Copies.{HasBodyOf, IsCopyOf, IsUnmarked, Pairs, has_file, is_file}
-use Rattle.row_copies.specs.Walks.{Adds, Ends, MakesRow, Stops, entry_at}
+use Rattle.row_copies.specs.Clusters.{ClusterState, CopiesFile, CopyState, KeepsBoth, KeepsCluster, KeepsRows, MakesCopyDirectory, MarksCopyDirectory, directory_at, file_at}
+use Rattle.row_copies.specs.Copies.{HasBodyOf, IsCopyOf, IsUnmarked, PairsOfRows, has_file, is_file}
+use Rattle.row_copies.specs.Walks.{AddsCopies, EndsWalk, MakesRow, StopsWalk, entry_at}
 use Rattle.row_copies.proofs.PutLemmas.{AllBefore, below-has, below-put, free-put, removed-put, row-of-put, set-put}
 
 pub tells-too : (old new : VaultState) → new.tells ≡ old.tells → TellsBodies old → TellsBodies new
@@ -24,7 +24,7 @@ tells-too old new same tells = subst (λ (b : Bool). IsTrue b) (sym same) tells
 
 -- pairs
 
-pub pairs-join : (R : Entry → Entry → Type 0) (xs ys xs' ys' : List Entry) → Pairs R xs ys → Pairs R xs' ys' → Pairs R (xs ++ xs') (ys ++ ys')
+pub pairs-join : (R : Entry → Entry → Type 0) (xs ys xs' ys' : List Entry) → PairsOfRows R xs ys → PairsOfRows R xs' ys' → PairsOfRows R (xs ++ xs') (ys ++ ys')
 pairs-join R [] [] xs' ys' h more = more
 pairs-join R [] (y ∷ ys) xs' ys' h more = absurd h
 pairs-join R (x ∷ xs) [] xs' ys' h more = absurd h
@@ -44,7 +44,7 @@ all-so P Q (x ∷ xs) so h = (so x h.0, all-so P Q xs so h.1)
 
 -- the bodies of these files are the same elsewhere
 pub rebody : (bodies bodies' copies copies' : ℕ → List ℕ) (xs ys : List Entry) → ((id : ℕ) → bodies' id ≡ bodies id) → AllByRecursion (λ (y : Entry). copies' y.row.id ≡ copies y.row.id) ys
-    → Pairs (HasBodyOf bodies' copies) xs ys → Pairs (HasBodyOf bodies copies') xs ys
+    → PairsOfRows (HasBodyOf bodies' copies) xs ys → PairsOfRows (HasBodyOf bodies copies') xs ys
 rebody bodies bodies' copies copies' [] [] same alike h = tt
 rebody bodies bodies' copies copies' [] (y ∷ ys) same alike h = absurd h
 rebody bodies bodies' copies copies' (x ∷ xs) [] same alike h = absurd h
@@ -110,7 +110,7 @@ id-of None = 0
 id-of (Some row) = row.id
 
 -- a directory is made, and marked
-pub makes-marks : (path : List (List ℕ)) (key : KeyName) (a b c : CopyState) → MakesDirectory path a b → MarksDirectory path key b c → MakesRow (Dir (Some key)) path a c
+pub makes-marks : (path : List (List ℕ)) (key : KeyName) (a b c : CopyState) → MakesCopyDirectory path a b → MarksCopyDirectory path key b c → MakesRow (Dir (Some key)) path a c
 makes-marks path key a b c m k =
     let made : row_at b.target.rows path ≡ Some (record { id = m.id; kind = Dir None }) =
     ap (λ (rows : List Entry). row_at rows path) m.rows ∙ row-of-put (directory_at m.id path None) a.target.rows m.absent in
@@ -124,11 +124,11 @@ makes-marks path key a b c m k =
       bodies = (cluster-join a.target (record { rows = a.target.rows; bodies = b.target.bodies }) (record { rows = a.target.rows; bodies = c.target.bodies }) (record { rows = refl; bodies = m.bodies }) (record { rows = refl; bodies = k.bodies })).bodies;
     }
 
-pub makes-plain : (path : List (List ℕ)) (a b : CopyState) → MakesDirectory path a b → MakesRow (Dir None) path a b
+pub makes-plain : (path : List (List ℕ)) (a b : CopyState) → MakesCopyDirectory path a b → MakesRow (Dir None) path a b
 makes-plain path a b m = record { source = m.source; id = m.id; free = m.free; absent = m.absent; rows = m.rows; bodies = m.bodies }
 
 -- and then nothing changes
-pub makes-keeps : (path : List (List ℕ)) (a b c : CopyState) → MakesDirectory path a b → KeepsBoth b c → MakesDirectory path a c
+pub makes-keeps : (path : List (List ℕ)) (a b c : CopyState) → MakesCopyDirectory path a b → KeepsBoth b c → MakesCopyDirectory path a c
 makes-keeps path a b c m k = record {
   source = cluster-join a.source b.source c.source m.source k.source;
   id = m.id;
@@ -139,7 +139,7 @@ makes-keeps path a b c m k = record {
 }
 
 module _ (to : List (List ℕ)) where
-  pub keeps-adds : (a b : CopyState) → KeepsBoth a b → Adds to [] a b
+  pub keeps-adds : (a b : CopyState) → KeepsBoth a b → AddsCopies to [] a b
   keeps-adds a b k = record {
     made = [];
     there = ap (λ (rows : List Entry). rows_below rows to) k.target.rows ∙ sym (append-nil (rows_below a.target.rows to));
@@ -153,7 +153,7 @@ module _ (to : List (List ℕ)) where
     kept = λ id none. subst (λ (rows : List Entry). entry_of rows id ≡ None) k.target.rows none;
   }
 
-  pub adds-join : (xs ys : List Entry) (a b c : CopyState) → Adds to xs a b → Adds to ys b c → Adds to (xs ++ ys) a c
+  pub adds-join : (xs ys : List Entry) (a b c : CopyState) → AddsCopies to xs a b → AddsCopies to ys b c → AddsCopies to (xs ++ ys) a c
   adds-join xs ys a b c f g =
       let source = cluster-join a.source b.source c.source f.source g.source in
       let has : AllByRecursion (λ (y : Entry). entry_of b.target.rows y.row.id ≡ None → ⊥) f.made =
@@ -184,7 +184,7 @@ module _ (to : List (List ℕ)) where
 
   -- a directory is copied
   pub adds-directory : (x : Entry) (kind : Kind) (a b : CopyState) → IsRising a.target.rows → AllBefore to x.path (rows_below a.target.rows to) → x.row.kind ≡ kind → is_dir kind ≡ true
-      → MakesRow kind (to ++ x.path) a b → Adds to (x ∷ []) a b
+      → MakesRow kind (to ++ x.path) a b → AddsCopies to (x ∷ []) a b
   adds-directory x kind a b rising before is dir m =
       let row : Row = record { id = m.id; kind = kind } in
       record {
@@ -202,7 +202,7 @@ module _ (to : List (List ℕ)) where
 
   -- a file is copied
   pub adds-file : (x : Entry) (edek : Option Edek) (a b : CopyState) → IsRising a.target.rows → AllBefore to x.path (rows_below a.target.rows to) → x.row.kind ≡ File edek
-      → CopiesFile x.row.id (to ++ x.path) edek a b → Adds to (x ∷ []) a b
+      → CopiesFile x.row.id (to ++ x.path) edek a b → AddsCopies to (x ∷ []) a b
   adds-file x edek a b rising before is m = record {
     made = file_at m.id x.path edek ∷ [];
     there = ap (λ (rows : List Entry). rows_below rows to) m.rows ∙ below-put to x.path (record { id = m.id; kind = File edek }) a.target.rows rising before;
@@ -218,7 +218,7 @@ module _ (to : List (List ℕ)) where
 
   -- ends
 
-  pub ends-here : (more : List Entry) (a b : CopyState) → KeepsRows a b → Ends to more a b
+  pub ends-here : (more : List Entry) (a b : CopyState) → KeepsRows a b → EndsWalk to more a b
   ends-here more a b k = record {
     unmarked = [];
     next = none more;
@@ -233,11 +233,11 @@ module _ (to : List (List ℕ)) where
       none [] = tt
       none (x ∷ xs) = tt
 
-  pub stops-here : (block : List Entry) (a b : CopyState) → KeepsRows a b → Stops to block a b
+  pub stops-here : (block : List Entry) (a b : CopyState) → KeepsRows a b → StopsWalk to block a b
   stops-here block a b k = record { part = []; more = block; whole = refl; mid = a; adds = keeps-adds a a (keeps-same a); ends = ends-here block a b k }
 
   pub stops-half : (x : Entry) (rest : List Entry) (a b : CopyState) → IsRising a.target.rows → AllBefore to x.path (rows_below a.target.rows to) → is_marked x.row ≡ true
-      → MakesDirectory (to ++ x.path) a b → Stops to (x ∷ rest) a b
+      → MakesCopyDirectory (to ++ x.path) a b → StopsWalk to (x ∷ rest) a b
   stops-half x rest a b rising before zone m = record {
     part = [];
     more = x ∷ rest;
@@ -255,7 +255,7 @@ module _ (to : List (List ℕ)) where
     };
   }
 
-  pub stops-then : (xs ys : List Entry) (a b c : CopyState) → Adds to xs a b → Stops to ys b c → Stops to (xs ++ ys) a c
+  pub stops-then : (xs ys : List Entry) (a b c : CopyState) → AddsCopies to xs a b → StopsWalk to ys b c → StopsWalk to (xs ++ ys) a c
   stops-then xs ys a b c f s = record {
     part = xs ++ s.part;
     more = s.more;
@@ -272,7 +272,7 @@ module _ (to : List (List ℕ)) where
   unmarked-more (x ∷ more) ys [] h = tt
   unmarked-more (x ∷ more) ys (z ∷ u) h = h
 
-  pub stops-more : (xs ys : List Entry) (a b : CopyState) → Stops to xs a b → Stops to (xs ++ ys) a b
+  pub stops-more : (xs ys : List Entry) (a b : CopyState) → StopsWalk to xs a b → StopsWalk to (xs ++ ys) a b
   stops-more xs ys a b s = record {
     part = s.part;
     more = s.more ++ ys;

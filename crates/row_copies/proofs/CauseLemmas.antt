@@ -11,9 +11,9 @@ use Rattle.name_calls.specs.declared.calls.NameRefusal.{NameRefusal}
 use Rattle.inode_tree.specs.declared.rows.Row.{Row}
 use Rattle.inode_tree.specs.Below.{rows_below}
 use Rattle.inode_tree.specs.Rows.{Entry, entry_of, is_dir, row_at}
-use Rattle.row_copies.specs.Clusters.{CopyState, EndsFor, KeepsBoth, MakesDirectory}
-use Rattle.row_copies.specs.Copies.{CopyEnds, Done, FailsLast, CopyRefused, HasNoMark, IsLong, IsTaken, IsTooLong, KeepsFree, MakesAbove, RefusedLast, StepRefuses, Steps, WholeEnds, has_file, is_file}
-use Rattle.row_copies.specs.Walks.{Adds}
+use Rattle.row_copies.specs.Clusters.{CopyState, EndsFor, KeepsBoth, MakesCopyDirectory}
+use Rattle.row_copies.specs.Copies.{CopyEnds, Done, FailsLast, CopyRefused, HasNoMark, IsLong, IsPathTaken, IsTooLong, KeepsFree, MakesAbove, RefusedLast, StepRefuses, ChainOf, WholeEnds, has_file, is_file}
+use Rattle.row_copies.specs.Walks.{AddsCopies}
 use Rattle.row_copies.proofs.AddLemmas.{all-right, and-no, cluster-join, cluster-same, tells-too}
 use Rattle.row_copies.proofs.EndLemmas.{Led, led, led-keeps, led-makes}
 use Rattle.row_copies.proofs.PutLemmas.{below-has}
@@ -67,7 +67,7 @@ free-same a = record { source = cluster-same a.source; tells = refl; free = λ i
 pub free-keeps : (a b : CopyState) → KeepsBoth a b → KeepsFree a b
 free-keeps a b k = free-led a b (led-keeps a b k)
 
-pub free-makes : (path : List (List ℕ)) (a b : CopyState) → MakesDirectory path a b → KeepsFree a b
+pub free-makes : (path : List (List ℕ)) (a b : CopyState) → MakesCopyDirectory path a b → KeepsFree a b
 free-makes path a b m = free-led a b (led-makes path a b m)
 
 pub free-above : (n : ℕ) (to : List (List ℕ)) (a b : CopyState) → MakesAbove n to a b → KeepsFree a b
@@ -81,7 +81,7 @@ not-made rows (z ∷ made) id has none =
     (and-no (is_file z) (z.row.id == id) (λ same. has.0 (subst (λ (j : ℕ). entry_of rows j ≡ None) (sym (eqb-true z.row.id id same)) none)))
     (not-made rows made id has.1 none)
 
-pub free-adds : (to : List (List ℕ)) (xs : List Entry) (a b : CopyState) → Adds to xs a b → KeepsFree a b
+pub free-adds : (to : List (List ℕ)) (xs : List Entry) (a b : CopyState) → AddsCopies to xs a b → KeepsFree a b
 free-adds to xs a b f =
     let has : AllByRecursion (λ (y : Entry). entry_of b.target.rows y.row.id ≡ None → ⊥) f.made =
     all-right (λ (y : Entry). entry_of b.target.rows y.row.id ≡ None → ⊥) (rows_below a.target.rows to) f.made
@@ -102,7 +102,7 @@ module _ {X : Type 0} (state : X → CopyState) (follows : X → X → Type 0) w
   fails-now : (fails : X → X → Type 0) (a b : X) → fails a b → FailsLast state follows fails a b
   fails-now fails a b f = record { mid = a; before = Done; kept = free-same (state a); last = f }
 
-  fails-then : (fails : X → X → Type 0) (a b c : X) → Steps follows a b → KeepsFree (state a) (state b) → FailsLast state follows fails b c → FailsLast state follows fails a c
+  fails-then : (fails : X → X → Type 0) (a b c : X) → ChainOf follows a b → KeepsFree (state a) (state b) → FailsLast state follows fails b c → FailsLast state follows fails a c
   fails-then fails a b c s k f = record { mid = f.mid; before = steps-join follows a b f.mid s f.before; kept = free-join (state a) (state b) (state f.mid) k f.kept; last = f.last }
 
   fails-so : (fails fails' : X → X → Type 0) (a b : X) → ((x : X) → fails x b → fails' x b) → FailsLast state follows fails a b → FailsLast state follows fails' a b
@@ -116,12 +116,12 @@ module _ {X : Type 0} (state : X → CopyState) (follows store vault : X → X �
       (λ s. fails-now state follows store a b s) (λ v. fails-now state follows vault a b v) (λ r. fails-now state follows (λ (x y : X). refuses x y why) a b r) e
 
   -- and steps that were done came before
-  pub ends-then : (a b c : X) (why : FsEnd) → Steps follows a b → KeepsFree (state a) (state b) → CopyEnds state follows store vault refuses b c why → CopyEnds state follows store vault refuses a c why
+  pub ends-then : (a b c : X) (why : FsEnd) → ChainOf follows a b → KeepsFree (state a) (state b) → CopyEnds state follows store vault refuses b c why → CopyEnds state follows store vault refuses a c why
   ends-then a b c why s k e =
       ends-so (FailsLast state follows store b c) (FailsLast state follows vault b c) (FailsLast state follows store a c) (FailsLast state follows vault a c) (RefusedLast state follows refuses b c) (RefusedLast state follows refuses a c) why
       (λ f. fails-then state follows store a b c s k f) (λ f. fails-then state follows vault a b c s k f) (λ f. fails-then state follows (λ (x y : X). refuses x y why) a b c s k f) e
 
-  pub ends-last : (a b c : X) (why : FsEnd) → Steps follows a b → KeepsFree (state a) (state b) → EndsFor (store b c) (vault b c) (refuses b c) why → CopyEnds state follows store vault refuses a c why
+  pub ends-last : (a b c : X) (why : FsEnd) → ChainOf follows a b → KeepsFree (state a) (state b) → EndsFor (store b c) (vault b c) (refuses b c) why → CopyEnds state follows store vault refuses a c why
   ends-last a b c why s k e = ends-then a b c why s k (ends-now b c why e)
 
   -- allocation failed
@@ -134,11 +134,11 @@ module _ {X : Type 0} (state : X → CopyState) (follows store vault : X → X �
   now-ends a b (Ok done) e = e
   now-ends a b (Err why) e = ends-now a b why e
 
-  pub then-ends : {T : Type 0} (a b c : X) (r : Result T FsEnd) → Steps follows a b → KeepsFree (state a) (state b) → IfErr r (CopyEnds state follows store vault refuses b c) → IfErr r (CopyEnds state follows store vault refuses a c)
+  pub then-ends : {T : Type 0} (a b c : X) (r : Result T FsEnd) → ChainOf follows a b → KeepsFree (state a) (state b) → IfErr r (CopyEnds state follows store vault refuses b c) → IfErr r (CopyEnds state follows store vault refuses a c)
   then-ends a b c (Ok done) s k e = e
   then-ends a b c (Err why) s k e = ends-then a b c why s k e
 
-  pub last-ends : {T : Type 0} (a b c : X) (r : Result T FsEnd) → Steps follows a b → KeepsFree (state a) (state b) → IfErr r (EndsFor (store b c) (vault b c) (refuses b c)) → IfErr r (CopyEnds state follows store vault refuses a c)
+  pub last-ends : {T : Type 0} (a b c : X) (r : Result T FsEnd) → ChainOf follows a b → KeepsFree (state a) (state b) → IfErr r (EndsFor (store b c) (vault b c) (refuses b c)) → IfErr r (CopyEnds state follows store vault refuses a c)
   last-ends a b c r s k e = then-ends a b c r s k (now-ends b c r e)
 
   -- ---- a rule besides
@@ -205,13 +205,13 @@ module _ {X : Type 0} (state : X → CopyState) (follows store vault : X → X �
       go (inr rule) = inr (inl rule)
 
   -- and the path of the target once its parents are there
-  pub whole-taken : (b c : X) (why : FsEnd) → Steps follows a b → KeepsFree (state a) (state b) → (is_some (row_at (state b).target.rows to) ≡ true → is_some (row_at (state a).target.rows to) ≡ true)
-      → EndsFor (store b c) (vault b c) (StepRefuses state refuses (IsTaken to) b c) why → WholeEnds state follows store vault refuses to a c why
+  pub whole-taken : (b c : X) (why : FsEnd) → ChainOf follows a b → KeepsFree (state a) (state b) → (is_some (row_at (state b).target.rows to) ≡ true → is_some (row_at (state a).target.rows to) ≡ true)
+      → EndsFor (store b c) (vault b c) (StepRefuses state refuses (IsPathTaken to) b c) why → WholeEnds state follows store vault refuses to a c why
   whole-taken b c why s k back e =
-      ends-so (store b c) (vault b c) (FailsLast state follows store a c) (FailsLast state follows vault a c) (StepRefuses state refuses (IsTaken to) b c) (CopyRefused state follows refuses to a c) why
+      ends-so (store b c) (vault b c) (FailsLast state follows store a c) (FailsLast state follows vault a c) (StepRefuses state refuses (IsPathTaken to) b c) (CopyRefused state follows refuses to a c) why
       (λ f. fails-then state follows store a b c s k (fails-now state follows store b c f)) (λ f. fails-then state follows vault a b c s k (fails-now state follows vault b c f)) go e
     where
-      go : StepRefuses state refuses (IsTaken to) b c why → CopyRefused state follows refuses to a c why
+      go : StepRefuses state refuses (IsPathTaken to) b c why → CopyRefused state follows refuses to a c why
       go (inl r) = inl (fails-then state follows (λ (x y : X). refuses x y why) a b c s k (fails-now state follows (λ (x y : X). refuses x y why) b c r))
       go (inr (is, some)) = inr (inr (inl (is, back some)))
 

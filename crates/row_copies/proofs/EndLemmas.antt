@@ -11,9 +11,9 @@ use Rattle.inode_tree.specs.Rows.{Entry, IsRows, entry_of, is_dir_at, is_marked,
 use Rattle.inode_tree.proofs.Seeks.{same-is}
 use Rattle.row_blocks.specs.Below.{below}
 use Rattle.row_blocks.proofs.Blocks.{both}
-use Rattle.row_copies.specs.Clusters.{CopyState, IsTree, KeepsBoth, KeepsCluster, MakesDirectory, directory_at}
-use Rattle.row_copies.specs.Copies.{AreCopies, CopiesAll, CopiesPart, HasBodyOf, MakesAbove, MakesMissing, MakesParents, Pairs, StopsEarly, above}
-use Rattle.row_copies.specs.Walks.{Adds, IsNext, Stops}
+use Rattle.row_copies.specs.Clusters.{CopyState, IsTreeOfRows, KeepsBoth, KeepsCluster, MakesCopyDirectory, directory_at}
+use Rattle.row_copies.specs.Copies.{AreCopies, CopiesAll, CopiesPart, HasBodyOf, MakesAbove, MakesMissing, MakesParents, PairsOfRows, StopsEarly, above}
+use Rattle.row_copies.specs.Walks.{AddsCopies, IsNextSubtree, StopsWalk}
 use Rattle.row_copies.proofs.AddLemmas.{all-right, all-same, cluster-join, keeps-join, makes-keeps, not-new, rebody, tells-too}
 use Rattle.row_copies.proofs.NextLemmas.{all-below, none-below, none-removed, none-to-see}
 use Rattle.row_copies.proofs.PutLemmas.{below-has, free-put}
@@ -83,7 +83,7 @@ led-keeps a b k = record {
   absent = λ q none. subst (λ (rows : List Entry). row_at rows q ≡ None) k.target.rows none;
 }
 
-pub led-makes : (path : List (List ℕ)) (a b : CopyState) → MakesDirectory path a b → Led a b
+pub led-makes : (path : List (List ℕ)) (a b : CopyState) → MakesCopyDirectory path a b → Led a b
 led-makes path a b m = record {
   source = m.source;
   bodies = m.bodies;
@@ -155,7 +155,7 @@ module _ (to : List (List ℕ)) (a p b : CopyState) (made : MakesAbove (above to
   pub was-absent : row_at a.target.rows to ≡ None
   was-absent = l.absent to absent
 
-  pub copies-all : Adds to (below p.source.rows []) p b → CopiesAll to a b
+  pub copies-all : AddsCopies to (below p.source.rows []) p b → CopiesAll to a b
   copies-all f = record {
     rows = f.made;
     makes = record {
@@ -169,12 +169,12 @@ module _ (to : List (List ℕ)) (a p b : CopyState) (made : MakesAbove (above to
     copied = subst (λ (xs : List Entry). AreCopies xs f.made) source-rows f.copied;
     bodies = λ t u.
         rebody a.source.bodies.bodies p.source.bodies.bodies b.target.bodies.bodies b.target.bodies.bodies a.source.rows f.made (λ id. l.source.bodies.bodies t id) (all-same b.target.bodies.bodies f.made)
-        (subst (λ (xs : List Entry). Pairs (HasBodyOf p.source.bodies.bodies b.target.bodies.bodies) xs f.made) source-rows
+        (subst (λ (xs : List Entry). PairsOfRows (HasBodyOf p.source.bodies.bodies b.target.bodies.bodies) xs f.made) source-rows
         (f.bodies (tells-too a.source.bodies p.source.bodies l.source.bodies.tells t) (tells-too a.target.bodies p.target.bodies l.bodies.tells u)));
     others = λ u id no. f.others (tells-too a.target.bodies p.target.bodies l.bodies.tells u) id no ∙ l.bodies.bodies u id;
   }
 
-  pub copies-part : Stops to (below p.source.rows []) p b → CopiesPart to a b
+  pub copies-part : StopsWalk to (below p.source.rows []) p b → CopiesPart to a b
   copies-part s =
       let f = s.adds in
       let m = s.mid in
@@ -213,7 +213,7 @@ module _ (to : List (List ℕ)) (a p b : CopyState) (made : MakesAbove (above to
       }
 
   -- the root of the source is next
-  pub first-next : (row : Row) → row_at p.source.rows [] ≡ Some row → IsNext [] to p
+  pub first-next : (row : Row) → row_at p.source.rows [] ≡ Some row → IsNextSubtree [] to p
   first-next row at = record {
     row = row;
     is_row = at;
@@ -239,23 +239,23 @@ pub absent-stops : (to : List (List ℕ)) (a b c d : CopyState) → KeepsBoth a 
 absent-stops to a b c d k m l = inl (record { count = above to; few = omega arith; made = above-keeps (above to) to a c d (above-since (above to) to a b c k m) l })
 
 module _ (to root : List (List ℕ)) (a b c p : CopyState) (is_root : root ≡ []) (k : KeepsBoth a b) (m : MakesAbove (above to) to b c) (l : KeepsBoth c p) (none_at : row_at c.target.rows to ≡ None)
-    (t : IsTree p.source.rows) (rows : IsRows p.target.rows) where
+    (t : IsTreeOfRows p.source.rows) (rows : IsRows p.target.rows) where
   made : MakesAbove (above to) to a p
   made = above-keeps (above to) to a c p (above-since (above to) to a b c k m) l
 
   absent : row_at p.target.rows to ≡ None
   absent = ap (λ (es : List Entry). row_at es to) l.target.rows ∙ none_at
 
-  pub whole-next : IsNext root to p
+  pub whole-next : IsNextSubtree root to p
   whole-next =
       let row = root-row (row_at p.source.rows []) t.rooted in
-      subst (λ (q : List (List ℕ)). IsNext q to p) (sym is_root) (first-next to a p p made rows absent row.0 row.1)
+      subst (λ (q : List (List ℕ)). IsNextSubtree q to p) (sym is_root) (first-next to a p p made rows absent row.0 row.1)
 
-  pub whole-all : (e : CopyState) → Adds to (below p.source.rows root) p e → CopiesAll to a e
-  whole-all e f = copies-all to a p e made rows absent (subst (λ (q : List (List ℕ)). Adds to (below p.source.rows q) p e) is_root f)
+  pub whole-all : (e : CopyState) → AddsCopies to (below p.source.rows root) p e → CopiesAll to a e
+  whole-all e f = copies-all to a p e made rows absent (subst (λ (q : List (List ℕ)). AddsCopies to (below p.source.rows q) p e) is_root f)
 
-  pub whole-part : (e : CopyState) → Stops to (below p.source.rows root) p e → StopsEarly to a e
-  whole-part e s = inr (copies-part to a p e made rows absent (subst (λ (q : List (List ℕ)). Stops to (below p.source.rows q) p e) is_root s))
+  pub whole-part : (e : CopyState) → StopsWalk to (below p.source.rows root) p e → StopsEarly to a e
+  whole-part e s = inr (copies-part to a p e made rows absent (subst (λ (q : List (List ℕ)). StopsWalk to (below p.source.rows q) p e) is_root s))
 
   pub whole-count : (test : Entry → Bool) → count_by test (below p.source.rows root) ≡ count_by test a.source.rows
   whole-count test = ap (λ (q : List (List ℕ)). count_by test (below p.source.rows q)) is_root ∙ ap (count_by test) (source-rows to a p p made rows absent)

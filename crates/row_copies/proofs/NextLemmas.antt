@@ -11,30 +11,30 @@ use Rattle.inode_tree.specs.Below.{rows_below, seen_from}
 use Rattle.inode_tree.specs.Rows.{Entry, IsRising, IsRows, is_dir, is_dir_at, removed, row_at}
 use Rattle.inode_tree.proofs.ZoneLemmas.{prefix-length}
 use Rattle.inode_tree.proofs.Seeks.{before-not-same, same-is, same-itself}
-use Rattle.row_blocks.specs.Below.{In, IsWalkable, below, belows}
+use Rattle.row_blocks.specs.Below.{IsRowIn, IsWalkable, below, belows}
 use Rattle.row_blocks.proofs.Blocks.{after-in, both}
 use Rattle.row_blocks.proofs.Groups.{filter-none, filter-yes}
 use Rattle.row_blocks.proofs.Rows.{all-in, ancestor, below-blocks, prefix-take}
-use Rattle.row_copies.specs.Clusters.{CopyState, IsTree}
+use Rattle.row_copies.specs.Clusters.{CopyState, IsTreeOfRows}
 use Rattle.row_copies.specs.Copies.{AreCopies, IsCopyOf}
-use Rattle.row_copies.specs.Walks.{Adds, IsNext, entry_at}
+use Rattle.row_copies.specs.Walks.{AddsCopies, IsNextSubtree, entry_at}
 use Rattle.row_copies.proofs.AddLemmas.{pairs-join}
 use Rattle.row_copies.proofs.PutLemmas.{AllBefore}
 
-pub walkable : (rows : List Entry) → IsTree rows → IsWalkable rows
+pub walkable : (rows : List Entry) → IsTreeOfRows rows → IsWalkable rows
 walkable rows t = record { rising = t.rising; housed = t.housed }
 
 -- the row at a path is one of the rows
-pub row-there : (rows : List Entry) (p : List (List ℕ)) (row : Row) → row_at rows p ≡ Some row → In (entry_at p row) rows
+pub row-there : (rows : List Entry) (p : List (List ℕ)) (row : Row) → row_at rows p ≡ Some row → IsRowIn (entry_at p row) rows
 row-there [] p row h = cc
 row-there (e ∷ es) p row h = go (same_path e.path p) refl h (row-there es p row)
   where
-    go : (b : Bool) → same_path e.path p ≡ b → cond b (Some e.row) (row_at es p) ≡ Some row → (row_at es p ≡ Some row → In (entry_at p row) es) → In (entry_at p row) (e ∷ es)
+    go : (b : Bool) → same_path e.path p ≡ b → cond b (Some e.row) (row_at es p) ≡ Some row → (row_at es p ≡ Some row → IsRowIn (entry_at p row) es) → IsRowIn (entry_at p row) (e ∷ es)
     go true s h more = let r : e.row ≡ row = cc in inl (λ i. record { path = sym (same-is e.path p s) i; row = sym r i })
     go false s h more = inr (more h)
 
 -- each row is the one at its path
-pub there-row : (rows : List Entry) (e : Entry) → IsRising rows → In e rows → row_at rows e.path ≡ Some e.row
+pub there-row : (rows : List Entry) (e : Entry) → IsRising rows → IsRowIn e rows → row_at rows e.path ≡ Some e.row
 there-row [] e r is = absurd is
 there-row (x ∷ xs) e r (inl is) = ap (λ (b : Bool). cond b (Some x.row) (row_at xs e.path)) (ap (λ (y : Entry). same_path y.path e.path) (sym is) ∙ same-itself e.path) ∙ ap (λ (y : Entry). Some y.row) (sym is)
 there-row (x ∷ xs) e r (inr is) = ap (λ (b : Bool). cond b (Some x.row) (row_at xs e.path)) (before-not-same x.path e.path (after-in x.path xs e r.0 is)) ∙ there-row xs e r.1 is
@@ -58,16 +58,16 @@ take-next (x ∷ kids) (suc k) d h = ap (λ (l : List Entry). x ∷ l) (take-nex
 abbrev pub kids-of : List Entry → List (List ℕ) → List Entry
 kids-of rows p = filter (λ (e : Entry). is_child p e.path) rows
 
-in-filter : (test : Entry → Bool) (es : List Entry) (x : Entry) → In x (filter test es) → In x es × (test x ≡ true)
+in-filter : (test : Entry → Bool) (es : List Entry) (x : Entry) → IsRowIn x (filter test es) → IsRowIn x es × (test x ≡ true)
 in-filter test [] x is = absurd is
 in-filter test (e ∷ es) x is = go (test e) refl is (in-filter test es x)
   where
-    go : (b : Bool) → test e ≡ b → In x (cond b (e ∷ filter test es) (filter test es)) → (In x (filter test es) → In x es × (test x ≡ true)) → In x (e ∷ es) × (test x ≡ true)
+    go : (b : Bool) → test e ≡ b → IsRowIn x (cond b (e ∷ filter test es) (filter test es)) → (IsRowIn x (filter test es) → IsRowIn x es × (test x ≡ true)) → IsRowIn x (e ∷ es) × (test x ≡ true)
     go true t (inl here) more = (inl here, ap test here ∙ t)
     go true t (inr there) more = let m = more there in (inr m.0, m.1)
     go false t there more = let m = more there in (inr m.0, m.1)
 
-at-in : (xs : List Entry) (k : ℕ) (d : Entry) → k < length xs → In (get_or xs k d) xs
+at-in : (xs : List Entry) (k : ℕ) (d : Entry) → k < length xs → IsRowIn (get_or xs k d) xs
 at-in [] k d h = absurd (omega (arith, h))
 at-in (x ∷ xs) zero d h = inl refl
 at-in (x ∷ xs) (suc k) d h = inr (at-in xs k d (omega (arith, h)))
@@ -85,7 +85,7 @@ child-is (x ∷ p) (y ∷ z ∷ q) h long =
 
 -- the child at a place of the list
 pub record IsKid (rows : List Entry) (p : List (List ℕ)) (kid : Entry) : Type 0 where
-  pub is_in : In kid rows
+  pub is_in : IsRowIn kid rows
   pub path : kid.path ≡ p ++ last_name kid.path ∷ []
 
 pub kid-at : (rows : List Entry) (p : List (List ℕ)) (k : ℕ) (d : Entry) → k < length (kids-of rows p) → IsKid rows p (get_or (kids-of rows p) k d)
@@ -101,10 +101,10 @@ parent-snoc (y ∷ []) x = refl
 parent-snoc (y ∷ z ∷ p) x = ap (λ (l : List (List ℕ)). y ∷ l) (parent-snoc (z ∷ p) x)
 
 -- only directories have children
-pub no-kids : (rows : List Entry) (p : List (List ℕ)) (row : Row) → IsTree rows → row_at rows p ≡ Some row → is_dir row.kind ≡ false → kids-of rows p ≡ []
+pub no-kids : (rows : List Entry) (p : List (List ℕ)) (row : Row) → IsTreeOfRows rows → row_at rows p ≡ Some row → is_dir row.kind ≡ false → kids-of rows p ≡ []
 no-kids rows p row t at file = filter-none (λ (e : Entry). is_child p e.path) rows (none rows (λ e is. is))
   where
-    lone : (e : Entry) → In e rows → is_child p e.path ≡ true → ⊥
+    lone : (e : Entry) → IsRowIn e rows → is_child p e.path ≡ true → ⊥
     lone e is child =
         let parts = and_parts (is_prefix p e.path) (length e.path == length p + 1) child in
         let path : e.path ≡ p ++ last_name e.path ∷ [] = child-is p e.path parts.0 (eqb-true (length e.path) (length p + 1) parts.1) in
@@ -112,12 +112,12 @@ no-kids rows p row t at file = filter-none (λ (e : Entry). is_child p e.path) r
         let housed : is_dir_at (row_at rows (parent e.path)) ≡ true = all-in (λ (x : Entry). is_dir_at (row_at rows (parent x.path)) ≡ true) rows e t.housed is in
         both (is_dir row.kind) (sym (ap is_dir_at (ap (row_at rows) up ∙ at)) ∙ housed) file
 
-    none : (es : List Entry) → ((e : Entry) → In e es → In e rows) → AllByRecursion (λ (e : Entry). is_child p e.path ≡ false) es
+    none : (es : List Entry) → ((e : Entry) → IsRowIn e es → IsRowIn e rows) → AllByRecursion (λ (e : Entry). is_child p e.path ≡ false) es
     none [] inside = tt
     none (e ∷ es) inside = (false_from_ne_true (is_child p e.path) (λ c. lone e (inside e (inl refl)) c), none es (λ x is. inside x (inr is)))
 
 -- the rows at and below a path are its own and those of its children
-pub block-is : (rows : List Entry) (p : List (List ℕ)) (row : Row) → IsTree rows → row_at rows p ≡ Some row → below rows p ≡ entry_at p row ∷ belows (kids-of rows p) rows
+pub block-is : (rows : List Entry) (p : List (List ℕ)) (row : Row) → IsTreeOfRows rows → row_at rows p ≡ Some row → below rows p ≡ entry_at p row ∷ belows (kids-of rows p) rows
 block-is rows p row t at = below-blocks p rows (entry_at p row) (walkable rows t) (row-there rows p row at) refl
 
 -- copies have the paths of what they copy
@@ -128,19 +128,19 @@ before-next to (d ∷ done) x rest [] r h = absurd h
 before-next to (d ∷ done) x rest (y ∷ ys) r h =
     (subst (λ (q : List (List ℕ)). is_before q x.path ≡ true) (sym h.0.0) (after-in d.path (done ++ x ∷ rest) x r.0 (in-mid done)), before-next to done x rest ys r.1 h.1)
   where
-    in-mid : (es : List Entry) → In x (es ++ x ∷ rest)
+    in-mid : (es : List Entry) → IsRowIn x (es ++ x ∷ rest)
     in-mid [] = inl refl
     in-mid (e ∷ es) = inr (in-mid es)
 
 -- all copied rows are before the next
-pub all-before : (from to : List (List ℕ)) (s : CopyState) (n : IsNext from to s) → IsTree s.source.rows → AllBefore to from (rows_below s.target.rows to)
+pub all-before : (from to : List (List ℕ)) (s : CopyState) (n : IsNextSubtree from to s) → IsTreeOfRows s.source.rows → AllBefore to from (rows_below s.target.rows to)
 all-before from to s n t =
     before-next to n.done (entry_at from n.row) (belows (kids-of s.source.rows from) s.source.rows ++ n.rest) (rows_below s.target.rows to)
     (subst IsRising (sym (ap (λ (l : List Entry). n.done ++ (l ++ n.rest)) (sym (block-is s.source.rows from n.row t n.is_row)) ∙ n.whole)) t.rising)
     n.there
 
 -- the blocks of the first k children, of the next, and of those after it
-pub blocks-at : (rows : List Entry) (from : List (List ℕ)) (row : Row) (k : ℕ) (d : Entry) → IsTree rows → row_at rows from ≡ Some row → k < length (kids-of rows from)
+pub blocks-at : (rows : List Entry) (from : List (List ℕ)) (row : Row) (k : ℕ) (d : Entry) → IsTreeOfRows rows → row_at rows from ≡ Some row → k < length (kids-of rows from)
     → below rows from ≡ (entry_at from row ∷ belows (take k (kids-of rows from)) rows) ++ (below rows (get_or (kids-of rows from) k d).path ++ belows (drop (suc k) (kids-of rows from)) rows)
 blocks-at rows from row k d t at h =
     let kids = kids-of rows from in
@@ -149,8 +149,8 @@ blocks-at rows from row k d t at h =
     ∙ ap (λ (l : List Entry). entry_at from row ∷ l) (ap (λ (l : List Entry). belows l rows) (split-at kids k d h) ∙ belows-join (take k kids) (kid ∷ drop (suc k) kids) rows)
 
 -- after the first k children of a directory the next is the next row
-pub next-kid : (from to : List (List ℕ)) (row : Row) (k : ℕ) (d : Entry) (a b : CopyState) (n : IsNext from to a) → IsTree a.source.rows → row_at a.source.rows from ≡ Some row → k < length (kids-of a.source.rows from)
-    → Adds to (entry_at from row ∷ belows (take k (kids-of a.source.rows from)) a.source.rows) a b → IsNext (get_or (kids-of a.source.rows from) k d).path to b
+pub next-kid : (from to : List (List ℕ)) (row : Row) (k : ℕ) (d : Entry) (a b : CopyState) (n : IsNextSubtree from to a) → IsTreeOfRows a.source.rows → row_at a.source.rows from ≡ Some row → k < length (kids-of a.source.rows from)
+    → AddsCopies to (entry_at from row ∷ belows (take k (kids-of a.source.rows from)) a.source.rows) a b → IsNextSubtree (get_or (kids-of a.source.rows from) k d).path to b
 next-kid from to row k d a b n t at h f =
     let rows = a.source.rows in
     let kids = kids-of rows from in
@@ -177,7 +177,7 @@ next-kid from to row k d a b n t at h f =
 pub none-below : (rows : List Entry) (to : List (List ℕ)) → IsRows rows → row_at rows to ≡ None → AllByRecursion (λ (e : Entry). is_prefix to e.path ≡ false) rows
 none-below rows to r absent = go rows (λ e is. is)
   where
-    lone : (e : Entry) → In e rows → is_prefix to e.path ≡ true → ⊥
+    lone : (e : Entry) → IsRowIn e rows → is_prefix to e.path ≡ true → ⊥
     lone e is h =
         let long : length to ≤ length e.path = prefix-length to e.path h in
         let up = ancestor to rows (record { rising = r.rising; housed = r.housed }) (length e.path - length to) (length to) e is (omega (arith, long)) in
@@ -185,7 +185,7 @@ none-below rows to r absent = go rows (λ e is. is)
         let here : row_at rows to ≡ Some up.0.row = ap (row_at rows) (sym path) ∙ there-row rows up.0 r.rising up.1 in
         absurd cc
 
-    go : (es : List Entry) → ((e : Entry) → In e es → In e rows) → AllByRecursion (λ (e : Entry). is_prefix to e.path ≡ false) es
+    go : (es : List Entry) → ((e : Entry) → IsRowIn e es → IsRowIn e rows) → AllByRecursion (λ (e : Entry). is_prefix to e.path ≡ false) es
     go [] inside = tt
     go (e ∷ es) inside = (false_from_ne_true (is_prefix to e.path) (λ h. lone e (inside e (inl refl)) h), go es (λ x is. inside x (inr is)))
 

@@ -3,7 +3,7 @@ use Rattle.std.specs.Prelude.{◌≡◌, ℕ, true, List, [], Option, Some, None
 use Rattle.std.specs.List.{All}
 use Rattle.hk_base.specs.declared.names.Edek.{Edek}
 use Rattle.hk_base.specs.declared.names.KeyName.{KeyName}
-use Rattle.body_stream.specs.Vaults.{KeepsBodies, OthersStay, TellsBodies, VaultState}
+use Rattle.body_stream.specs.Vaults.{KeepsBodies, OtherBodiesStay, TellsBodies, VaultState}
 use Rattle.file_orders.specs.Ends.{IsFailure}
 use Rattle.file_orders.specs.declared.ends.FsEnd.{FsEnd}
 use Rattle.file_orders.specs.declared.ends.FsEnd.TheVariants as end
@@ -22,7 +22,7 @@ pub record CopyState : Type 0 where
   pub target : ClusterState
 
 -- Rows seen from a directory: the directory is there, and the parent of each is a directory of them.
-pub record IsTree (rows : List Entry) : Type 0 where
+pub record IsTreeOfRows (rows : List Entry) : Type 0 where
   pub rising : IsRising rows
   pub ruled : All (λ e. is_relative e.path ≡ true) rows
   pub rooted : is_dir_at (row_at rows []) ≡ true
@@ -44,7 +44,7 @@ abbrev pub file_at : ℕ → List (List ℕ) → Option Edek → Entry
 file_at id p edek = record { path = p; row = record { id = id; kind = File edek } }
 
 -- a directory without a key is made in the target, under an id that was free
-pub record MakesDirectory (path : List (List ℕ)) (old new : CopyState) : Type 0 where
+pub record MakesCopyDirectory (path : List (List ℕ)) (old new : CopyState) : Type 0 where
   pub source : KeepsCluster old.source new.source
   pub id : ℕ
   pub free : entry_of old.target.rows id ≡ None
@@ -53,7 +53,7 @@ pub record MakesDirectory (path : List (List ℕ)) (old new : CopyState) : Type 
   pub bodies : KeepsBodies old.target.bodies new.target.bodies
 
 -- a directory of the target that had no key gets one
-pub record MarksDirectory (path : List (List ℕ)) (key : KeyName) (old new : CopyState) : Type 0 where
+pub record MarksCopyDirectory (path : List (List ℕ)) (key : KeyName) (old new : CopyState) : Type 0 where
   pub source : KeepsCluster old.source new.source
   pub id : ℕ
   pub was : row_at old.target.rows path ≡ Some (record { id = id; kind = Dir None })
@@ -69,7 +69,7 @@ pub record CopiesFile (from : ℕ) (path : List (List ℕ)) (edek : Option Edek)
   pub rows : new.target.rows ≡ put (file_at id path edek) old.target.rows
   pub tells : new.target.bodies.tells ≡ old.target.bodies.tells
   pub body : TellsBodies old.source.bodies → TellsBodies old.target.bodies → new.target.bodies.bodies id ≡ old.source.bodies.bodies from
-  pub others : TellsBodies old.target.bodies → OthersStay id old.target.bodies.bodies new.target.bodies.bodies
+  pub others : TellsBodies old.target.bodies → OtherBodiesStay id old.target.bodies.bodies new.target.bodies.bodies
 
 -- no row changes, and no body of a row of the target; the body of another id may
 pub record KeepsRows (old new : CopyState) : Type 0 where

@@ -9,28 +9,28 @@ use Rattle.inode_tree.specs.declared.rows.Row.{Row}
 use Rattle.inode_tree.specs.declared.rows.Kind.TheVariants.{Dir}
 use Rattle.inode_tree.specs.Below.{rows_below}
 use Rattle.inode_tree.specs.Rows.{Entry, entry_of, is_dir, is_marked, removed, row_at}
-use Rattle.row_copies.specs.Clusters.{CopyState, EndsFor, KeepsBoth, KeepsCluster, MakesDirectory}
+use Rattle.row_copies.specs.Clusters.{CopyState, EndsFor, KeepsBoth, KeepsCluster, MakesCopyDirectory}
 
 -- two lists are of one length, and the relation holds of the entries at each place
-abbrev pub Pairs : (Entry → Entry → Type 0) → List Entry → List Entry → Type 0
-Pairs R [] [] = ⊤
-Pairs R [] (y ∷ ys) = ⊥
-Pairs R (x ∷ xs) [] = ⊥
-Pairs R (x ∷ xs) (y ∷ ys) = R x y × Pairs R xs ys
+abbrev pub PairsOfRows : (Entry → Entry → Type 0) → List Entry → List Entry → Type 0
+PairsOfRows R [] [] = ⊤
+PairsOfRows R [] (y ∷ ys) = ⊥
+PairsOfRows R (x ∷ xs) [] = ⊥
+PairsOfRows R (x ∷ xs) (y ∷ ys) = R x y × PairsOfRows R xs ys
 
 -- The paths are the same, and so are the kinds: whether it is a directory, its mark, its encrypted key. The ids may differ.
 abbrev pub IsCopyOf : Entry → Entry → Type 0
 IsCopyOf x y = (y.path ≡ x.path) × (y.row.kind ≡ x.row.kind)
 
 abbrev pub AreCopies : List Entry → List Entry → Type 0
-AreCopies xs ys = Pairs IsCopyOf xs ys
+AreCopies xs ys = PairsOfRows IsCopyOf xs ys
 
 -- if it is a file, its copy has its body
 abbrev pub HasBodyOf : (ℕ → List ℕ) → (ℕ → List ℕ) → Entry → Entry → Type 0
 HasBodyOf bodies copies x y = is_dir x.row.kind ≡ false → copies y.row.id ≡ bodies x.row.id
 
 abbrev pub BodiesCopied : (old new : CopyState) → List Entry → List Entry → Type 0
-BodiesCopied old new xs ys = TellsBodies old.source.bodies → TellsBodies old.target.bodies → Pairs (HasBodyOf old.source.bodies.bodies new.target.bodies.bodies) xs ys
+BodiesCopied old new xs ys = TellsBodies old.source.bodies → TellsBodies old.target.bodies → PairsOfRows (HasBodyOf old.source.bodies.bodies new.target.bodies.bodies) xs ys
 
 abbrev pub is_file : Entry → Bool
 is_file e = not (is_dir e.row.kind)
@@ -53,7 +53,7 @@ OwnKept old new = TellsBodies old.target.bodies → (id : ℕ) → is_some (entr
 -- a path is that of a row already, or a directory is made there
 abbrev pub MakesMissing : Option Row → List (List ℕ) → (old new : CopyState) → Type 0
 MakesMissing (Some row) path old new = KeepsBoth old new
-MakesMissing None path old new = MakesDirectory path old new
+MakesMissing None path old new = MakesCopyDirectory path old new
 
 -- the paths of 1 to n names that lead to a path were made where they were missing, from above
 abbrev pub MakesAbove : (n : ℕ) → List (List ℕ) → (old new : CopyState) → Type 0
@@ -65,7 +65,7 @@ abbrev pub above : List (List ℕ) → ℕ
 above to = length to - 1
 
 -- What a copy has made: the directories above `to` that were missing, and then the rows at and below `to`. Nothing else changed.
-pub record Makes (to : List (List ℕ)) (made : List Entry) (old new : CopyState) : Type 0 where
+pub record MakesRows (to : List (List ℕ)) (made : List Entry) (old new : CopyState) : Type 0 where
   pub parents : CopyState
   pub led : MakesAbove (above to) to old parents
   pub made_is : rows_below new.target.rows to ≡ made
@@ -76,7 +76,7 @@ pub record Makes (to : List (List ℕ)) (made : List Entry) (old new : CopyState
 -- All is copied: the rows at and below `to` are copies of the source's, with the same bodies.
 pub record CopiesAll (to : List (List ℕ)) (old new : CopyState) : Type 0 where
   pub rows : List Entry
-  pub makes : Makes to rows old new
+  pub makes : MakesRows to rows old new
   pub copied : AreCopies old.source.rows rows
   pub bodies : BodiesCopied old new old.source.rows rows
   pub others : OthersKept old new rows
@@ -95,7 +95,7 @@ pub record CopiesPart (to : List (List ℕ)) (old new : CopyState) : Type 0 wher
   pub whole : done ++ rest ≡ old.source.rows
   pub rows : List Entry
   pub unmarked : List Entry
-  pub makes : Makes to (rows ++ unmarked) old new
+  pub makes : MakesRows to (rows ++ unmarked) old new
   pub copied : AreCopies done rows
   pub bodies : BodiesCopied old new done rows
   pub own : OwnKept old new
@@ -112,9 +112,9 @@ abbrev pub StopsEarly : List (List ℕ) → (old new : CopyState) → Type 0
 StopsEarly to old new = MakesParents to old new ⊎ CopiesPart to old new
 
 -- steps that follow one another
-pub data Steps {X : Type 0} (follows : X → X → Type 0) (a : X) : X → Type 0 where
-  Done : Steps follows a a
-  Then : (b c : X) → Steps follows a b → follows b c → Steps follows a c
+pub data ChainOf {X : Type 0} (follows : X → X → Type 0) (a : X) : X → Type 0 where
+  Done : ChainOf follows a a
+  Then : (b c : X) → ChainOf follows a b → follows b c → ChainOf follows a c
 
 -- The source is unchanged. Each id that is free in the target was free before, and has the body that it had.
 pub record KeepsFree (old new : CopyState) : Type 0 where
@@ -126,7 +126,7 @@ pub record KeepsFree (old new : CopyState) : Type 0 where
 -- the last step failed; those before it were done
 pub record FailsLast {X : Type 0} (state : X → CopyState) (follows fails : X → X → Type 0) (a b : X) : Type 0 where
   pub mid : X
-  pub before : Steps follows a mid
+  pub before : ChainOf follows a mid
   pub kept : KeepsFree (state a) (state mid)
   pub last : fails mid b
 
@@ -145,8 +145,8 @@ abbrev pub HasNoMark : List (List ℕ) → CopyState → FsEnd → Type 0
 HasNoMark path s why = (why ≡ end.NameRefused refusal.NotAZoneRoot) × ((row : Row) × (row_at s.source.rows path ≡ Some row) × (is_marked row ≡ false))
 
 -- there is a row of the target at the path of the copy
-abbrev pub IsTaken : List (List ℕ) → CopyState → FsEnd → Type 0
-IsTaken to s why = (why ≡ end.NameRefused refusal.Exists) × (is_some (row_at s.target.rows to) ≡ true)
+abbrev pub IsPathTaken : List (List ℕ) → CopyState → FsEnd → Type 0
+IsPathTaken to s why = (why ≡ end.NameRefused refusal.Exists) × (is_some (row_at s.target.rows to) ≡ true)
 
 abbrev pub IsLong : List (List ℕ) → FsEnd → Type 0
 IsLong path why = (why ≡ end.NameRefused refusal.BadPath) × (is_relative path ≡ false)
@@ -157,7 +157,7 @@ IsTooLong to s why = (from : List (List ℕ)) × (is_some (row_at s.source.rows 
 
 -- one of the rules refuses a copy to a path by this end
 abbrev pub RuleRefuses : List (List ℕ) → CopyState → FsEnd → Type 0
-RuleRefuses to s why = HasNoMark [] s why ⊎ (IsTaken to s why ⊎ IsTooLong to s why)
+RuleRefuses to s why = HasNoMark [] s why ⊎ (IsPathTaken to s why ⊎ IsTooLong to s why)
 
 -- the call was refused, or a rule refuses what stands before it
 abbrev pub StepRefuses : {X : Type 0} → (X → CopyState) → (refuses : X → X → FsEnd → Type 0) (rule : CopyState → FsEnd → Type 0) (a b : X) → FsEnd → Type 0

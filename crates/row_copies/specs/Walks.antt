@@ -19,11 +19,11 @@ abbrev pub is_directory : Entry → Bool
 is_directory e = is_dir e.row.kind
 
 -- the files and directories of these rows are counted
-abbrev pub Counts : List Entry → Copied → Copied → Type 0
-Counts es old new = (new.files ≡ old.files + count_by is_file es) × (new.directories ≡ old.directories + count_by is_directory es)
+abbrev pub CountsRows : List Entry → Copied → Copied → Type 0
+CountsRows es old new = (new.files ≡ old.files + count_by is_file es) × (new.directories ≡ old.directories + count_by is_directory es)
 
 -- the rows at and below a path of the source are next: all before them are copied, and no other
-pub record IsNext (from to : List (List ℕ)) (s : CopyState) : Type 0 where
+pub record IsNextSubtree (from to : List (List ℕ)) (s : CopyState) : Type 0 where
   pub row : Row
   pub is_row : row_at s.source.rows from ≡ Some row
   pub done : List Entry
@@ -32,7 +32,7 @@ pub record IsNext (from to : List (List ℕ)) (s : CopyState) : Type 0 where
   pub there : AreCopies done (rows_below s.target.rows to)
 
 -- copies of these rows come after those at and below `to`
-pub record Adds (to : List (List ℕ)) (block : List Entry) (old new : CopyState) : Type 0 where
+pub record AddsCopies (to : List (List ℕ)) (block : List Entry) (old new : CopyState) : Type 0 where
   pub made : List Entry
   pub there : rows_below new.target.rows to ≡ rows_below old.target.rows to ++ made
   pub copied : AreCopies block made
@@ -45,7 +45,7 @@ pub record Adds (to : List (List ℕ)) (block : List Entry) (old new : CopyState
   pub kept : (id : ℕ) → entry_of new.target.rows id ≡ None → entry_of old.target.rows id ≡ None
 
 -- no copy was added, except that the next row may be there without its mark
-pub record Ends (to : List (List ℕ)) (more : List Entry) (old new : CopyState) : Type 0 where
+pub record EndsWalk (to : List (List ℕ)) (more : List Entry) (old new : CopyState) : Type 0 where
   pub unmarked : List Entry
   pub next : IsUnmarked more unmarked
   pub there : rows_below new.target.rows to ≡ rows_below old.target.rows to ++ unmarked
@@ -55,13 +55,13 @@ pub record Ends (to : List (List ℕ)) (more : List Entry) (old new : CopyState)
   pub bodies : OwnKept old new
 
 -- copies of the first of these rows were added; then the walk ended
-pub record Stops (to : List (List ℕ)) (block : List Entry) (old new : CopyState) : Type 0 where
+pub record StopsWalk (to : List (List ℕ)) (block : List Entry) (old new : CopyState) : Type 0 where
   pub part : List Entry
   pub more : List Entry
   pub whole : part ++ more ≡ block
   pub mid : CopyState
-  pub adds : Adds to part old mid
-  pub ends : Ends to more mid new
+  pub adds : AddsCopies to part old mid
+  pub ends : EndsWalk to more mid new
 
 -- a row of a kind is made in the target, under an id that was free
 pub record MakesRow (kind : Kind) (path : List (List ℕ)) (old new : CopyState) : Type 0 where
@@ -85,7 +85,7 @@ pub record CopiesRow (from to : List (List ℕ)) (directory : Bool) (old new : C
   pub row : Row
   pub is_row : row_at old.source.rows from ≡ Some row
   pub kind : directory ≡ is_dir row.kind
-  pub adds : Adds to (entry_at from row ∷ []) old new
+  pub adds : AddsCopies to (entry_at from row ∷ []) old new
 
 abbrev pub one_if : Bool → ℕ
 one_if true = 1

@@ -5,7 +5,7 @@ ghost use Rattle.file_orders.specs.declared.ends.FsEnd.{FsEnd as End};
 ghost use Rattle.hk_base.specs.declared.names.KeyName.{KeyName as Key};
 ghost use Rattle.inode_tree.specs.Listing.{children};
 ghost use Rattle.inode_tree.specs.Rows.{IsRows, is_dir, is_dir_at, row_at};
-ghost use Rattle.row_copies.specs.Clusters.{CopiesFile, CopyState, EndsFor, IsTree, KeepsBoth, KeepsRows, MakesDirectory, MarksDirectory};
+ghost use Rattle.row_copies.specs.Clusters.{CopiesFile, CopyState, EndsFor, IsTreeOfRows, KeepsBoth, KeepsRows, MakesCopyDirectory, MarksCopyDirectory};
 
 use file_orders::FsEnd;
 use hk_base::{Edek, KeyName};
@@ -41,7 +41,7 @@ pub trait Clusters {
     /// Does nothing. It says what always holds of the rows.
     fn facts(&self)
         requires ready { ready self.now }
-        ensures source { IsTree (state self.now).source.rows }
+        ensures source { IsTreeOfRows (state self.now).source.rows }
         ensures target { IsRows (state self.now).target.rows };
 
     /// Returns the row of the source at a path.
@@ -86,7 +86,7 @@ pub trait Clusters {
     /// Makes a directory in the target.
     fn make_directory(&mut self, path: &NPath) -> Result<(), FsEnd>
         requires ready { ready self.old }
-        ensures ok { OnOk result (MakesDirectory path.now (state self.old) (state self.new)) }
+        ensures ok { OnOk result (MakesCopyDirectory path.now (state self.old) (state self.new)) }
         ensures err { OnErr result (KeepsBoth (state self.old) (state self.new)) }
         ensures ready { OnOk result (ready self.new) }
         ensures follows { follows self.old self.new }
@@ -97,7 +97,7 @@ pub trait Clusters {
     /// Marks an empty directory of the target with a key, which the source must know.
     fn mark(&mut self, path: &NPath, key: KeyName) -> Result<(), FsEnd>
         requires ready { ready self.old }
-        ensures ok { OnOk result (MarksDirectory path.now key (state self.old) (state self.new)) }
+        ensures ok { OnOk result (MarksCopyDirectory path.now key (state self.old) (state self.new)) }
         ensures known { OnOk result (knows self.old key self.new) }
         ensures err { OnErr result (KeepsBoth (state self.old) (state self.new)) }
         ensures ready { OnOk result (ready self.new) }

@@ -2,7 +2,7 @@
 ghost use Rattle.std.specs.Prelude.{◌≡◌, ◌++◌, ◌∷◌, [], None, IfErr, OnOk, OnErr, take};
 ghost use Rattle.inode_tree.specs.Rows.{row_at};
 ghost use Rattle.row_copies.specs.Clusters.{EndsFor, KeepsBoth};
-ghost use Rattle.row_copies.specs.Copies.{CopyEnds, IsTaken, MakesAbove, MakesMissing, MakesParents, StepRefuses, Steps, above};
+ghost use Rattle.row_copies.specs.Copies.{ChainOf, CopyEnds, IsPathTaken, MakesAbove, MakesMissing, MakesParents, StepRefuses, above};
 
 use crate::clusters::Clusters;
 use crate::paths::add_name;
@@ -18,7 +18,7 @@ fn make_missing<C: Clusters>(clusters: &mut C, path: &NPath) -> Result<(), FsEnd
         (C.state clusters.old) (C.state clusters.new)) }
     ensures err { OnErr result (KeepsBoth (C.state clusters.old) (C.state clusters.new)) }
     ensures ready { OnOk result (C.ready clusters.new) }
-    ensures steps { Steps C.follows clusters.old clusters.new }
+    ensures steps { ChainOf C.follows clusters.old clusters.new }
     ensures ends { IfErr result (CopyEnds C.state C.follows C.store_fails C.vault_fails
         C.refuses clusters.old clusters.new) }
 {
@@ -40,7 +40,7 @@ pub(crate) fn make_parents<C: Clusters>(
         (MakesAbove (above to.now) to.now (C.state clusters.old) (C.state clusters.new)) }
     ensures err { OnErr result (MakesParents to.now (C.state clusters.old) (C.state clusters.new)) }
     ensures ready { OnOk result (C.ready clusters.new) }
-    ensures steps { Steps C.follows clusters.old clusters.new }
+    ensures steps { ChainOf C.follows clusters.old clusters.new }
     ensures ends { IfErr result (CopyEnds C.state C.follows C.store_fails C.vault_fails
         C.refuses clusters.old clusters.new) }
 {
@@ -67,7 +67,7 @@ pub(crate) fn check_absent<C: Clusters>(clusters: &mut C, path: &NPath) -> Resul
     ensures follows { C.follows clusters.old clusters.new }
     ensures ends { IfErr result (EndsFor (C.store_fails clusters.old clusters.new)
         (C.vault_fails clusters.old clusters.new)
-        (StepRefuses C.state C.refuses (IsTaken path.now) clusters.old clusters.new)) }
+        (StepRefuses C.state C.refuses (IsPathTaken path.now) clusters.old clusters.new)) }
 {
     match clusters.is_directory(path) {
         Ok(Some(_)) => Err(FsEnd::NameRefused(NameRefusal::Exists)),

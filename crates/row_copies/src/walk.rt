@@ -3,9 +3,9 @@ ghost use Rattle.std.specs.Prelude.{◌≡◌, ◌⊎◌, ◌+◌, Some, None, i
 ghost use Rattle.inode_tree.specs.declared.rows.Kind.TheVariants.{Dir};
 ghost use Rattle.inode_tree.specs.Rows.{is_marked, row_at};
 ghost use Rattle.row_blocks.specs.Below.{below};
-ghost use Rattle.row_copies.specs.Clusters.{EndsFor, KeepsBoth, KeepsRows, MakesDirectory};
-ghost use Rattle.row_copies.specs.Copies.{CopiesAll, CopyEnds, HasNoMark, IsTooLong, StepRefuses, Steps, StopsEarly, WholeEnds, is_file};
-ghost use Rattle.row_copies.specs.Walks.{Adds, CopiesRow, Counts, CountsOne, IsNext, MakesCopy, MakesRow, Stops, is_directory};
+ghost use Rattle.row_copies.specs.Clusters.{EndsFor, KeepsBoth, KeepsRows, MakesCopyDirectory};
+ghost use Rattle.row_copies.specs.Copies.{ChainOf, CopiesAll, CopyEnds, HasNoMark, IsTooLong, StepRefuses, StopsEarly, WholeEnds, is_file};
+ghost use Rattle.row_copies.specs.Walks.{AddsCopies, CopiesRow, CountsOne, CountsRows, IsNextSubtree, MakesCopy, MakesRow, StopsWalk, is_directory};
 
 use crate::clusters::Clusters;
 use crate::parents::{check_absent, make_parents};
@@ -42,9 +42,9 @@ fn make<C: Clusters>(clusters: &mut C, path: &NPath, key: Option<KeyName>) -> Re
     ensures err { OnErr result
         (KeepsBoth (C.state clusters.old) (C.state clusters.new) ⊎
         ((is_some key ≡ true) ×
-        MakesDirectory path.now (C.state clusters.old) (C.state clusters.new))) }
+        MakesCopyDirectory path.now (C.state clusters.old) (C.state clusters.new))) }
     ensures ready { OnOk result (C.ready clusters.new) }
-    ensures steps { Steps C.follows clusters.old clusters.new }
+    ensures steps { ChainOf C.follows clusters.old clusters.new }
     ensures ends { IfErr result (CopyEnds C.state C.follows C.store_fails C.vault_fails
         C.refuses clusters.old clusters.new) }
 {
@@ -68,9 +68,9 @@ fn make_row<C: Clusters>(clusters: &mut C, row: Row, path: &NPath) -> Result<boo
     ensures err { OnErr result
         (KeepsRows (C.state clusters.old) (C.state clusters.new) ⊎
         ((is_marked row ≡ true) ×
-        MakesDirectory path.now (C.state clusters.old) (C.state clusters.new))) }
+        MakesCopyDirectory path.now (C.state clusters.old) (C.state clusters.new))) }
     ensures ready { OnOk result (C.ready clusters.new) }
-    ensures steps { Steps C.follows clusters.old clusters.new }
+    ensures steps { ChainOf C.follows clusters.old clusters.new }
     ensures ends { IfErr result (CopyEnds C.state C.follows C.store_fails C.vault_fails
         C.refuses clusters.old clusters.new) }
 {
@@ -95,15 +95,15 @@ fn copy_row<C: Clusters>(
     to: &NPath,
 ) -> Result<bool, FsEnd>
     requires ready { C.ready clusters.old }
-    requires next { IsNext from.now to.now (C.state clusters.old) }
+    requires next { IsNextSubtree from.now to.now (C.state clusters.old) }
     ensures ok { IfOk result
         (λ directory. CopiesRow from.now to.now directory (C.state clusters.old)
         (C.state clusters.new)) }
     ensures err { OnErr result
-        (Stops to.now (below (C.state clusters.old).source.rows from.now) (C.state clusters.old)
+        (StopsWalk to.now (below (C.state clusters.old).source.rows from.now) (C.state clusters.old)
         (C.state clusters.new)) }
     ensures ready { OnOk result (C.ready clusters.new) }
-    ensures steps { Steps C.follows clusters.old clusters.new }
+    ensures steps { ChainOf C.follows clusters.old clusters.new }
     ensures ends { IfErr result (CopyEnds C.state C.follows C.store_fails C.vault_fails
         (StepRefuses C.state C.refuses (IsTooLong to.now)) clusters.old clusters.new) }
 {
@@ -149,17 +149,17 @@ fn copy_block<C: Clusters>(
     counts: &mut Copied,
 ) -> Result<(), FsEnd>
     requires ready { C.ready clusters.old }
-    requires next { IsNext from.now to.now (C.state clusters.old) }
+    requires next { IsNextSubtree from.now to.now (C.state clusters.old) }
     ensures adds { OnOk result
-        (Adds to.now (below (C.state clusters.old).source.rows from.now) (C.state clusters.old)
+        (AddsCopies to.now (below (C.state clusters.old).source.rows from.now) (C.state clusters.old)
         (C.state clusters.new)) }
     ensures counts { OnOk result
-        (Counts (below (C.state clusters.old).source.rows from.now) counts.old counts.new) }
+        (CountsRows (below (C.state clusters.old).source.rows from.now) counts.old counts.new) }
     ensures err { OnErr result
-        (Stops to.now (below (C.state clusters.old).source.rows from.now) (C.state clusters.old)
+        (StopsWalk to.now (below (C.state clusters.old).source.rows from.now) (C.state clusters.old)
         (C.state clusters.new)) }
     ensures ready { OnOk result (C.ready clusters.new) }
-    ensures steps { Steps C.follows clusters.old clusters.new }
+    ensures steps { ChainOf C.follows clusters.old clusters.new }
     ensures ends { IfErr result (CopyEnds C.state C.follows C.store_fails C.vault_fails
         (StepRefuses C.state C.refuses (IsTooLong to.now)) clusters.old clusters.new) }
 {
@@ -240,7 +240,7 @@ pub fn copy_rows<C: Clusters>(alloc: Global, clusters: &mut C, to: &NPath) -> Re
     ensures part { OnErr result
         (StopsEarly to.now (C.state clusters.old) (C.state clusters.new)) }
     ensures ready { OnOk result (C.ready clusters.new) }
-    ensures steps { Steps C.follows clusters.old clusters.new }
+    ensures steps { ChainOf C.follows clusters.old clusters.new }
     ensures ends { IfErr result (WholeEnds C.state C.follows C.store_fails C.vault_fails
         C.refuses to.now clusters.old clusters.new) }
 {

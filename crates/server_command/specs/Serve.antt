@@ -17,7 +17,7 @@ use Rattle.server_run.specs.declared.run.RunEnd.{RunEnd}
 use Rattle.server_run.specs.declared.run.RunEnd.TheVariants as run_end
 use Rattle.command_io.specs.declared.props.PropsFault.{PropsFault}
 use Rattle.command_io.specs.declared.ends.ReplayEnd.TheVariants as replay_end
-use Rattle.command_io.specs.Ends.{Reports, Shows, ended_by, ended_by_props}
+use Rattle.command_io.specs.Ends.{Reports, ShowsWith, ended_by, ended_by_props}
 use Rattle.command_io.specs.Properties.{HasPropsFault, ReadsProperties}
 
 -- the generator that has the next eight words as its seed
@@ -36,7 +36,7 @@ generated g k = word_at 10 g.key g.stream ((g.word_pos + k) % 2 ^ 68)
 abbrev pub ReportsRun : RunEnd → Option (List ℕ) → Option (List ℕ) → ℕ → Type 0
 ReportsRun run_end.Served written now status = (status ≡ 0) × (now ≡ written)
 ReportsRun run_end.Closed written now status = (status ≡ 0) × (now ≡ written)
-ReportsRun run_end.DoorFault written now status = Shows (codes "door fault\n") 9 written now status
+ReportsRun run_end.DoorFault written now status = ShowsWith (codes "door fault\n") 9 written now status
 ReportsRun run_end.StoreFault written now status = Reports replay_end.StoreFault written now status
 ReportsRun run_end.NoMemory written now status = Reports replay_end.NoMemory written now status
 ReportsRun (run_end.NotOpened file fault) written now status = Reports (ended_by file fault) written now status

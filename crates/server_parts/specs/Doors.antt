@@ -3,7 +3,7 @@ use Rattle.std.specs.Prelude.{ℕ, ◌+◌, Bool, true, List, [], ◌∷◌, ◌
 use Rattle.hk_base.specs.declared.ended.Ended.{Ended}
 
 -- a connection as it was left: both ends as they were then, and how it ended
-pub record Left (I O : Type 0) : Type 0 where
+pub record LeftConnection (I O : Type 0) : Type 0 where
   pub input : I
   pub out : O
   pub ended : Ended
@@ -18,7 +18,7 @@ pub record DoorState (I O : Type 0) : Type 0 where
   -- both ends of each connection as they were accepted, in that order, if the door promises them
   pub came : Option (List (I × O))
   -- the connections in the order in which they were left, if the door promises them
-  pub gone : Option (List (Left I O))
+  pub gone : Option (List (LeftConnection I O))
   -- whether an accept has answered that the door takes no more connections
   pub closed : Bool
 
@@ -33,7 +33,7 @@ with_port d port = record d { port = Some port }
 abbrev pub with_accepted : {I O : Type 0} → DoorState I O → I × O → DoorState I O
 with_accepted d ends = record d { accepted = d.accepted + 1; came = with_more d.came (ends ∷ []) }
 
-abbrev pub with_left : {I O : Type 0} → DoorState I O → Left I O → DoorState I O
+abbrev pub with_left : {I O : Type 0} → DoorState I O → LeftConnection I O → DoorState I O
 with_left d one = record d { left = d.left + 1; gone = with_more d.gone (one ∷ []) }
 
 abbrev pub with_closed : {I O : Type 0} → DoorState I O → DoorState I O

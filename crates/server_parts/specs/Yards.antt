@@ -28,7 +28,7 @@ pub record Taken (file : ℕ) (old new : YardState) (own : DiskState) : Type 0 w
   pub own_faults : own.faults ≡ 0
 
 -- The disk of a file was given back; the other one is unchanged.
-pub record Given (file : ℕ) (old new : YardState) (own : DiskState) : Type 0 where
+pub record GivenBack (file : ℕ) (old new : YardState) (own : DiskState) : Type 0 where
   pub tells : new.tells ≡ (old.tells && own.tells)
   pub back : IsTrue (new.lies file)
   pub other_lies : new.lies (1 - file) ≡ old.lies (1 - file)

@@ -2,7 +2,7 @@
 ghost use Rattle.std.specs.Prelude.{◌≡◌, ◌<◌, ◌↔◌, ℕ, IfOk, OnErr, IsTrue, IsFalse};
 ghost use Rattle.hk_base.specs.Disk.{DiskState};
 ghost use Rattle.hk_base.specs.Faults.{HasCause};
-ghost use Rattle.server_parts.specs.Yards.{YardState, Taken, Given, OnlyFaults};
+ghost use Rattle.server_parts.specs.Yards.{YardState, Taken, GivenBack, OnlyFaults};
 
 use hk_base::{Disk, Failed};
 
@@ -32,6 +32,6 @@ pub trait Yard {
     fn give(&mut self, file: u8, own: Self::Own) -> bool
         requires file { file < 2 }
         requires away { IsFalse ((state self.old).lies file) }
-        ensures given { Given file (state self.old) (state self.new) (Self.Own.state own) }
+        ensures given { GivenBack file (state self.old) (state self.new) (Self.Own.state own) }
         ensures fault { IsTrue result ↔ 0 < (Self.Own.state own).faults };
 }

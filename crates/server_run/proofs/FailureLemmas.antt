@@ -2,8 +2,8 @@
 use Rattle.std.proofs.Common.{◌≡◌, inl, inr, ◌⊎◌, ⊎_elim, ◌<◌, ◌≤◌, ◌-◌, ℕ, zero, suc, Bool, true, false, IsTrue, List, [], ◌∷◌, ◌++◌, Some, None, Option, refl, sym, ap, ◌∙◌, subst, arith}
 use Rattle.std.specs.Prelude.{◌&&◌}
 use Rattle.hk_base.specs.Disk.{DiskState, Image, IsImage, Only, Tells}
-use Rattle.frame_log.specs.Format.{At_rest, Found, Half_open, IsRecovered, Log_as_found, NoLog, No_log, Reading, log_of}
-use Rattle.frame_log.specs.Opens.{Opens}
+use Rattle.frame_log.specs.Format.{At_rest, Found, Half_open, IsRecovered, LogReading, Log_as_found, NoLog, No_log, log_of}
+use Rattle.frame_log.specs.Opens.{OpensLog}
 use Rattle.frame_log.specs.declared.fault.StartFault.{StartFault}
 use Rattle.frame_log.specs.declared.fault.StartFault.TheVariants as start
 use Rattle.key_rows.specs.Table.{after}
@@ -14,8 +14,8 @@ use Rattle.kms_core.specs.Service.{Starts as KeysStart}
 use Rattle.kms_core.specs.State.{Running, ServiceState}
 use Rattle.kms_core.specs.Users.{RunningKms, running}
 use Rattle.name_store.specs.Store as names
-use Rattle.server_parts.specs.Yards.{Given, OnlyFaults, Taken, YardState}
-use Rattle.server_run.specs.Opening.{HasCause, HasNewOpening, KeysNotOpened, KeysOpened, NamesNotOpened, NoneOpened, NotOpened}
+use Rattle.server_parts.specs.Yards.{GivenBack, OnlyFaults, Taken, YardState}
+use Rattle.server_run.specs.Opening.{HasNewOpening, HasStartCause, KeysNotOpened, KeysOpened, NamesNotOpened, NoneOpened, NotOpened}
 
 -- the laws of a disk at a moment
 pub record Moment (d : DiskState) : Type 0 where
@@ -27,7 +27,7 @@ pub record Moment (d : DiskState) : Type 0 where
 as_it_is : (file : ℕ) (bytes : List ℕ) → IsRecovered file bytes bytes
 as_it_is file bytes = by_reading (log_of file bytes) refl
   where
-    by_reading : (reading : Reading) → log_of file bytes ≡ reading → IsRecovered file bytes bytes
+    by_reading : (reading : LogReading) → log_of file bytes ≡ reading → IsRecovered file bytes bytes
     by_reading (NoLog at) is = No_log at is refl
     by_reading (Found payloads zero) is = Log_as_found (At_rest payloads zero is is)
     by_reading (Found payloads (suc gate)) is = Log_as_found (Half_open payloads gate gate is is refl)
@@ -45,7 +45,7 @@ both_tell false b c first second = first
 
 module _ (file : ℕ) (Damage : List ℕ → ℕ → Type 0) (Used : List ℕ → Type 0) (Left : List ℕ → List ℕ → Type 0) (same : (bytes : List ℕ) → Left bytes bytes) (file_in : file < 2) where
   -- a file of which a crash leaves what it reads as reads, after a start, as the start leaves it
-  left_by : (old new : DiskState) (fails : StartFault → Type 0) → Moment old → Moment new → Only (old.reads file) (old.leaves file) → Opens file Damage Used Left old new fails → Tells old
+  left_by : (old new : DiskState) (fails : StartFault → Type 0) → Moment old → Moment new → Only (old.reads file) (old.leaves file) → OpensLog file Damage Used Left old new fails → Tells old
       → Left (old.reads file) (new.reads file)
   left_by old new fails before now only o telling = ⊎_elim (λ failed. unwritten (failed.1.before old.moment new.reads (omega arith) past)) (λ since. since.only new.reads (now.counts since.moment new.reads since.reached here)) (o.since_sync telling)
     where
@@ -62,8 +62,8 @@ module _ (file : ℕ) (Damage : List ℕ → ℕ → Type 0) (Used : List ℕ �
       unwritten (inl left) = as_before (before.only new.reads left file file_in)
       unwritten (inr left) = as_before left.0
 
-  cause_of : (old mid new : YardState) (first last : DiskState) (fails : StartFault → Type 0) (fault : StartFault) → Taken file old mid first → Opens file Damage Used Left first last fails → fails fault → Given file mid new last
-      → HasCause (Damage (old.reads file)) (Used (old.reads file)) old new fault
+  cause_of : (old mid new : YardState) (first last : DiskState) (fails : StartFault → Type 0) (fault : StartFault) → Taken file old mid first → OpensLog file Damage Used Left first last fails → fails fault → GivenBack file mid new last
+      → HasStartCause (Damage (old.reads file)) (Used (old.reads file)) old new fault
   cause_of old mid new first last fails (start.Damaged at) taken o is given = λ telling. subst (λ (bytes : List ℕ). Damage bytes at) (taken.own_reads telling) (o.why.damaged at is (taken.own_tells ∙ telling))
   cause_of old mid new first last fails start.Spent taken o is given = λ telling. subst Used (taken.own_reads telling) (o.why.spent is (taken.own_tells ∙ telling))
   cause_of old mid new first last fails start.StoreFault taken o is given =
@@ -72,8 +72,8 @@ module _ (file : ℕ) (Damage : List ℕ → ℕ → Type 0) (Used : List ℕ �
   cause_of old mid new first last fails start.NoMemory taken o is given = tt
 
   -- the disk was taken, a start on it failed, and it was given back
-  pub start_failed : (old mid new : YardState) (first last : DiskState) (fails : StartFault → Type 0) (fault : StartFault) → Moment first → Moment last → Taken file old mid first → Opens file Damage Used Left first last fails → fails fault
-      → Given file mid new last → NotOpened file (1 - file) Damage Used Left old new fault
+  pub start_failed : (old mid new : YardState) (first last : DiskState) (fails : StartFault → Type 0) (fault : StartFault) → Moment first → Moment last → Taken file old mid first → OpensLog file Damage Used Left first last fails → fails fault
+      → GivenBack file mid new last → NotOpened file (1 - file) Damage Used Left old new fault
   start_failed old mid new first last fails fault before now taken o is given = record {
     tells = tells_on;
     back = given.back;
@@ -91,7 +91,7 @@ module _ (file : ℕ) (Damage : List ℕ → ℕ → Type 0) (Used : List ℕ �
       tells_on = given.tells ∙ both_tell mid.tells last.tells old.tells taken.tells (o.run.tells ∙ taken.own_tells)
 
   -- the disk couldn't be taken
-  pub take_failed : (old new : YardState) → IsTrue (old.lies file) → OnlyFaults old new → old.faults ≤ new.faults → HasCause (Damage (old.reads file)) (Used (old.reads file)) old new start.StoreFault
+  pub take_failed : (old new : YardState) → IsTrue (old.lies file) → OnlyFaults old new → old.faults ≤ new.faults → HasStartCause (Damage (old.reads file)) (Used (old.reads file)) old new start.StoreFault
       → NotOpened file (1 - file) Damage Used Left old new start.StoreFault
   take_failed old new lies kept later cause = record {
     tells = kept.tells;
@@ -106,17 +106,17 @@ module _ (file : ℕ) (Damage : List ℕ → ℕ → Type 0) (Used : List ℕ �
 -- both logs, each on its file
 
 pub keys_start_failed : (old mid new : YardState) (first last : DiskState) (fails : StartFault → Type 0) (fault : StartFault) → Moment first → Moment last → Taken 0 old mid first → keys.OpensKeys first last fails → fails fault
-    → Given 0 mid new last → KeysNotOpened old new fault
+    → GivenBack 0 mid new last → KeysNotOpened old new fault
 keys_start_failed = start_failed 0 keys.IsDamagedAt keys.SpentKeys keys.IsLeftByStart keys_as_they_are (omega arith)
 
 pub names_start_failed : (old mid new : YardState) (first last : DiskState) (fails : StartFault → Type 0) (fault : StartFault) → Moment first → Moment last → Taken 1 old mid first → names.OpensNames first last fails → fails fault
-    → Given 1 mid new last → NamesNotOpened old new fault
+    → GivenBack 1 mid new last → NamesNotOpened old new fault
 names_start_failed = start_failed 1 names.IsDamagedAt names.SpentNames names.IsLeftByStart names_as_they_are (omega arith)
 
-pub keys_take_failed : (old new : YardState) → IsTrue (old.lies 0) → OnlyFaults old new → old.faults ≤ new.faults → HasCause (keys.IsDamagedAt (old.reads 0)) (keys.SpentKeys (old.reads 0)) old new start.StoreFault → KeysNotOpened old new start.StoreFault
+pub keys_take_failed : (old new : YardState) → IsTrue (old.lies 0) → OnlyFaults old new → old.faults ≤ new.faults → HasStartCause (keys.IsDamagedAt (old.reads 0)) (keys.SpentKeys (old.reads 0)) old new start.StoreFault → KeysNotOpened old new start.StoreFault
 keys_take_failed = take_failed 0 keys.IsDamagedAt keys.SpentKeys keys.IsLeftByStart keys_as_they_are (omega arith)
 
-pub names_take_failed : (old new : YardState) → IsTrue (old.lies 1) → OnlyFaults old new → old.faults ≤ new.faults → HasCause (names.IsDamagedAt (old.reads 1)) (names.SpentNames (old.reads 1)) old new start.StoreFault → NamesNotOpened old new start.StoreFault
+pub names_take_failed : (old new : YardState) → IsTrue (old.lies 1) → OnlyFaults old new → old.faults ≤ new.faults → HasStartCause (names.IsDamagedAt (old.reads 1)) (names.SpentNames (old.reads 1)) old new start.StoreFault → NamesNotOpened old new start.StoreFault
 names_take_failed = take_failed 1 names.IsDamagedAt names.SpentNames names.IsLeftByStart names_as_they_are (omega arith)
 
 -- the key log failed, and the edit log wasn't touched
@@ -152,7 +152,7 @@ new_opening old new r of_file s telling =
     }
 
 -- the key log was opened, the edit log failed, and the disk of the key log was given back
-pub names_failed : {D : Type 0} (state : D → DiskState) (old mid then new : YardState) (disk : D) (kms : RunningKms) (fault : StartFault) → KeysOpened state old mid disk kms → NamesNotOpened mid then fault → Given 0 then new (state disk)
+pub names_failed : {D : Type 0} (state : D → DiskState) (old mid then new : YardState) (disk : D) (kms : RunningKms) (fault : StartFault) → KeysOpened state old mid disk kms → NamesNotOpened mid then fault → GivenBack 0 then new (state disk)
     → NoneOpened old new 1 fault
 names_failed state old mid then new disk kms fault opened failed given = record {
   tells = tells_on;
@@ -179,10 +179,10 @@ names_failed state old mid then new disk kms fault opened failed given = record 
         subst (λ (bytes : List ℕ). names.IsLeftByStart (old.reads 1) bytes) (sym (given.other_reads (tells_on ∙ telling)))
         (subst (λ (bytes : List ℕ). names.IsLeftByStart bytes (then.reads 1)) (opened.taken.other_reads telling) (failed.reads (opened.taken.tells ∙ telling)))
 
-    cause : HasCause (names.IsDamagedAt (old.reads 1)) (names.SpentNames (old.reads 1)) old new fault
+    cause : HasStartCause (names.IsDamagedAt (old.reads 1)) (names.SpentNames (old.reads 1)) old new fault
     cause = cause_since fault failed.cause
       where
-        cause_since : (fault : StartFault) → HasCause (names.IsDamagedAt (mid.reads 1)) (names.SpentNames (mid.reads 1)) mid then fault → HasCause (names.IsDamagedAt (old.reads 1)) (names.SpentNames (old.reads 1)) old new fault
+        cause_since : (fault : StartFault) → HasStartCause (names.IsDamagedAt (mid.reads 1)) (names.SpentNames (mid.reads 1)) mid then fault → HasStartCause (names.IsDamagedAt (old.reads 1)) (names.SpentNames (old.reads 1)) old new fault
         cause_since (start.Damaged at) damaged = λ telling. subst (λ (bytes : List ℕ). names.IsDamagedAt bytes at) (opened.taken.other_reads telling) (damaged (opened.taken.tells ∙ telling))
         cause_since start.Spent spent = λ telling. subst names.SpentNames (opened.taken.other_reads telling) (spent (opened.taken.tells ∙ telling))
         cause_since start.StoreFault rose = omega (arith, rose, opened.taken.faults, given.later)

@@ -17,7 +17,7 @@ use Rattle.name_history.specs.Steps.{NameSteps}
 use Rattle.name_history.specs.Views.{NameView, NamesRunOn}
 use Rattle.prop_text.specs.declared.props.Props.{Props}
 use Rattle.server_parts.specs.Doors.{DoorState}
-use Rattle.server_parts.specs.Yards.{Given, YardState}
+use Rattle.server_parts.specs.Yards.{GivenBack, YardState}
 use Rattle.cell_server.specs.Connections.{Serving}
 use Rattle.cell_server.specs.Serves.{ServesAll}
 use Rattle.cell_server.specs.declared.ends.ServeEnd.{ServeEnd}
@@ -25,7 +25,7 @@ use Rattle.cell_server.specs.declared.ends.ServeEnd.TheVariants as serve_end
 use Rattle.server_run.specs.Opening.{BothOpened}
 use Rattle.server_run.specs.declared.run.RunEnd.{RunEnd}
 use Rattle.server_run.specs.declared.run.RunEnd.TheVariants as run_end
-use Rattle.server_run.specs.Runs.{BeginsWith, DisksFailed, EndsAs, RanServer, RanTo, end_of}
+use Rattle.server_run.specs.Runs.{BeginsServing, DisksFailed, EndsAs, RanServer, RanTo, end_of}
 
 -- a fault of the door is one of the serving
 pub faults_so : (end : ServeEnd) (failed : Bool) (rose : Type 0) → (end ≡ serve_end.DoorFault → rose) → end_of end failed ≡ run_end.DoorFault → rose
@@ -56,7 +56,7 @@ module _ {D W I O : Type 0} (state : D → DiskState) (to_come : W → ℕ → �
   -- the cells were closed after a run in them
   pub ran : (port conns : ℕ) (door door' : DoorState I O) (end : ServeEnd) (k : KmsView D W) (n : NameView D W) (keys : KmsKnown D W) (names : NameKnown D W) (keys' : KmsKnown D W) (names' : NameKnown D W)
       (kms : RunningKms) (keys_disk : D) (service : RunningNames) (names_disk : D)
-      → BeginsWith k keys n → (names.start ≡ Some n) × (names.seen ≡ []) × (names.ended ≡ [])
+      → BeginsServing k keys n → (names.start ≡ Some n) × (names.seen ≡ []) × (names.ended ≡ [])
       → ServesAll serves first second state to_come door keys names port conns end door' keys' names'
       → (last_n : NameView D W) × (met : KmsKnown D W) × (last_k : KmsView D W)
       × Closes (NameSteps state to_come) NameAllows names' last_n × Meets keys' last_n.keys met × Closes (KmsSteps state to_come) KmsAllows met last_k
@@ -93,7 +93,7 @@ module _ {D W I O : Type 0} (state : D → DiskState) (to_come : W → ℕ → �
   pub ran_server : (props : Props) (words : W) (port conns : ℕ) (old begun new : YardState) (door door' : DoorState I O) (end : ServeEnd) (failed : Bool) (k : KmsView D W) (service : RunningNames) (disk keys_disk names_disk keys_back names_back : D)
       → BothOpened state props old begun words k service disk
       → (n : NameView D W) × (n.names ≡ service) × (n.disk ≡ disk) × RanTo state to_come serves first second port conns door door' end k n keys_disk names_disk
-      → keys_back ≡ keys_disk → names_back ≡ names_disk → (mid : YardState) × Given 0 begun mid (state keys_back) × Given 1 mid new (state names_back)
+      → keys_back ≡ keys_disk → names_back ≡ names_disk → (mid : YardState) × GivenBack 0 begun mid (state keys_back) × GivenBack 1 mid new (state names_back)
       → DisksFailed failed (state keys_back).faults (state names_back).faults
       → RanServer state to_come serves first second props words port conns old new door door' end failed
   ran_server props words port conns old begun new door door' end failed k service disk keys_disk names_disk keys_back names_back opened (n, service_is, disk_is, to) keys_same names_same (mid, keys_given, names_given) disks = record {
@@ -105,8 +105,8 @@ module _ {D W I O : Type 0} (state : D → DiskState) (to_come : W → ℕ → �
     last_n = to.last_n;
     ran = to.ran;
     mid = mid;
-    keys_given = subst (λ d. Given 0 begun mid (state d)) (keys_same ∙ to.keys_disk_is) keys_given;
-    names_given = subst (λ d. Given 1 mid new (state d)) (names_same ∙ to.names_disk_is) names_given;
+    keys_given = subst (λ d. GivenBack 0 begun mid (state d)) (keys_same ∙ to.keys_disk_is) keys_given;
+    names_given = subst (λ d. GivenBack 1 mid new (state d)) (names_same ∙ to.names_disk_is) names_given;
     disks = subst (λ d. DisksFailed failed (state to.last_k.disk).faults (state d).faults) (names_same ∙ to.names_disk_is)
         (subst (λ d. DisksFailed failed (state d).faults (state names_back).faults) (keys_same ∙ to.keys_disk_is) disks);
   }

@@ -39,11 +39,11 @@ pub record NamesOpened {D : Type 0} (state : D → DiskState) (batch : ℕ) (old
   pub starts : NamesStart batch (state first) (state disk) names
 
 -- Why a log wasn't opened. `damaged` and `spent` say when the bytes of its file are.
-abbrev pub HasCause : (damaged : ℕ → Type 0) → (spent : Type 0) → YardState → YardState → StartFault → Type 0
-HasCause damaged spent old new (start.Damaged at) = IsTrue old.tells → damaged at
-HasCause damaged spent old new start.Spent = IsTrue old.tells → spent
-HasCause damaged spent old new start.StoreFault = Rose old.faults new.faults
-HasCause damaged spent old new start.NoMemory = ⊤
+abbrev pub HasStartCause : (damaged : ℕ → Type 0) → (spent : Type 0) → YardState → YardState → StartFault → Type 0
+HasStartCause damaged spent old new (start.Damaged at) = IsTrue old.tells → damaged at
+HasStartCause damaged spent old new start.Spent = IsTrue old.tells → spent
+HasStartCause damaged spent old new start.StoreFault = Rose old.faults new.faults
+HasStartCause damaged spent old new start.NoMemory = ⊤
 
 -- A log wasn't opened, and its disk lies in the yard. If the yard tells, the file reads as `left` says of what was found: as before, or as a
 -- start leaves it. The other disk is where it was, and its file reads as before.
@@ -52,7 +52,7 @@ pub record NotOpened (file other : ℕ) (damaged : List ℕ → ℕ → Type 0) 
   pub back : IsTrue (new.lies file)
   pub other_lies : new.lies other ≡ old.lies other
   pub later : old.faults ≤ new.faults
-  pub cause : HasCause (damaged (old.reads file)) (spent (old.reads file)) old new fault
+  pub cause : HasStartCause (damaged (old.reads file)) (spent (old.reads file)) old new fault
   pub reads : IsTrue old.tells → left (old.reads file) (new.reads file)
   pub other_reads : IsTrue old.tells → new.reads other ≡ old.reads other
 
@@ -72,7 +72,7 @@ pub record HasNewOpening (found bytes : List ℕ) : Type 0 where
 -- The key log was opened, and then the edit log couldn't be. If the yard tells, the key log has its new opening and is otherwise as it was
 -- found, and the edit log is what a start leaves of it.
 pub record OnlyKeysOpened (old new : YardState) (fault : StartFault) : Type 0 where
-  pub cause : HasCause (names.IsDamagedAt (old.reads 1)) (names.SpentNames (old.reads 1)) old new fault
+  pub cause : HasStartCause (names.IsDamagedAt (old.reads 1)) (names.SpentNames (old.reads 1)) old new fault
   pub keys_read : IsTrue old.tells → HasNewOpening (old.reads 0) (new.reads 0)
   pub names_read : IsTrue old.tells → names.IsLeftByStart (old.reads 1) (new.reads 1)
 

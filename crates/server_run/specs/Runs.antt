@@ -16,7 +16,7 @@ use Rattle.name_history.specs.Steps.{NameSteps}
 use Rattle.name_history.specs.Views.{NameView, NamesRunOn}
 use Rattle.hk_shared.specs.Views.{OpeningView}
 use Rattle.server_parts.specs.Doors.{DoorState}
-use Rattle.server_parts.specs.Yards.{Given, YardState}
+use Rattle.server_parts.specs.Yards.{GivenBack, YardState}
 use Rattle.cell_server.specs.Connections.{Serving}
 use Rattle.cell_server.specs.Serves.{ServesAll}
 use Rattle.cell_server.specs.declared.ends.ServeEnd.{ServeEnd}
@@ -43,7 +43,7 @@ DisksFailed false keys names = (keys ≡ 0) × (names ≡ 0)
 
 -- A pass of the keys and the pass that the namesystem keeps have seen nothing yet of a history that begins with this state of the keys. No
 -- batch has a front.
-pub record BeginsWith {D W : Type 0} (k : KmsView D W) (keys : KmsKnown D W) (n : NameView D W) : Type 0 where
+pub record BeginsServing {D W : Type 0} (k : KmsView D W) (keys : KmsKnown D W) (n : NameView D W) : Type 0 where
   pub keys_begin : (keys.start ≡ Some k) × (keys.seen ≡ []) × (keys.ended ≡ [])
   pub kept_begins : (n.keys.start ≡ Some k) × (n.keys.seen ≡ []) × (n.keys.ended ≡ [])
   pub no_fronts : n.fronts ≡ []
@@ -59,7 +59,7 @@ module _ {D W I O : Type 0} (state : D → DiskState) (to_come : W → ℕ → �
     pub names : NameKnown D W
     pub keys' : KmsKnown D W
     pub names' : NameKnown D W
-    pub begins : BeginsWith k keys n
+    pub begins : BeginsServing k keys n
     pub names_begin : (names.start ≡ Some n) × (names.seen ≡ []) × (names.ended ≡ [])
     pub served : ServesAll serves first second state to_come door keys names port conns end door' keys' names'
     pub names_closed : Closes (NameSteps state to_come) NameAllows names' last_n
@@ -94,8 +94,8 @@ module _ {D W I O : Type 0} (state : D → DiskState) (to_come : W → ℕ → �
     pub last_n : NameView D W
     pub ran : RanInCells port conns door door' end k n last_k last_n
     pub mid : YardState
-    pub keys_given : Given 0 begun mid (state last_k.disk)
-    pub names_given : Given 1 mid new (state last_n.disk)
+    pub keys_given : GivenBack 0 begun mid (state last_k.disk)
+    pub names_given : GivenBack 1 mid new (state last_n.disk)
     pub disks : DisksFailed failed (state last_k.disk).faults (state last_n.disk).faults
 
   -- how a run of the server ends
@@ -111,7 +111,7 @@ module _ {D W I O : Type 0} (state : D → DiskState) (to_come : W → ℕ → �
 
   -- The same from any state of the keys of which the passes have seen nothing yet.
   abbrev pub RanFromCells : ℕ → ℕ → DoorState I O → DoorState I O → ServeEnd → KmsKnown D W → NameView D W → D → D → Type 0
-  RanFromCells port conns door door' end keys n keys_disk names_disk = (k : KmsView D W) → BeginsWith k keys n → RanTo port conns door door' end k n keys_disk names_disk
+  RanFromCells port conns door door' end keys n keys_disk names_disk = (k : KmsView D W) → BeginsServing k keys n → RanTo port conns door door' end k n keys_disk names_disk
 
   -- The same from both services as they were opened.
   abbrev pub RanFromOpening : ℕ → ℕ → DoorState I O → DoorState I O → ServeEnd → OpeningView D W → D → D → Type 0

@@ -2,7 +2,7 @@
 ghost use Rattle.std.specs.Prelude.{◌≡◌, ◌⊎◌, IfErr, IfOk, IsFalse, IsTrue};
 ghost use Rattle.hk_base.specs.Faults.{Rose};
 ghost use Rattle.cell_server.specs.Connections.{serving_by};
-ghost use Rattle.server_parts.specs.Yards.{Given, YardState};
+ghost use Rattle.server_parts.specs.Yards.{GivenBack, YardState};
 ghost use Rattle.server_run.specs.Opening.{BothOpened};
 ghost use Rattle.server_run.specs.Runs.{DisksFailed, EndsAs, RanFromCells, RanFromOpening, end_of};
 
@@ -146,8 +146,8 @@ fn serve_opened<
 fn give_both<Y: Yard>(yard: &mut Y, keys: Y::Own, names: Y::Own) -> bool
     requires keys_away { IsFalse ((Y.state yard.old).lies 0) }
     requires names_away { IsFalse ((Y.state yard.old).lies 1) }
-    ensures given { (mid : YardState) × Given 0 (Y.state yard.old) mid (Y.Own.state keys) ×
-        Given 1 mid (Y.state yard.new) (Y.Own.state names) }
+    ensures given { (mid : YardState) × GivenBack 0 (Y.state yard.old) mid (Y.Own.state keys) ×
+        GivenBack 1 mid (Y.state yard.new) (Y.Own.state names) }
     ensures failed { DisksFailed result (Y.Own.state keys).faults (Y.Own.state names).faults }
 {
     let keys_failed = yard.give(KEYS, keys);

@@ -4,7 +4,7 @@ ghost use Rattle.kms_calls.specs.declared.calls.KmsCall.TheVariants as key_call;
 ghost use Rattle.kms_cell.specs.declared.acts.KmsAct.TheVariants as key_act;
 ghost use Rattle.name_calls.specs.declared.calls.Want.TheVariants as want;
 ghost use Rattle.name_core.specs.Calls.{superuser};
-ghost use Rattle.name_history.specs.Asked.{Answers, HasNote};
+ghost use Rattle.name_history.specs.Asked.{AnswersWant, HasNote};
 ghost use Rattle.name_history.specs.Served.{Got, IfWanted, act_wanted};
 
 use crate::callers::{Caller, text};
@@ -24,7 +24,7 @@ fn key_of(edek: &Edek) -> KeyName
 
 /// Checks that the reply has one encrypted key, of the key with this name.
 fn check_generated(rt: &impl Abort, reply: &KmsReply, name: KeyName)
-    ensures { Answers (want.Generate name) (Some reply.now) }
+    ensures { AnswersWant (want.Generate name) (Some reply.now) }
 {
     match reply {
         KmsReply::Ready(edeks) => {
@@ -39,7 +39,7 @@ fn check_generated(rt: &impl Abort, reply: &KmsReply, name: KeyName)
 
 /// Checks that the reply has the metadata of the key with this name.
 fn check_metadata(rt: &impl Abort, reply: &KmsReply, name: KeyName)
-    ensures { Answers (want.Metadata name) (Some reply.now) }
+    ensures { AnswersWant (want.Metadata name) (Some reply.now) }
 {
     match reply {
         KmsReply::Metadata(known) => assert!(rt; known.name == name),
@@ -71,7 +71,7 @@ fn call_wanted<S: Turns, R: Wait + Abort + AllocGlobal>(
     ensures got { IfWanted
         (λ q r. Got 0 q r (S.keys_seen keys.new).number (S.keys_seen keys.new).seen)
         (act_wanted wanted) (Some result) }
-    ensures answers { Answers wanted (Some result) }
+    ensures answers { AnswersWant wanted (Some result) }
 {
     match wanted {
         Want::Generate(name) => {

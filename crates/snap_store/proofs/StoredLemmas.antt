@@ -4,7 +4,7 @@ use Rattle.std.specs.Prelude.{Result, Ok, Err, OnErr, is_ok, slice_get}
 use Rattle.std.specs.List.{filter, insert, remove}
 use Rattle.std.specs.Option.{option_and_then, option_map, option_map_or}
 use Rattle.std.specs.Ordering.{is_lt}
-use Rattle.frozen_nodes.specs.Forest.{AllBelow, FrozenNode, KeepsNodes, rows_from}
+use Rattle.frozen_nodes.specs.Forest.{AreBelow, FrozenNode, KeepsNodes, rows_from}
 use Rattle.frozen_nodes.specs.Moves.{AllMoved}
 use Rattle.inode_tree.specs.Rows.{Entry}
 use Rattle.inode_tree.specs.Below.{at_or_below}
@@ -22,28 +22,28 @@ sure (Err e) new changed old room len h full lt = absurd (omega (arith, full, lt
 
 -- roots that are among the nodes
 
-pub below-at : (n : ℕ) (rs : List ℕ) (k d : ℕ) → AllBelow n rs → k < length rs → get_or rs k d < n
+pub below-at : (n : ℕ) (rs : List ℕ) (k d : ℕ) → AreBelow n rs → k < length rs → get_or rs k d < n
 below-at n [] k d b lt = absurd (omega arith)
 below-at n (r ∷ rs) zero d b lt = b.0
 below-at n (r ∷ rs) (suc k) d b lt = below-at n rs k d b.1 (omega arith)
 
-pub below-insert : (n : ℕ) (rs : List ℕ) (i r : ℕ) → r < n → AllBelow n rs → AllBelow n (insert rs i r)
+pub below-insert : (n : ℕ) (rs : List ℕ) (i r : ℕ) → r < n → AreBelow n rs → AreBelow n (insert rs i r)
 below-insert n [] zero r lt b = (lt, tt)
 below-insert n [] (suc i) r lt b = (lt, tt)
 below-insert n (x ∷ rs) zero r lt b = (lt, b)
 below-insert n (x ∷ rs) (suc i) r lt b = (b.0, below-insert n rs i r lt b.1)
 
-pub below-remove : (n : ℕ) (rs : List ℕ) (i : ℕ) → AllBelow n rs → AllBelow n (remove rs i)
+pub below-remove : (n : ℕ) (rs : List ℕ) (i : ℕ) → AreBelow n rs → AreBelow n (remove rs i)
 below-remove n [] zero b = tt
 below-remove n [] (suc i) b = tt
 below-remove n (x ∷ rs) zero b = b.1
 below-remove n (x ∷ rs) (suc i) b = (b.0, below-remove n rs i b.1)
 
-pub below-more : (n m : ℕ) (rs : List ℕ) → n ≤ m → AllBelow n rs → AllBelow m rs
+pub below-more : (n m : ℕ) (rs : List ℕ) → n ≤ m → AreBelow n rs → AreBelow m rs
 below-more n m [] le b = tt
 below-more n m (r ∷ rs) le b = (let lt = b.0 in omega arith, below-more n m rs le b.1)
 
-pub below-moved : (old new : List FrozenNode) (rs qs : List ℕ) → AllMoved old new rs qs → AllBelow (length new) qs
+pub below-moved : (old new : List FrozenNode) (rs qs : List ℕ) → AllMoved old new rs qs → AreBelow (length new) qs
 below-moved old new [] [] a = tt
 below-moved old new [] (q ∷ qs) a = absurd a
 below-moved old new (r ∷ rs) [] a = tt
@@ -57,7 +57,7 @@ moved-count old new (r ∷ rs) (q ∷ qs) a = ap suc (moved-count old new rs qs 
 
 -- snapshots stay as long as their roots keep their rows
 
-same-kept : (old new : List FrozenNode) (xs : List Snapshot) (rs : List ℕ) → KeepsNodes old new → AllBelow (length old) rs → snapshots_of new xs rs ≡ snapshots_of old xs rs
+same-kept : (old new : List FrozenNode) (xs : List Snapshot) (rs : List ℕ) → KeepsNodes old new → AreBelow (length old) rs → snapshots_of new xs rs ≡ snapshots_of old xs rs
 same-kept old new [] rs k b = refl
 same-kept old new (x ∷ xs) [] k b = refl
 same-kept old new (x ∷ xs) (r ∷ rs) k b = λ i. record x { rows = k.rows r b.0 i } ∷ same-kept old new xs rs k b.1 i
@@ -71,7 +71,7 @@ same-moved old new (x ∷ xs) (r ∷ rs) (q ∷ qs) a = λ i. record x { rows = 
 
 -- a snapshot that is put in has its own rows, and the others keep theirs
 pub put-taken : (old new : List FrozenNode) (xs ys : List Snapshot) (rs qs : List ℕ) (key : Snapshot) (dir : ℕ) (name : List ℕ) (root : ℕ) (rows : List Entry)
-    → ys ≡ xs → qs ≡ rs → key ≡ key_of dir name → rows_from new root ≡ rows → KeepsNodes old new → AllBelow (length old) rs
+    → ys ≡ xs → qs ≡ rs → key ≡ key_of dir name → rows_from new root ≡ rows → KeepsNodes old new → AreBelow (length old) rs
     → put_snapshot (record { dir = key.dir; name = key.name; rows = rows_from new root }) (snapshots_of new ys qs) ≡ put_snapshot (record { dir = dir; name = name; rows = rows }) (snapshots_of old xs rs)
 put-taken old new xs ys rs qs key dir name root rows e f g h keeps below =
     (λ i. put_snapshot (record { dir = (g i).dir; name = (g i).name; rows = h i }) (snapshots_of new (e i) (f i)))

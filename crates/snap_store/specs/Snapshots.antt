@@ -114,7 +114,7 @@ pub record IsRoomFor (room : RowRoom) (rows : List Entry) (dir : ℕ) : Type 0 w
   pub fits : IsSome (entry_of rows dir) → FitsCopies (nodes_for rows dir) room.nodes room.copies
 
 -- all memory for one more snapshot of the directory, under the name, is reserved
-pub record IsReady (room : SnapRoom) (rows : List Entry) (dir : ℕ) (name : List ℕ) : Type 0 where
+pub record IsSnapshotReady (room : SnapRoom) (rows : List Entry) (dir : ℕ) (name : List ℕ) : Type 0 where
   pub place : 0 < room.snapshots
   pub name_fits : room.name ≡ Some name
   pub rows_fit : IsRoomFor room.rows rows dir

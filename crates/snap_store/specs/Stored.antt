@@ -2,7 +2,7 @@
 use Rattle.std.specs.Prelude.{◌≡◌, ℕ, min, List, [], ◌∷◌, length, suc, Option, Some, None, if◌then◌else◌}
 use Rattle.std.specs.Option.{option_map}
 use Rattle.std.specs.Global.{Vec}
-use Rattle.frozen_nodes.specs.Forest.{AllBelow, FrozenNode, rows_from}
+use Rattle.frozen_nodes.specs.Forest.{AreBelow, FrozenNode, rows_from}
 use Rattle.frozen_nodes.specs.Packed.{ForestRoom, spare}
 use Rattle.snap_store.specs.Ordered.{IsRisingBy}
 use Rattle.snap_store.specs.declared.reserved.Reserved.{Reserved}
@@ -32,7 +32,7 @@ index_named (s ∷ ss) dir name = if is_named dir name s then Some 0 else option
 pub record AreRooted (nodes : List FrozenNode) (keys : List Snapshot) (roots : List ℕ) : Type 0 where
   pub rising : IsRisingBy snapshot_cmp keys
   pub count : length roots ≡ length keys
-  pub below : AllBelow (length nodes) roots
+  pub below : AreBelow (length nodes) roots
 
 -- what is always true of the snapshots in memory
 pub record IsStored (nodes : List FrozenNode) (allowed : List ℕ) (keys : List Snapshot) (roots : List ℕ) : Type 0 where

@@ -4,7 +4,7 @@ ghost use Rattle.std.specs.List.Sorted.{IsPartitionPoint};
 ghost use Rattle.std.specs.Option.{option_map, option_map_or};
 ghost use Rattle.std.specs.Ordering.{is_lt, nat_cmp};
 ghost use Rattle.std.specs.Cmp.Lexicographic.{slice_cmp};
-ghost use Rattle.frozen_nodes.specs.Forest.{AllBelow, FrozenNode, rows_from};
+ghost use Rattle.frozen_nodes.specs.Forest.{AreBelow, FrozenNode, rows_from};
 ghost use Rattle.snap_store.specs.Ordered.{IsRisingBy};
 ghost use Rattle.snap_store.specs.Snapshots.{holds_snapshot, key_of, put_snapshot, snapshot_cmp, snapshot_named, without_snapshot};
 ghost use Rattle.snap_store.specs.Stored.{AreRooted, index_named, snapshots_of};
@@ -171,7 +171,7 @@ pub fn root_of(taken: &Vec<Taken>, roots: &Vec<u32>, dir: u64, name: &Text) -> O
         option_map (rows_from nodes) result ≡
         option_map (λ s. s.rows)
         (snapshot_named (snapshots_of nodes taken.now.items roots.now.items) dir name.now) }
-    ensures within { (n : ℕ) → AllBelow n roots.now.items → IfSome result (λ root. root < n) }
+    ensures within { (n : ℕ) → AreBelow n roots.now.items → IfSome result (λ root. root < n) }
 {
     match find(taken, dir, name) {
         Some(at) => Some(roots[at]),
@@ -240,7 +240,7 @@ pub fn put_reserved(taken: &mut Vec<Taken>, roots: &mut Vec<u32>, snapshot: Take
         (record { dir = snapshot.dir; name = snapshot.name; rows = rows_from nodes root })
         (snapshots_of nodes taken.old.items roots.old.items) }
     ensures count { length roots.new.items ≡ length taken.new.items }
-    ensures below { (n : ℕ) → root < n → AllBelow n roots.old.items → AllBelow n roots.new.items }
+    ensures below { (n : ℕ) → root < n → AreBelow n roots.old.items → AreBelow n roots.new.items }
 {
     let at = place(taken, snapshot.dir(), snapshot.name());
     let _ = taken.insert(at, snapshot);
@@ -255,7 +255,7 @@ pub fn remove(taken: &mut Vec<Taken>, roots: &mut Vec<u32>, dir: u64, name: &Tex
         snapshots_of nodes taken.new.items roots.new.items ≡
         without_snapshot (snapshots_of nodes taken.old.items roots.old.items) dir name.now }
     ensures count { length roots.new.items ≡ length taken.new.items }
-    ensures below { (n : ℕ) → AllBelow n roots.old.items → AllBelow n roots.new.items }
+    ensures below { (n : ℕ) → AreBelow n roots.old.items → AreBelow n roots.new.items }
 {
     match find(taken, dir, name) {
         Some(at) => {

@@ -6,10 +6,10 @@ ghost use Rattle.std.specs.Option.{option_map, option_map_or};
 ghost use Rattle.std.specs.Ordering.{nat_cmp};
 ghost use Rattle.inode_tree.specs.Below.{at_or_above, at_or_below};
 ghost use Rattle.inode_tree.specs.Rows.{row_at};
-ghost use Rattle.frozen_nodes.specs.Forest.{AllBelow};
+ghost use Rattle.frozen_nodes.specs.Forest.{AreBelow};
 ghost use Rattle.frozen_nodes.specs.Moves.{AllReached};
 ghost use Rattle.snap_store.specs.Ordered.{IsRisingBy};
-ghost use Rattle.snap_store.specs.Snapshots.{IsReady, IsSnapshots, Snapshot, allowed_above, allowed_at_or_above, allowed_at_or_below, allowed_below, count_in, count_of, holds_snapshot, is_among, is_directory, is_named, key_of, list_in, names_of, no_snaps, rows_in, snapshot_named, table_after_allow, table_after_disallow, table_after_disallow_below, table_after_remove, table_after_take, with_id, without_below, without_id, zone_depth};
+ghost use Rattle.snap_store.specs.Snapshots.{IsSnapshotReady, IsSnapshots, Snapshot, allowed_above, allowed_at_or_above, allowed_at_or_below, allowed_below, count_in, count_of, holds_snapshot, is_among, is_directory, is_named, key_of, list_in, names_of, no_snaps, rows_in, snapshot_named, table_after_allow, table_after_disallow, table_after_disallow_below, table_after_remove, table_after_take, with_id, without_below, without_id, zone_depth};
 ghost use Rattle.snap_store.specs.Stored.{snapshots_of};
 
 use crate::order::{
@@ -96,12 +96,12 @@ fn remove_below(ids: &mut Vec<u64>, tree: &Tree, path: &NPath)
 /// At most `loose` nodes are such. Returns how many may be such afterwards. Nothing changes if
 /// allocation fails.
 fn give_back(forest: &mut Forest, roots: &mut Vec<u32>, loose: usize) -> usize
-    requires { AllBelow (length forest.old.nodes) roots.old.items }
+    requires { AreBelow (length forest.old.nodes) roots.old.items }
     ensures snapshots { (keys : List Snapshot) →
         snapshots_of forest.new.nodes keys roots.new.items ≡
         snapshots_of forest.old.nodes keys roots.old.items }
     ensures count { length roots.new.items ≡ length roots.old.items }
-    ensures below { AllBelow (length forest.new.nodes) roots.new.items }
+    ensures below { AreBelow (length forest.new.nodes) roots.new.items }
     ensures reached { result < loose → AllReached 0 forest.new.nodes roots.new.items }
 {
     if loose <= forest.len() / 2 {
@@ -266,7 +266,7 @@ impl Snaps {
         ensures err { OnErr result (self.new.table ≡ self.old.table) }
         ensures others { (d : ℕ) (n : List ℕ) → is_named dir name.now (key_of d n) ≡ false →
             snapshot_named self.new.table.taken d n ≡ snapshot_named self.old.table.taken d n }
-        ensures spare { IsReady self.old.room tree.now.rows dir name.now → IsOk result }
+        ensures spare { IsSnapshotReady self.old.room tree.now.rows dir name.now → IsOk result }
     {
         // The rows of the directory are a tree, as all are.
         let _ = tree.rows();
@@ -289,7 +289,7 @@ impl Snaps {
     /// `Ok`, `take` succeeds for the directory and the name until the snapshots or the rows at and
     /// below it change.
     pub fn reserve_take(&mut self, tree: &Tree, dir: u64, name: &Text) -> Result<(), NoMemory>
-        ensures ok { OnOk result (IsReady self.new.room tree.now.rows dir name.now) }
+        ensures ok { OnOk result (IsSnapshotReady self.new.room tree.now.rows dir name.now) }
         ensures same { self.new.table ≡ self.old.table }
     {
         reserve_place(&mut self.taken, &mut self.roots)?;

@@ -50,8 +50,8 @@ Looks leads user place a result b =
     ((answer : Line) × leads a (event.Info user (read_path_text place)) answer b × (result ≡ row_in answer)) ⊎ ((result ≡ Err end.NoMemory) × (b ≡ a))
 
 -- a user lists the directory at a place
-abbrev pub Lists : {X : Type 0} → Leading X → List ℕ → ReadPath → X → Result (List Child) FsEnd → X → Type 0
-Lists leads user place a result b =
+abbrev pub ListsDirectory : {X : Type 0} → Leading X → List ℕ → ReadPath → X → Result (List Child) FsEnd → X → Type 0
+ListsDirectory leads user place a result b =
     ((answer : Line) × leads a (event.List user (read_path_text place)) answer b × (result ≡ children_in answer)) ⊎ ((result ≡ Err end.NoMemory) × (b ≡ a))
 
 -- a user asks for the metadata of a key

@@ -3,7 +3,7 @@ ghost use Rattle.std.specs.Prelude.{◌≡◌, IfOk};
 ghost use Rattle.hk_events.specs.declared.event.Event.TheVariants as event;
 ghost use Rattle.kms_calls.specs.declared.calls.KmsCall.TheVariants as call;
 ghost use Rattle.place_texts.specs.Places.{place_below, read_path_text};
-ghost use Rattle.source_looks.specs.Looks.{AsksKey, Lists, Looks, children_by, children_in, reply_in, row_by, row_in};
+ghost use Rattle.source_looks.specs.Looks.{AsksKey, ListsDirectory, Looks, children_by, children_in, reply_in, row_by, row_in};
 
 use file_orders::{Events, FsEnd, end_of_names};
 use hk_base::{KeyName, NoMemory, Text};
@@ -155,7 +155,7 @@ pub fn list_at<T: Events>(
     below: &NPath,
 ) -> Result<ChildList, FsEnd>
     requires { T.ready events.old }
-    ensures lists { Lists T.leads user.now (place_below place.now below.now)
+    ensures lists { ListsDirectory T.leads user.now (place_below place.now below.now)
         events.old result events.new }
     ensures ready { T.ready events.new }
 {

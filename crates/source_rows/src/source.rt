@@ -7,7 +7,7 @@ ghost use Rattle.inode_tree.specs.Rows.{Entry, is_dir_at, row_at};
 ghost use Rattle.kms_calls.specs.declared.calls.KmsRefusal.TheVariants as key_refusal;
 ghost use Rattle.kms_calls.specs.declared.calls.KmsReply.{KmsReply as Reply};
 ghost use Rattle.kms_calls.specs.declared.calls.KmsReply.TheVariants as key_reply;
-ghost use Rattle.row_copies.specs.Clusters.{EndsFor, IsTree};
+ghost use Rattle.row_copies.specs.Clusters.{EndsFor, IsTreeOfRows};
 
 use file_orders::FsEnd;
 use hk_base::KeyName;
@@ -36,7 +36,7 @@ pub trait SourceRows {
     /// Does nothing. It says what always holds of the rows.
     fn facts(&self)
         requires ready { ready self.now }
-        ensures { IsTree (rows self.now) };
+        ensures { IsTreeOfRows (rows self.now) };
 
     /// Returns the row at a path.
     fn look(&mut self, path: &NPath) -> Result<Row, FsEnd>

@@ -17,7 +17,7 @@ use Rattle.command_line.specs.Line as line
 use Rattle.command_line.specs.Orders.{AsksForHelp, AsksForVersion, FindsHelp, FindsVersion, IsCommand, IsHelpFlag, Names, line_fault, order_named}
 use Rattle.command_line.specs.declared.order.Order.{Order}
 use Rattle.command_line.proofs.OrderLemmas.{plain, spelling_is_named}
-use Rattle.text_laws.specs.Lines.{AskedIsFound, IsNoText, IsRead, IsReadOnce, SpelledIsNamed}
+use Rattle.text_laws.specs.Lines.{AreWordsRead, AskedIsFound, IsNoText, IsReadOnce, SpelledIsNamed}
 
 is_help : ErrorKind → Bool
 is_help DisplayHelp = true
@@ -69,7 +69,7 @@ sorted (x ∷ ks) = by (is_help x) (is_version x) refl refl (sorted ks)
     by false false h e (inl (inr a)) = inl (inr (inr a))
     by false false h e (inr unshown) = inr (one_more x ks h e unshown)
 
-ordered : (words : List Text) → line_fault words ≡ [] → (o : Option Order) → order_at order_named (subcommand_of line.hkms words) ≡ o → IsRead words
+ordered : (words : List Text) → line_fault words ≡ [] → (o : Option Order) → order_at order_named (subcommand_of line.hkms words) ≡ o → AreWordsRead words
 ordered words e (Some order) is = inr (inr (order, record { no_fault = e; command = is }))
 ordered words e None is = let no : ValueValidation ∷ [] ≡ [] = sym (a_value_is_refused line.hkms order_named words plain.required (none_of_clap (fault_of line.hkms words) _ e) is) ∙ e in cc
   where
@@ -77,10 +77,10 @@ ordered words e None is = let no : ValueValidation ∷ [] ≡ [] = sym (a_value_
     none_of_clap [] other e = refl
     none_of_clap (k ∷ ks) other e = cc
 
-pub every_line : (words : List Text) → IsRead words
+pub every_line : (words : List Text) → AreWordsRead words
 every_line words = by (line_fault words) refl (sorted (line_fault words))
   where
-    by : (ks : Kinds) → line_fault words ≡ ks → IsSorted (line_fault words) → IsRead words
+    by : (ks : Kinds) → line_fault words ≡ ks → IsSorted (line_fault words) → AreWordsRead words
     by ks e (inl shown) = inr (inl shown)
     by [] e (inr unshown) = ordered words e (order_at order_named (subcommand_of line.hkms words)) refl
     by (k ∷ ks) e (inr unshown) = inl ((λ is. absurd (some k ks (sym e ∙ is))), unshown)

@@ -7,7 +7,7 @@ use Rattle.std.specs.Cmp.Lexicographic.{nat_list_eq_equiv}
 use Rattle.std.proofs.lemmas.Bool.{or_from}
 use Rattle.prop_text.specs.Names.{setting_of}
 use Rattle.prop_text.specs.Sizes.{sizes_of}
-use Rattle.prop_text.specs.Properties.{HasFault, IsBadLine, IsFirst, IsProps, IsRepeated, IsUnknown, ReadsAs, SayAll, Says, cut_at_equals, is_among, is_quiet, lines_of, longest_text, name_part, name_set, names_set}
+use Rattle.prop_text.specs.Properties.{HasFault, IsBadLine, IsFirst, IsProps, IsRepeated, IsUnknownName, ReadsAs, SayAll, SaysProperty, cut_at_equals, is_among, is_quiet, lines_of, longest_text, name_part, name_set, names_set}
 use Rattle.prop_text.specs.declared.faults.PropFault.{PropFault}
 use Rattle.prop_text.specs.declared.faults.PropFault.TheVariants as fault
 use Rattle.prop_text.specs.declared.lines.PropLine.{PropLine}
@@ -17,18 +17,18 @@ use Rattle.text_laws.proofs.LineLemmas.{all_once, cut_once, moved_value}
 
 -- the line has some fault, after lines that set these names
 IsFaulty : List (List ℕ) → List ℕ → Type 0
-IsFaulty earlier bad = IsBadLine earlier bad ⊎ (IsRepeated earlier bad ⊎ IsUnknown earlier bad)
+IsFaulty earlier bad = IsBadLine earlier bad ⊎ (IsRepeated earlier bad ⊎ IsUnknownName earlier bad)
 
 abbrev Lines : Type 0
 Lines = List (List ℕ)
 
-said_at : (earlier later : Lines) (bad : List ℕ) (props : List PropLine) → SayAll (earlier ++ bad ∷ later) props → (is_quiet bad ≡ true) ⊎ ((prop : PropLine) × Says bad prop)
+said_at : (earlier later : Lines) (bad : List ℕ) (props : List PropLine) → SayAll (earlier ++ bad ∷ later) props → (is_quiet bad ≡ true) ⊎ ((prop : PropLine) × SaysProperty bad prop)
 said_at [] later bad props (inl (quiet, all)) = inl quiet
 said_at [] later bad props (inr (prop, rest, says, all, is)) = inr (prop, says)
 said_at (l ∷ ls) later bad props (inl (quiet, all)) = said_at ls later bad props all
 said_at (l ∷ ls) later bad props (inr (prop, rest, says, all, is)) = said_at ls later bad rest all
 
-name_says : (text : List ℕ) (prop : PropLine) (says : Says text prop) → name_set text ≡ says.name ∷ []
+name_says : (text : List ℕ) (prop : PropLine) (says : SaysProperty text prop) → name_set text ≡ says.name ∷ []
 name_says text prop says = ap (λ t. cond t [] (name_part (cut_at_equals text))) says.sets.not_quiet ∙ ap name_part says.sets.cut
 
 apart_here : (x y : List ℕ) (names more : Lines) → AllByRecursion (λ z. bytes_eq x z ≡ false) (names ++ y ∷ more) → bytes_eq x y ≡ false
@@ -52,7 +52,7 @@ not_faulty : (earlier later : Lines) (bad : List ℕ) (props : List PropLine) �
 unfolding IsFaulty
 not_faulty earlier later bad props reads is = by (said_at earlier later bad props reads.say) is
   where
-    by : (is_quiet bad ≡ true) ⊎ ((prop : PropLine) × Says bad prop) → IsBadLine (names_set earlier) bad ⊎ (IsRepeated (names_set earlier) bad ⊎ IsUnknown (names_set earlier) bad) → ⊥
+    by : (is_quiet bad ≡ true) ⊎ ((prop : PropLine) × SaysProperty bad prop) → IsBadLine (names_set earlier) bad ⊎ (IsRepeated (names_set earlier) bad ⊎ IsUnknownName (names_set earlier) bad) → ⊥
     by (inl quiet) (inl (inl f)) = let no : true ≡ false = sym quiet ∙ f.not_quiet in cc
     by (inl quiet) (inl (inr f)) = let no : true ≡ false = sym quiet ∙ f.sets.not_quiet in cc
     by (inl quiet) (inr (inl f)) = let no : true ≡ false = sym quiet ∙ f.sets.not_quiet in cc
@@ -97,7 +97,7 @@ repeated_lines : AreFaults IsRepeated
 unfolding IsFaulty
 repeated_lines earlier bad f = inr (inl f)
 
-unknown_lines : AreFaults IsUnknown
+unknown_lines : AreFaults IsUnknownName
 unfolding IsFaulty
 unknown_lines earlier bad f = inr (inr f)
 
@@ -141,14 +141,14 @@ never_bad_and_repeated earlier bad (inr f) g =
     let no : false ≡ true = sym f.first ∙ ap (λ name. is_among name earlier) same.0 ∙ g.again in
     cc
 
-never_bad_and_unknown : AreApart IsBadLine IsUnknown
+never_bad_and_unknown : AreApart IsBadLine IsUnknownName
 never_bad_and_unknown earlier bad (inl f) g = let no = sym f.cut ∙ g.cut in cc
 never_bad_and_unknown earlier bad (inr f) g =
     let same = cut_once bad f.name f.value g.name g.value f.sets.cut g.cut in
     let no = sym f.sets.known ∙ ap setting_of same.0 ∙ g.unknown in
     cc
 
-never_repeated_and_unknown : AreApart IsRepeated IsUnknown
+never_repeated_and_unknown : AreApart IsRepeated IsUnknownName
 never_repeated_and_unknown earlier bad f g =
     let same = cut_once bad f.name f.value g.name g.value f.sets.cut g.cut in
     let no = sym f.sets.known ∙ ap setting_of same.0 ∙ g.unknown in
@@ -177,19 +177,19 @@ one_fault text = by
     by fault.TooLong fault.TooLong s o = inl refl
     by fault.TooLong (fault.BadLine m) s o = absurd (never_long text m IsBadLine s o)
     by fault.TooLong (fault.Repeated m) s o = absurd (never_long text m IsRepeated s o)
-    by fault.TooLong (fault.UnknownName m) s o = absurd (never_long text m IsUnknown s o)
+    by fault.TooLong (fault.UnknownName m) s o = absurd (never_long text m IsUnknownName s o)
     by (fault.BadLine n) fault.TooLong s o = absurd (never_long text n IsBadLine o s)
     by (fault.Repeated n) fault.TooLong s o = absurd (never_long text n IsRepeated o s)
-    by (fault.UnknownName n) fault.TooLong s o = absurd (never_long text n IsUnknown o s)
+    by (fault.UnknownName n) fault.TooLong s o = absurd (never_long text n IsUnknownName o s)
     by (fault.BadLine n) (fault.BadLine m) s o = inl (ap fault.BadLine (same_number text n m IsBadLine bad_lines s o))
     by (fault.Repeated n) (fault.Repeated m) s o = inl (ap fault.Repeated (same_number text n m IsRepeated repeated_lines s o))
-    by (fault.UnknownName n) (fault.UnknownName m) s o = inl (ap fault.UnknownName (same_number text n m IsUnknown unknown_lines s o))
+    by (fault.UnknownName n) (fault.UnknownName m) s o = inl (ap fault.UnknownName (same_number text n m IsUnknownName unknown_lines s o))
     by (fault.BadLine n) (fault.Repeated m) s o = absurd (never_two text n m IsBadLine IsRepeated bad_lines repeated_lines never_bad_and_repeated s o)
     by (fault.Repeated n) (fault.BadLine m) s o = absurd (never_two text m n IsBadLine IsRepeated bad_lines repeated_lines never_bad_and_repeated o s)
-    by (fault.BadLine n) (fault.UnknownName m) s o = absurd (never_two text n m IsBadLine IsUnknown bad_lines unknown_lines never_bad_and_unknown s o)
-    by (fault.UnknownName n) (fault.BadLine m) s o = absurd (never_two text m n IsBadLine IsUnknown bad_lines unknown_lines never_bad_and_unknown o s)
-    by (fault.Repeated n) (fault.UnknownName m) s o = absurd (never_two text n m IsRepeated IsUnknown repeated_lines unknown_lines never_repeated_and_unknown s o)
-    by (fault.UnknownName n) (fault.Repeated m) s o = absurd (never_two text m n IsRepeated IsUnknown repeated_lines unknown_lines never_repeated_and_unknown o s)
+    by (fault.BadLine n) (fault.UnknownName m) s o = absurd (never_two text n m IsBadLine IsUnknownName bad_lines unknown_lines never_bad_and_unknown s o)
+    by (fault.UnknownName n) (fault.BadLine m) s o = absurd (never_two text m n IsBadLine IsUnknownName bad_lines unknown_lines never_bad_and_unknown o s)
+    by (fault.Repeated n) (fault.UnknownName m) s o = absurd (never_two text n m IsRepeated IsUnknownName repeated_lines unknown_lines never_repeated_and_unknown s o)
+    by (fault.UnknownName n) (fault.Repeated m) s o = absurd (never_two text m n IsRepeated IsUnknownName repeated_lines unknown_lines never_repeated_and_unknown o s)
 
 pub not_both_readings : (text : List ℕ) → HasNotBoth text
 not_both_readings text = by
@@ -199,4 +199,4 @@ not_both_readings text = by
     by props fault.TooLong is has = let no : ⊥ = omega (arith, is.short, has) in absurd no
     by props (fault.BadLine n) is has = absurd (not_both text n props is (as_first text n IsBadLine bad_lines has))
     by props (fault.Repeated n) is has = absurd (not_both text n props is (as_first text n IsRepeated repeated_lines has))
-    by props (fault.UnknownName n) is has = absurd (not_both text n props is (as_first text n IsUnknown unknown_lines has))
+    by props (fault.UnknownName n) is has = absurd (not_both text n props is (as_first text n IsUnknownName unknown_lines has))

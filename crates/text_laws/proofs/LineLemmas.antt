@@ -4,7 +4,7 @@ use Rattle.std.proofs.lemmas.Fmt.{decimal_is_IsNumeral}
 use Rattle.std.specs.Fmt.{decimal}
 use Rattle.std.specs.Str.Parse.{digits_value}
 use Rattle.prop_text.specs.Acls.{SpellsAcl, SpellsNames, SpellsParts}
-use Rattle.prop_text.specs.Properties.{SayAll, Says, Sets, SpellsGroup, SpellsList, SpellsSize, SpellsValue, acl_line, cut_at_equals, most, size_line}
+use Rattle.prop_text.specs.Properties.{SayAll, SaysProperty, Sets, SpellsGroup, SpellsList, SpellsSize, SpellsValue, acl_line, cut_at_equals, most, size_line}
 use Rattle.prop_text.specs.Names.{setting_of}
 use Rattle.prop_text.specs.declared.acls.Acl.{Acl}
 use Rattle.prop_text.specs.declared.lines.PropLine.{PropLine}
@@ -85,7 +85,7 @@ moved_value text name value name' value' what what' p s o spells =
     let known : what ≡ what' = known_once name name' what what' same.0 s.known o.known in
     rw (known, same.0, same.1) spells
 
-pub says_once : (text : List ℕ) (p q : PropLine) → Says text p → Says text q → p ≡ q
+pub says_once : (text : List ℕ) (p q : PropLine) → SaysProperty text p → SaysProperty text q → p ≡ q
 says_once text p q s o = value_once s.what s.name s.value p q s.value_is (moved_value text s.name s.value o.name o.value s.what o.what q s.sets o.sets o.value_is)
 
 pub all_once : (lines : List (List ℕ)) (ps qs : List PropLine) → SayAll lines ps → SayAll lines qs → ps ≡ qs

@@ -6,8 +6,8 @@ use Rattle.command_line.specs.Orders.{AsksForHelp, AsksForVersion, FindsHelp, Fi
 use Rattle.command_line.specs.declared.order.Order.{Order}
 
 -- the words are a mistake, or they show a text, or they name an order
-abbrev pub IsRead : List Text → Type 0
-IsRead words = IsMistake (line_fault words) ⊎ ((FindsHelp words ⊎ FindsVersion words) ⊎ ((order : Order) × Names order words))
+abbrev pub AreWordsRead : List Text → Type 0
+AreWordsRead words = IsMistake (line_fault words) ⊎ ((FindsHelp words ⊎ FindsVersion words) ⊎ ((order : Order) × Names order words))
 
 -- words that name an order name no other one, and are no mistake, and show no text
 abbrev pub IsReadOnce : List Text → Type 0

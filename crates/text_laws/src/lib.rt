@@ -4,7 +4,7 @@
 
 ghost use Rattle.std.specs.Prelude.{ℕ, List};
 ghost use Rattle.clap.specs.Words.{Text};
-ghost use Rattle.text_laws.specs.Lines.{AskedIsFound, IsNoText, IsRead, IsReadOnce, SpelledIsNamed};
+ghost use Rattle.text_laws.specs.Lines.{AreWordsRead, AskedIsFound, IsNoText, IsReadOnce, SpelledIsNamed};
 ghost use Rattle.text_laws.specs.Readings.{HasNotBoth, HasOneFault, HasOneList};
 
 /// A text of properties has one reading, apart from want of memory: its properties or its first
@@ -19,7 +19,7 @@ pub fn properties_have_one_reading()
 /// that spell an order name it, whichever form an option has: `--port N` or `--port=N`. Words that begin
 /// with a request for help or for the version show that text, whatever follows.
 pub fn words_have_one_reading()
-    ensures every { (words : List Text) → IsRead words }
+    ensures every { (words : List Text) → AreWordsRead words }
     ensures once { (words : List Text) → IsReadOnce words }
     ensures no_text { (words : List Text) → IsNoText words }
     ensures spelled { (words : List Text) → SpelledIsNamed words }

@@ -31,11 +31,11 @@ pub record ServesBatch {D W : Type 0} (state : D → DiskState) (to_come : W →
   pub result_is : result ≡ reply_for batch reply
 
 -- there was no memory for the call: nothing was called, and the batch is refused for want of memory
-pub record LacksMemory {D W : Type 0} (v : keys.KmsKnown D W) (batch : BatchNote) (result : ReplyState) (w : keys.KmsKnown D W) : Type 0 where
+pub record LacksMemoryForBatch {D W : Type 0} (v : keys.KmsKnown D W) (batch : BatchNote) (result : ReplyState) (w : keys.KmsKnown D W) : Type 0 where
   pub same : w ≡ v
   pub result_is : result ≡ reply_for batch (reply.Refused refusal.NoMemory)
 
 -- A turn of a batch: the pass made one entry, the call for the batch, and the result is what its reply means for the batch. Or there was no
 -- memory for the call, and the pass made no entry.
 abbrev pub ServesTurn : {D W : Type 0} → (D → DiskState) → (W → ℕ → ℕ) → keys.KmsKnown D W → BatchNote → ReplyState → keys.KmsKnown D W → Type 0
-ServesTurn state to_come v batch result w = ServesBatch state to_come v batch result w ⊎ LacksMemory v batch result w
+ServesTurn state to_come v batch result w = ServesBatch state to_come v batch result w ⊎ LacksMemoryForBatch v batch result w

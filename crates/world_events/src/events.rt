@@ -1,6 +1,6 @@
 //! Both services over a disk, as events.
 ghost use Rattle.std.specs.Prelude.{◌≡◌};
-ghost use Rattle.world_desk.specs.Worlds.{IsReady};
+ghost use Rattle.world_desk.specs.Worlds.{IsDeskReady};
 ghost use Rattle.world_events.specs.Events.{HoldsSame, LeadsAt, standing_of};
 
 use file_orders::Events;
@@ -45,7 +45,7 @@ impl<'a, D, W> WorldEvents<'a, D, W> {
 
 impl<'a, D: Disk, W: Words> Events for WorldEvents<'a, D, W> {
     ghost ready = { λ v.
-        IsReady D.state (standing_of v) };
+        IsDeskReady D.state (standing_of v) };
 
     ghost leads = { λ old e answer new. HoldsSame old new ×
         LeadsAt D.state W.to_come old.now (standing_of old) e answer (standing_of new) };

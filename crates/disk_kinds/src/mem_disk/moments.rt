@@ -4,7 +4,7 @@ ghost use Rattle.std.proofs.Common.{arith, inl, refl};
 ghost use Rattle.hk_base.specs.Disk.{CallOn, Cut, Follows, Only, Reads, Torn, piece, written};
 ghost use Rattle.disk_kinds.specs.declared.mem_disk.Change.TheVariants.{Written, CutTo};
 ghost use Rattle.disk_kinds.specs.Fakes.{CallMade, FollowsPlan, NextFails};
-ghost use Rattle.disk_kinds.specs.Past.{FileAt, moment_at, file_at, fresh_file, now_of, past_of, plan_of, state_of, reads_of, leaves_of, the_file, only_image, since_earlier, within, Put, Left};
+ghost use Rattle.disk_kinds.specs.Past.{FileAt, moment_at, file_at, fresh_file, now_of, past_of, plan_of, state_of, reads_of, leaves_of, the_file, only_image, since_earlier, within, Put, LeftAlone};
 
 use super::{Change, Kept, MemDisk, Moment};
 use crate::calls::CallPlan;
@@ -128,7 +128,7 @@ impl MemDisk {
             (Put file (file_at next) (now_of self.old) (now_of self.new) (past_of self.old)
             (past_of self.new)) }
         ensures err { OnErr result
-            (Left (now_of self.old) (now_of self.new) (past_of self.old) (past_of self.new)) }
+            (LeftAlone (now_of self.old) (now_of self.new) (past_of self.old) (past_of self.new)) }
         ensures plan { plan_of self.new ≡ plan_of self.old }
     {
         self.past.push(self.current.copy(self.alloc)?)?;
@@ -156,7 +156,7 @@ impl MemDisk {
             })
             (now_of self.old) (now_of self.new) (past_of self.old) (past_of self.new)) }
         ensures err { OnErr result
-            (Left (now_of self.old) (now_of self.new) (past_of self.old) (past_of self.new)) }
+            (LeftAlone (now_of self.old) (now_of self.new) (past_of self.old) (past_of self.new)) }
         ensures plan { plan_of self.new ≡ plan_of self.old }
     {
         if at > LONGEST_FILE || size > LONGEST_FILE - at {
@@ -190,7 +190,7 @@ impl MemDisk {
             })
             (now_of self.old) (now_of self.new) (past_of self.old) (past_of self.new)) }
         ensures err { OnErr result
-            (Left (now_of self.old) (now_of self.new) (past_of self.old) (past_of self.new)) }
+            (LeftAlone (now_of self.old) (now_of self.new) (past_of self.old) (past_of self.new)) }
         ensures plan { plan_of self.new ≡ plan_of self.old }
     {
         let old = self.current.file(file);
@@ -215,7 +215,7 @@ impl MemDisk {
             (Put file (fresh_file ((the_file (now_of self.old) file).reads)) (now_of self.old)
             (now_of self.new) (past_of self.old) (past_of self.new)) }
         ensures err { OnErr result
-            (Left (now_of self.old) (now_of self.new) (past_of self.old) (past_of self.new)) }
+            (LeftAlone (now_of self.old) (now_of self.new) (past_of self.old) (past_of self.new)) }
         ensures plan { plan_of self.new ≡ plan_of self.old }
     {
         let bytes = self.current.file(file).reads.to_vec(self.alloc)?;
@@ -257,7 +257,7 @@ impl Disk for MemDisk {
         ensures listed { IsErr result ↔ NextFails (plan_of self.old) }
         ensures plan { CallMade (plan_of self.old) (plan_of self.new) result }
         ensures size { IfOk result (λ n. n ≡ length (reads_of self.old file)) }
-        ensures kept { Left (now_of self.old) (now_of self.new) (past_of self.old)
+        ensures kept { LeftAlone (now_of self.old) (now_of self.new) (past_of self.old)
             (past_of self.new) }
         ensures call { CallOn file (state_of self.old) (state_of self.new) }
     {
@@ -276,7 +276,7 @@ impl Disk for MemDisk {
             (λ n. n ≡ min (length buf.new) (length (reads_of self.old file) - at)) }
         ensures bytes { IfOk result (λ n. take n buf.new ≡ piece at n (reads_of self.old file)) }
         ensures rest { IfOk result (λ n. drop n buf.new ≡ drop n buf.old) }
-        ensures kept { Left (now_of self.old) (now_of self.new) (past_of self.old)
+        ensures kept { LeftAlone (now_of self.old) (now_of self.new) (past_of self.old)
             (past_of self.new) }
         ensures call { CallOn file (state_of self.old) (state_of self.new) }
     {
@@ -295,7 +295,7 @@ impl Disk for MemDisk {
         ensures limit { OnOk result (at + length bytes.now ≤ 2 ^ 62) }
         ensures kept { ¬ NextFails (plan_of self.old) →
             OnErr result
-            (Left (now_of self.old) (now_of self.new) (past_of self.old) (past_of self.new)) }
+            (LeftAlone (now_of self.old) (now_of self.new) (past_of self.old) (past_of self.new)) }
         ensures crash { Follows (Torn at (length bytes.now)) (leaves_of self.old file)
             (leaves_of self.new file) }
         ensures call { CallOn file (state_of self.old) (state_of self.new) }
@@ -318,7 +318,7 @@ impl Disk for MemDisk {
         requires place { len ≤ length (reads_of self.old file) }
         ensures plan { FollowsPlan (plan_of self.old) (plan_of self.new) result }
         ensures kept { OnErr result
-            (Left (now_of self.old) (now_of self.new) (past_of self.old) (past_of self.new)) }
+            (LeftAlone (now_of self.old) (now_of self.new) (past_of self.old) (past_of self.new)) }
         ensures cut { OnOk result (reads_of self.new file ≡ take len (reads_of self.old file)) }
         ensures torn { OnErr result (Cut len (reads_of self.old file) (reads_of self.new file)) }
         ensures crash { Follows (Cut len) (leaves_of self.old file) (leaves_of self.new file) }
@@ -335,7 +335,7 @@ impl Disk for MemDisk {
         requires { file < 2 }
         ensures plan { FollowsPlan (plan_of self.old) (plan_of self.new) result }
         ensures kept { OnErr result
-            (Left (now_of self.old) (now_of self.new) (past_of self.old) (past_of self.new)) }
+            (LeftAlone (now_of self.old) (now_of self.new) (past_of self.old) (past_of self.new)) }
         ensures durable { OnOk result (Only (reads_of self.old file) (leaves_of self.new file)) }
         ensures same { Reads file (state_of self.old) (state_of self.new) }
         ensures call { CallOn file (state_of self.old) (state_of self.new) }

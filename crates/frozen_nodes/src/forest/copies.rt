@@ -1,8 +1,8 @@
 //! Copies of the rows at and below a directory of a tree.
 ghost use Rattle.std.specs.Prelude.{◌≡◌, ◌+◌, ◌<◌, ◌≤◌, length, vec_capacity, vec_len};
-ghost use Rattle.frozen_nodes.specs.Copies.{HasRoomUpTo, IsCopy, IsSpent, view_at};
+ghost use Rattle.frozen_nodes.specs.Copies.{HasRoomUpTo, IsCopy, IsRoomSpent, view_at};
 ghost use Rattle.frozen_nodes.specs.Forest.{AreKids, KeepsNodes, node_at, rows_from, rows_of_node};
-ghost use Rattle.frozen_nodes.specs.Packed.{HasRoom, IsLess};
+ghost use Rattle.frozen_nodes.specs.Packed.{HasForestRoom, IsLess};
 
 use super::Forest;
 use crate::nodes::after;
@@ -80,7 +80,7 @@ impl Forest {
         requires kids { AreKids self.old.nodes (length self.old.nodes) kids.now }
         requires few { length kids.now ≤ 4294967295 }
         requires short { length row.name.now ≤ 255 }
-        requires room { HasRoom 1 (length kids.now) 255 self.old.room }
+        requires room { HasForestRoom 1 (length kids.now) 255 self.old.room }
         ensures rows { rows_from self.new.nodes result ≡
             rows_of_node self.old.nodes
             (record { name = row.entry.name.now; row = row.entry.row.now; kids = kids.now }) }
@@ -116,7 +116,7 @@ impl Forest {
             record { depth = result.row.depth; name = result.row.name.now; row = result.row.row.now }
             ≡ view_at tree.now.rows result.next }
         ensures none { end ≤ result.next → result.row.depth ≡ 0 }
-        ensures spent { IsSpent at result.next self.old.room self.new.room }
+        ensures spent { IsRoomSpent at result.next self.old.room self.new.room }
         ensures kids { kids.new.items ≡ kids.old.items }
         ensures kids_room { (vec_len kids.new ≡ vec_len kids.old) ×
             (vec_capacity kids.old ≤ vec_capacity kids.new) }

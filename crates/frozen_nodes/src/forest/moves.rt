@@ -1,6 +1,6 @@
 //! Copies of nodes in another forest, without those that are of no use any more.
 ghost use Rattle.std.specs.Prelude.{ℕ, ◌≡◌, ◌+◌, ◌∷◌, ◌<◌, ◌≤◌, Some, [], drop, take, length, slice_get, slice_set, IfOk, OnErr, OnOk};
-ghost use Rattle.frozen_nodes.specs.Forest.{AllBelow, node_at};
+ghost use Rattle.frozen_nodes.specs.Forest.{AreBelow, node_at};
 ghost use Rattle.frozen_nodes.specs.Moves.{AllMoved, AllReached, AreNumbers, MovesNode};
 
 use super::Forest;
@@ -105,7 +105,7 @@ impl Forest {
     /// Copies the nodes at and below roots to another forest, and returns the roots' copies.
     fn move_roots(&self, to: &mut Forest, roots: &[u32]) -> Result<Vec<u32>, NoMemory>
         requires empty { to.old.nodes ≡ [] }
-        requires within { AllBelow (length self.now.nodes) roots.now }
+        requires within { AreBelow (length self.now.nodes) roots.now }
         ensures moved { IfOk result
             (λ moved. AllMoved self.now.nodes to.new.nodes roots.now moved.items) }
         ensures reached { IfOk result (λ moved. AllReached 0 to.new.nodes moved.items) }
@@ -125,7 +125,7 @@ impl Forest {
     /// allocation fails, as it takes memory for the nodes that are kept; the nodes and the roots are
     /// then unchanged.
     pub fn keep(&mut self, roots: &mut Vec<u32>) -> Result<(), NoMemory>
-        requires { AllBelow (length self.old.nodes) roots.old.items }
+        requires { AreBelow (length self.old.nodes) roots.old.items }
         ensures ok { OnOk result
             (AllMoved self.old.nodes self.new.nodes roots.old.items roots.new.items) }
         ensures reached { OnOk result (AllReached 0 self.new.nodes roots.new.items) }

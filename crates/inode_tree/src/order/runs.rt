@@ -1,6 +1,6 @@
 //! The swap of two runs of numbers that lie next to each other.
 ghost use Rattle.std.specs.Prelude.{ℕ, ◌≡◌, ◌<◌, ◌≤◌, ◌+◌, ◌++◌, [], length, vec_capacity, vec_len};
-ghost use Rattle.inode_tree.specs.Listed.{AreEmpty, IsCut, flat, starts_of, turned};
+ghost use Rattle.inode_tree.specs.Listed.{AreEmpty, IsCutAt, flat, starts_of, turned};
 
 use super::{Piece, RowOrder, locate, part, renumber, take_empty};
 
@@ -29,8 +29,8 @@ fn cut(pieces: &mut Vec<Piece>, starts: &mut Vec<u32>, extra: &mut Vec<Piece>, i
     ensures starts { starts.new.items ≡ starts_of 0 pieces.new.items }
     ensures empty { AreEmpty extra.new.items }
     ensures flat { flat pieces.new.items ≡ flat pieces.old.items }
-    ensures cut { IsCut pieces.new.items result i }
-    ensures kept { (k j : ℕ) → IsCut pieces.old.items k j → j ≤ i → IsCut pieces.new.items k j }
+    ensures cut { IsCutAt pieces.new.items result i }
+    ensures kept { (k j : ℕ) → IsCutAt pieces.old.items k j → j ≤ i → IsCutAt pieces.new.items k j }
     ensures room { (vec_len pieces.new ≤ vec_len pieces.old + 1) ×
         (vec_capacity pieces.new ≡ vec_capacity pieces.old) ×
         (vec_len starts.new ≤ vec_len starts.old + 1) ×

@@ -1,6 +1,6 @@
 //! Moves of rows to other paths.
 ghost use Rattle.std.specs.Prelude.{ℕ, Option, ◌≡◌, ◌<◌, ◌≤◌, [], length, slice_set, string_bytes, string_capacity, IsOk, OnOk, OnErr};
-ghost use Rattle.inode_tree.specs.Arena.{IsKept, IsTree, rank, rank_past, rows_of, with_place};
+ghost use Rattle.inode_tree.specs.Arena.{IsTree, IsTreeKept, rank, rank_past, rows_of, with_place};
 ghost use Rattle.inode_tree.specs.Listed.{shifted};
 ghost use Rattle.inode_tree.specs.Moves.{CanMove, renamed};
 ghost use Rattle.inode_tree.specs.Rows.{need};
@@ -102,12 +102,12 @@ fn relocate(
     path: &NPath,
     to: &NPath,
 )
-    requires kept { IsKept nodes.old order.old places.now free.now }
+    requires kept { IsTreeKept nodes.old order.old places.now free.now }
     requires ready { string_bytes ready.old ≡ [] }
     requires room { (0 < order.old.spare) ×
         (length (last_name to.now) ≤ string_capacity ready.old) }
     requires can { CanMove (rows_of nodes.old.items order.old.items) path.now to.now }
-    ensures kept { IsKept nodes.new order.new places.now free.now }
+    ensures kept { IsTreeKept nodes.new order.new places.now free.now }
     ensures ready { string_bytes ready.new ≡ [] }
     ensures rows { rows_of nodes.new.items order.new.items ≡
         renamed path.now to.now (rows_of nodes.old.items order.old.items) }

@@ -3,7 +3,7 @@ ghost use Rattle.std.specs.Prelude.{ℕ, ◌≡◌, ◌<◌, None, length, if◌
 ghost use Rattle.std.specs.HashMap.{get};
 ghost use Rattle.std.specs.Bool.{nat_eq};
 ghost use Rattle.std.specs.List.{remove};
-ghost use Rattle.inode_tree.specs.Arena.{IsKept, IsLeaf, rows_of};
+ghost use Rattle.inode_tree.specs.Arena.{IsLeaf, IsTreeKept, rows_of};
 ghost use Rattle.inode_tree.specs.Rows.{removed};
 
 use super::{Tree, blank_node};
@@ -48,9 +48,9 @@ fn take_out(
     free: &mut Vec<u32>,
     at: usize,
 )
-    requires kept { IsKept nodes.old order.old places.old free.old }
+    requires kept { IsTreeKept nodes.old order.old places.old free.old }
     requires leaf { IsLeaf nodes.old.items order.old.items at }
-    ensures kept { IsKept nodes.new order.new places.new free.new }
+    ensures kept { IsTreeKept nodes.new order.new places.new free.new }
     ensures rows { rows_of nodes.new.items order.new.items ≡
         remove (rows_of nodes.old.items order.old.items) at }
 {
@@ -71,9 +71,9 @@ fn clear(
     hints: &Hints,
     path: &NPath,
 )
-    requires kept { IsKept nodes.old order.old places.old free.old }
+    requires kept { IsTreeKept nodes.old order.old places.old free.old }
     requires deep { 0 < length path.now }
-    ensures kept { IsKept nodes.new order.new places.new free.new }
+    ensures kept { IsTreeKept nodes.new order.new places.new free.new }
     ensures rows { rows_of nodes.new.items order.new.items ≡
         removed path.now (rows_of nodes.old.items order.old.items) }
 {

@@ -1,5 +1,5 @@
 use Rattle.std.proofs.Common.{ap, inl, refl, sym, subst}
-use Rattle.backup_names.specs.Changes.{Changes, MakesDirectory}
+use Rattle.backup_names.specs.Changes.{ChangesTable, MakesDirectory}
 use Rattle.backup_names.specs.Ends.{change_end}
 use Rattle.backup_names.proofs.MakeLemmas.{directory_ended}
 use Rattle.backup_names.proofs.OrderLemmas.{no_orders, orders_of_logs}
@@ -16,8 +16,8 @@ returns-in-Err-clause-orders g c = no_orders _ _
 pub returns-clause-makes : goal.returns-clause-makes
 returns-clause-makes g c =
     let ended = directory_ended c.args.name.now c.act-reply.new.self c.args.user.now c.in-Ok.path _ c.act-reply.result c.act-reply.ensures.logged c.invariants.ensures.names c.requires.settled c.act-reply.ensures.serves in
-    subst (λ x. Changes x (MakesDirectory c.args.path.now) c.args.name.now c.act-reply.new.self) (sym c.change_end.ensures)
-    (subst (λ p. Changes (change_end c.act-reply.result) (MakesDirectory p) c.args.name.now c.act-reply.new.self) c.in-Ok.ensures ended.changes)
+    subst (λ x. ChangesTable x (MakesDirectory c.args.path.now) c.args.name.now c.act-reply.new.self) (sym c.change_end.ensures)
+    (subst (λ p. ChangesTable (change_end c.act-reply.result) (MakesDirectory p) c.args.name.now c.act-reply.new.self) c.in-Ok.ensures ended.changes)
 
 pub returns-clause-orders : goal.returns-clause-orders
 returns-clause-orders g c = orders_of_logs _ _ _ _ _ _ c.requires.settled c.act-reply.ensures.disk

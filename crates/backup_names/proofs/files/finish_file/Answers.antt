@@ -1,6 +1,6 @@
 use Rattle.std.proofs.Common.{◌∙◌, sym, subst}
 use Rattle.name_calls.specs.declared.calls.KeyAnswer.TheVariants as answer
-use Rattle.backup_names.specs.Changes.{Changes, FinishesFile}
+use Rattle.backup_names.specs.Changes.{ChangesTable, FinishesFile}
 use Rattle.backup_names.proofs.FinishLemmas.{file_makes, finish_ended, given_only}
 use Rattle.backup_names.proofs.OrderLemmas.{orders_of_logs}
 use Rattle.std.specs.Prelude.{IfErr}
@@ -11,7 +11,7 @@ use Rattle.backup_names.proofs.files.finish_file.Goals as goal
 
 pub returns-clause-makes : goal.returns-clause-makes
 returns-clause-makes g c =
-    subst (λ x. Changes x (FinishesFile c.args.id c.args.edek c.args.name.now) c.args.name.now c.finish_with.new.self) (sym c.finish_end.ensures)
+    subst (λ x. ChangesTable x (FinishesFile c.args.id c.args.edek c.args.name.now) c.args.name.now c.finish_with.new.self) (sym c.finish_end.ensures)
     (finish_ended c.args.name.now c.finish_with.new.self c.args.id (answer.Given c.args.edek) (FinishesFile c.args.id c.args.edek c.args.name.now) _ c.requires.settled (file_makes c.args.name.now c.args.id c.args.edek) c.finish_with.result c.finish_with.ensures.logged c.finish_with.ensures.serves).changes
 
 pub returns-clause-orders : goal.returns-clause-orders

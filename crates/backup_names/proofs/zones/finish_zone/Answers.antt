@@ -1,6 +1,6 @@
 use Rattle.std.proofs.Common.{◌∙◌, Some, sym, subst}
 use Rattle.name_calls.specs.Answers.{answer_of}
-use Rattle.backup_names.specs.Changes.{Changes, FinishesZone}
+use Rattle.backup_names.specs.Changes.{ChangesTable, FinishesZone}
 use Rattle.backup_names.specs.Ends.{ShowsRefusal}
 use Rattle.backup_names.proofs.FinishLemmas.{finish_ended, shows_refusal, zone_fault, zone_makes}
 use Rattle.backup_names.proofs.OrderLemmas.{orders_of_logs}
@@ -12,7 +12,7 @@ use Rattle.backup_names.proofs.zones.finish_zone.Goals as goal
 
 pub returns-clause-makes : goal.returns-clause-makes
 returns-clause-makes g c =
-    subst (λ x. Changes x (FinishesZone c.args.id c.args.name.now) c.args.name.now c.finish.new.self) (sym c.finish_end.ensures)
+    subst (λ x. ChangesTable x (FinishesZone c.args.id c.args.name.now) c.args.name.now c.finish.new.self) (sym c.finish_end.ensures)
     (finish_ended c.args.name.now c.finish.new.self c.args.id (answer_of (Some c.args.reply)) (FinishesZone c.args.id c.args.name.now) _ c.requires.settled (zone_makes c.args.name.now c.args.id (answer_of (Some c.args.reply))) c.finish.result c.finish.ensures.logged c.finish.ensures.serves).changes
 
 pub returns-clause-orders : goal.returns-clause-orders

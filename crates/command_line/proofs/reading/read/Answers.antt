@@ -1,58 +1,26 @@
-use Rattle.std.proofs.Common.{◌≡◌, inl, inr, refl, map, ap, true, ◌∙◌, List, subst, sym, [], IfOk, IfErr}
-use Rattle.std.proofs.lemmas.Result.{IfErr-weaker, IfOk-weaker}
-use Rattle.clap.specs.Words.{App, fault_of, is_simple_and_free, kind_of, HasKind, Text, is_simple as is_simple_app, subcommand_of}
-use Rattle.clap.proofs.OnLiterals.{clap_on_literals}
-use Rattle.clap_lines.specs.Orders.{HasMistake, order_at}
-use Rattle.clap_lines.specs.declared.told.OrderFault.TheVariants.{Usage}
-use Rattle.clap_lines.proofs.OrderLemmas.{found_by_clap, order_from, refusal_from, shown_from}
+use Rattle.std.proofs.Common.{map}
+use Rattle.clap.specs.Words.{subcommand_rows_of}
+use Rattle.clap_lines.proofs.ParseLemmas.{answer_of_error, answer_of_values, mistake_of_error, mistake_of_values}
 use Rattle.command_line.specs.Line as line
-use Rattle.command_line.specs.Orders.{Answers, IsHelp, IsVersion, line_fault, order_named}
-use Rattle.command_line.proofs.OrderLemmas.{OrderRead, ordered, plain}
+use Rattle.command_line.specs.Orders.{IsHelp, IsVersion, order_named}
+use Rattle.command_line.proofs.OrderLemmas.{known, ordered}
 use Rattle.command_line.proofs.reading.read.Goals as goal
-
-is_simple : is_simple_and_free line.hkms ≡ true
-unfolding clap_on_literals
-is_simple = refl
-
-is_plain : is_simple_app line.hkms ≡ true
-unfolding clap_on_literals
-is_plain = refl
 
 pub returns-in-Err-clause-usage : goal.returns-in-Err-clause-usage
 returns-in-Err-clause-usage g c =
-    let words : List Text = map g.S.AsStr.text c.args.words.now in
-    let same = c.in_ok-command.ensures in
-    let has : HasKind (fault_of line.hkms words) c.in-Err.error = subst (λ (a : App). HasKind (fault_of a words) c.in-Err.error) same (c.in-Err.ensures.kinds (ap is_simple_and_free same ∙ is_simple)) in
-    IfErr-weaker c.order_without_command.result _ _
-    (λ f h u. elim has [
-      | inl oom ↦ absurd ((h u).0 oom)
-      | inr among ↦ (kind_of c.in-Err.error, found_by_clap line.hkms order_named words (kind_of c.in-Err.error) among, (h u).1, (h u).2)
-    ])
-    c.order_without_command.ensures.usage
+    mistake_of_error line.hkms order_named known _ c.in_ok-command.ensures (map g.S.AsStr.text c.args.words.now) c.order_without_command.result c.in-Err.error c.in-Err.ensures.kinds c.order_without_command.ensures.usage
 
 pub returns-in-Err-clause-ok : goal.returns-in-Err-clause-ok
 returns-in-Err-clause-ok g c =
-    let words : List Text = map g.S.AsStr.text c.args.words.now in
-    let same = c.in_ok-command.ensures in
-    let has : HasKind (fault_of line.hkms words) c.in-Err.error = subst (λ (a : App). HasKind (fault_of a words) c.in-Err.error) same (c.in-Err.ensures.kinds (ap is_simple_and_free same ∙ is_simple)) in
-    IfOk-weaker c.order_without_command.result _ _ (λ o shown. inr (shown_from line.hkms order_named IsHelp IsVersion o (kind_of c.in-Err.error) words shown has)) c.order_without_command.ensures.shown
+    answer_of_error line.hkms order_named known _ c.in_ok-command.ensures (map g.S.AsStr.text c.args.words.now) IsHelp IsVersion c.order_without_command.result c.in-Err.error c.in-Err.ensures.kinds
+    c.order_without_command.ensures.shown
 
 pub returns-in-Ok-clause-ok : goal.returns-in-Ok-clause-ok
 returns-in-Ok-clause-ok g c =
-    let words : List Text = map g.S.AsStr.text c.args.words.now in
-    let same = c.in_ok-command.ensures in
-    let parsed = c.in-Ok.ensures in
-    let none : fault_of line.hkms words ≡ [] = subst (λ (a : App). fault_of a words ≡ []) same (parsed.kinds (ap is_simple_and_free same ∙ is_simple)) in
-    let entered = (parsed.matches (ap is_simple_app same ∙ is_plain)).1 ∙ ap (λ (a : App). subcommand_of a words) same in
-    subst (λ (r : OrderRead). IfOk r (λ order. Answers order words)) (sym c.ok_or.ensures.value)
-    (order_from line.hkms order_named IsHelp IsVersion _ words none (ordered c.order_of.result words (c.order_of.ensures ∙ ap (order_at order_named) entered)))
+    answer_of_values line.hkms order_named known _ c.in_ok-command.ensures (map g.S.AsStr.text c.args.words.now) IsHelp IsVersion c.ok_or.result _ c.in-Ok.ensures.kinds (λ s. (c.in-Ok.ensures.matches s).1)
+    (ordered c.ok_or.result c.order_of.result (subcommand_rows_of c.in-Ok.matches) c.ok_or.ensures.value c.order_of.ensures)
 
 pub returns-in-Ok-clause-usage : goal.returns-in-Ok-clause-usage
 returns-in-Ok-clause-usage g c =
-    let words : List Text = map g.S.AsStr.text c.args.words.now in
-    let same = c.in_ok-command.ensures in
-    let parsed = c.in-Ok.ensures in
-    let none : fault_of line.hkms words ≡ [] = subst (λ (a : App). fault_of a words ≡ []) same (parsed.kinds (ap is_simple_and_free same ∙ is_simple)) in
-    let entered = (parsed.matches (ap is_simple_app same ∙ is_plain)).1 ∙ ap (λ (a : App). subcommand_of a words) same in
-    subst (λ (r : OrderRead). IfErr r (λ fault. fault ≡ Usage → HasMistake (line_fault words))) (sym c.ok_or.ensures.value)
-    (refusal_from line.hkms order_named _ words plain none (ordered c.order_of.result words (c.order_of.ensures ∙ ap (order_at order_named) entered)))
+    mistake_of_values line.hkms order_named known _ c.in_ok-command.ensures (map g.S.AsStr.text c.args.words.now) c.ok_or.result _ c.in-Ok.ensures.kinds (λ s. (c.in-Ok.ensures.matches s).1)
+    (ordered c.ok_or.result c.order_of.result (subcommand_rows_of c.in-Ok.matches) c.ok_or.ensures.value c.order_of.ensures)

@@ -2,7 +2,7 @@ use Rattle.std.proofs.Common.{◌≡◌, ◌-◌, length, drop, refl, IsTrue, sy
 use Rattle.hk_base.proofs.Runs.{begin, compose, both_read}
 use Rattle.frame_log.specs.declared.gates.Next.TheVariants as nexts
 use Rattle.frame_log.specs.Format.{NoLog, part, Broken}
-use Rattle.frame_log.specs.Scan.{IsNext, IsEnd, NextFits}
+use Rattle.frame_log.specs.Scan.{IsNextItem, IsEnd, NextFits}
 use Rattle.frame_log.proofs.Goings.{going}
 use Rattle.frame_log.proofs.Scans.{first, next_counted, last, none}
 use Rattle.frame_log.proofs.Windows.{nothing, shown, still_shown}
@@ -30,7 +30,7 @@ gates-preserved g c =
           let tells1 = subst (λ b. IsTrue b) (sym inv.going.run.tells) tells in
           let shows = still_shown R _ c.gates.window c.show.new.self c.gates.at 5 (inv.same.reads tells) (c.in_ok-show.ensures.shows tells1) (inv.window tells) in
           let long : length (drop c.gates.at R) ≡ c.args.size - c.gates.at = omega (arith, length-drop c.gates.at R, c.requires.size tells) in
-          let here : IsNext (drop c.gates.at R) (nexts.Payload c.in-Payload.count) =
+          let here : IsNextItem (drop c.gates.at R) (nexts.Payload c.in-Payload.count) =
           c.in-Payload.ensures.next (drop c.gates.at R) (sym long) (c.bytes_at.ensures ∙ shown R c.show.new.self c.gates.at 5 (omega (arith, c.requires.size tells, inv.inside)) shows) in
           next_counted c.args.size R c.gates.at (inv.tells tells) c.in-Payload.count (omega (arith, long, fits.0)) here;
       window = λ tells.

@@ -1,7 +1,7 @@
 use Rattle.std.proofs.Common.{subst}
 use Rattle.kms_calls.specs.Shown.{Shown}
 use Rattle.kms_json.specs.Replies.{row_data}
-use Rattle.kms_json.specs.Writing.{AddsValue}
+use Rattle.kms_json.specs.Writing.{AddsData}
 use Rattle.kms_json.proofs.Adding.{adds_none, all_rows, one_more_row}
 use Rattle.kms_json.proofs.rows.write_versions.Goals as goal
 
@@ -10,7 +10,7 @@ loop-row-init c = adds_none c.open_array.new.out
 
 pub loop-row-preserved : goal.loop-row-preserved
 loop-row-preserved c =
-    let added = subst (λ (r : Shown). AddsValue (row_data r) c.loop-row.out c.write_shown.new.out) c.row.view_is c.in_ok-write_shown.ensures in
+    let added = subst (λ (r : Shown). AddsData (row_data r) c.loop-row.out c.write_shown.new.out) c.row.view_is c.in_ok-write_shown.ensures in
     one_more_row row_data c.as_slice-row-items.result.now c.loop-row.row-index c.row-item.result _ _ _ c.loop-row-test.true c.row-item.is c.loop-row.invariant added
 
 pub returns : goal.returns

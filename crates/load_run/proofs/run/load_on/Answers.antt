@@ -4,7 +4,7 @@ use Rattle.kms_acls.specs.Agreement.{AreListsOf}
 use Rattle.prop_text.specs.Sizes.{default_sizes}
 use Rattle.prop_text.specs.SizeValues.{SizeValues}
 use Rattle.prop_text.specs.declared.lines.PropLine.{PropLine}
-use Rattle.world_run.specs.Keeps.{Begins}
+use Rattle.world_run.specs.Keeps.{BeginsFirstWorld}
 use Rattle.load_run.specs.declared.counts.Counts.{Counts}
 use Rattle.load_run.specs.History.{DoesInto}
 use Rattle.load_run.specs.Load.{LoadLeads, Loads}
@@ -16,13 +16,13 @@ use Rattle.load_run.proofs.run.load_on.Goals as goal
 
 pub do_all_in-requires : goal.do_all_in-requires
 do_all_in-requires g c =
-    let begins = subst (λ (sizes : SizeValues). Begins sizes (state_of c.args.disk.now) (state_of c.start.new.disk) c.in-Ok.world) c.requires.sizes c.in-Ok.ensures.began in
+    let begins = subst (λ (sizes : SizeValues). BeginsFirstWorld sizes (state_of c.args.disk.now) (state_of c.start.new.disk) c.in-Ok.world) c.requires.sizes c.in-Ok.ensures.began in
     let lists = subst (λ (lines : List PropLine). AreListsOf c.in-Ok.world.keys.acls lines) c.requires.lines c.in-Ok.ensures.lists in
     record { ready = ready_at_start default_sizes open_lines (state_of c.args.disk.now) (state_of c.start.new.disk) c.in-Ok.world refl begins lists }
 
 pub returns-in-Ok : goal.returns-in-Ok
 returns-in-Ok g c =
-    let begins = subst (λ (sizes : SizeValues). Begins sizes (state_of c.args.disk.now) (state_of c.start.new.disk) c.in-Ok.world) c.requires.sizes c.in-Ok.ensures.began in
+    let begins = subst (λ (sizes : SizeValues). BeginsFirstWorld sizes (state_of c.args.disk.now) (state_of c.start.new.disk) c.in-Ok.world) c.requires.sizes c.in-Ok.ensures.began in
     let lists = subst (λ (lines : List PropLine). AreListsOf c.in-Ok.world.keys.acls lines) c.requires.lines c.in-Ok.ensures.lists in
     record {
       loads =

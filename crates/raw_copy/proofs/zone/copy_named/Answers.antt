@@ -1,6 +1,6 @@
 use Rattle.std.proofs.Common.{inr, refl, subst, sym}
 use Rattle.backup_names.proofs.OrderLemmas.{no_orders}
-use Rattle.row_copies.specs.Clusters.{IsTree}
+use Rattle.row_copies.specs.Clusters.{IsTreeOfRows}
 use Rattle.name_store.specs.Table.{NameTable}
 use Rattle.world_rows.specs.Rows.{place_rows, table_of}
 use Rattle.raw_copy.specs.Copies.{copying}
@@ -14,7 +14,7 @@ copy_place-requires-clause-world g c = c.check_zone.ensures.read.ready
 
 pub copy_place-requires-clause-tree : goal.copy_place-requires-clause-tree
 copy_place-requires-clause-tree g c =
-    subst (λ (t : NameTable). IsTree (place_rows t c.args.place.now)) (sym (table_kept g.D.Disk.state g.W.Words.to_come c.args.now (record { disk = c.args.disk.now; world = c.args.world.now; words = c.args.rand.now }) (record { disk = c.check_zone.new.disk; world = c.check_zone.new.world; words = c.check_zone.new.rand }) c.check_zone.ensures.read)) (c.requires.trees c.args.place.now c.requires.place c.in-Ok.ensures.directory)
+    subst (λ (t : NameTable). IsTreeOfRows (place_rows t c.args.place.now)) (sym (table_kept g.D.Disk.state g.W.Words.to_come c.args.now (record { disk = c.args.disk.now; world = c.args.world.now; words = c.args.rand.now }) (record { disk = c.check_zone.new.disk; world = c.check_zone.new.world; words = c.check_zone.new.rand }) c.check_zone.ensures.read)) (c.requires.trees c.args.place.now c.requires.place c.in-Ok.ensures.directory)
 
 pub returns-in-Ok-clause-all : goal.returns-in-Ok-clause-all
 returns-in-Ok-clause-all g c =

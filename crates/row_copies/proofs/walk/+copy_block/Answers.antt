@@ -5,7 +5,7 @@ use Rattle.inode_tree.specs.Listing.{children}
 use Rattle.inode_tree.specs.Rows.{Entry}
 use Rattle.row_blocks.specs.Below.{below}
 use Rattle.row_copies.specs.Copies.{IsTooLong, StepRefuses}
-use Rattle.row_copies.specs.Walks.{Adds, Counts, IsNext, Stops}
+use Rattle.row_copies.specs.Walks.{AddsCopies, CountsRows, IsNextSubtree, StopsWalk}
 use Rattle.row_copies.proofs.AddLemmas.{keeps-rows, keeps-same}
 use Rattle.row_copies.proofs.NextLemmas.{kids-of}
 use Rattle.row_copies.proofs.StepLemmas.{one, steps-join}
@@ -76,7 +76,7 @@ copy_block-requires g t c κs within =
     let rule : is_relative (c.args.from.now ++ c.child-item.result.name ∷ []) ≡ true = subst (λ (q : List (List ℕ)). is_relative q ≡ true) (sym path) (kid-ruled (g.C.Clusters.state c.args.clusters.now).source.rows c.args.from.now c.loop-child.child-index c.facts.ensures.source few) in
     let short : length (c.args.from.now ++ c.child-item.result.name ∷ []) ≤ 100 = relative-short (c.args.from.now ++ c.child-item.result.name ∷ []) rule in
     let long = ap length c.in-Ok-child_path.ensures.child in
-    let next = subst (λ (q : List (List ℕ)). IsNext q c.args.to.now (g.C.Clusters.state c.loop-child.clusters)) (sym (c.in-Ok-child_path.ensures.child ∙ path)) (walked-kid c.args.from.now c.args.to.now c.loop-child.child-index (g.C.Clusters.state c.args.clusters.now) (g.C.Clusters.state c.loop-child.clusters) c.args.counts.now c.loop-child.counts c.facts.ensures.source c.loop-child.invariant.walked c.requires.next few) in
+    let next = subst (λ (q : List (List ℕ)). IsNextSubtree q c.args.to.now (g.C.Clusters.state c.loop-child.clusters)) (sym (c.in-Ok-child_path.ensures.child ∙ path)) (walked-kid c.args.from.now c.args.to.now c.loop-child.child-index (g.C.Clusters.state c.args.clusters.now) (g.C.Clusters.state c.loop-child.clusters) c.args.counts.now c.loop-child.counts c.facts.ensures.source c.loop-child.invariant.walked c.requires.next few) in
     (omega (arith, long, length-append c.args.from.now (c.child-item.result.name ∷ []), short), (within, (c.loop-child.invariant.ready, next)))
 
 pub returns-in-Err-copy_block-clause-err : goal.returns-in-Err-copy_block-clause-err
@@ -84,7 +84,7 @@ returns-in-Err-copy_block-clause-err g t c =
     let is : c.as_slice-child-items.result.now ≡ children (g.C.Clusters.state c.args.clusters.now).source.rows c.args.from.now = c.as_slice-child-items.ensures ∙ c.in-Ok-list.ensures.list ∙ ap (λ (rows : List Entry). children rows c.args.from.now) c.in-Ok.ensures.ok.adds.source.rows in
     let few : c.loop-child.child-index < length (kids-of (g.C.Clusters.state c.args.clusters.now).source.rows c.args.from.now) = omega (arith, c.loop-child-test.true, many-kids (g.C.Clusters.state c.args.clusters.now).source.rows c.args.from.now c.as_slice-child-items.result.now is) in
     let path : c.args.from.now ++ c.child-item.result.name ∷ [] ≡ (get_or (kids-of (g.C.Clusters.state c.args.clusters.now).source.rows c.args.from.now) c.loop-child.child-index no_entry).path = kid-path (g.C.Clusters.state c.args.clusters.now).source.rows c.args.from.now c.as_slice-child-items.result.now c.loop-child.child-index c.child-item.result c.child-item.result is c.loop-child-test.true c.child-item.is in
-    walked-stops c.args.from.now c.args.to.now c.loop-child.child-index (g.C.Clusters.state c.args.clusters.now) (g.C.Clusters.state c.loop-child.clusters) c.args.counts.now c.loop-child.counts c.facts.ensures.source c.loop-child.invariant.walked (g.C.Clusters.state c.copy_block.new.clusters) few (subst (λ (q : List (List ℕ)). Stops c.args.to.now (below (g.C.Clusters.state c.loop-child.clusters).source.rows q) (g.C.Clusters.state c.loop-child.clusters) (g.C.Clusters.state c.copy_block.new.clusters)) (c.in-Ok-child_path.ensures.child ∙ path) c.in-Err-copy_block.ensures.err)
+    walked-stops c.args.from.now c.args.to.now c.loop-child.child-index (g.C.Clusters.state c.args.clusters.now) (g.C.Clusters.state c.loop-child.clusters) c.args.counts.now c.loop-child.counts c.facts.ensures.source c.loop-child.invariant.walked (g.C.Clusters.state c.copy_block.new.clusters) few (subst (λ (q : List (List ℕ)). StopsWalk c.args.to.now (below (g.C.Clusters.state c.loop-child.clusters).source.rows q) (g.C.Clusters.state c.loop-child.clusters) (g.C.Clusters.state c.copy_block.new.clusters)) (c.in-Ok-child_path.ensures.child ∙ path) c.in-Err-copy_block.ensures.err)
 
 pub returns-in-Err-copy_block-clause-steps : goal.returns-in-Err-copy_block-clause-steps
 returns-in-Err-copy_block-clause-steps g t c =
@@ -101,8 +101,8 @@ loop-child-preserved g t c =
       steps = steps-join g.C.Clusters.follows c.args.clusters.now c.loop-child.clusters c.copy_block.new.clusters c.loop-child.invariant.steps c.copy_block.ensures.steps;
       walked = subst (λ (n : ℕ). Walked c.args.from.now c.args.to.now n (g.C.Clusters.state c.args.clusters.now) (g.C.Clusters.state c.copy_block.new.clusters) c.args.counts.now c.copy_block.new.counts) next
           (walked-next c.args.from.now c.args.to.now c.loop-child.child-index (g.C.Clusters.state c.args.clusters.now) (g.C.Clusters.state c.loop-child.clusters) c.args.counts.now c.loop-child.counts c.facts.ensures.source c.loop-child.invariant.walked (g.C.Clusters.state c.copy_block.new.clusters) c.copy_block.new.counts few
-          (subst (λ (q : List (List ℕ)). Adds c.args.to.now (below (g.C.Clusters.state c.loop-child.clusters).source.rows q) (g.C.Clusters.state c.loop-child.clusters) (g.C.Clusters.state c.copy_block.new.clusters)) (c.in-Ok-child_path.ensures.child ∙ path) c.in-Ok-copy_block.ensures.adds)
-          (subst (λ (q : List (List ℕ)). Counts (below (g.C.Clusters.state c.loop-child.clusters).source.rows q) c.loop-child.counts c.copy_block.new.counts) (c.in-Ok-child_path.ensures.child ∙ path) c.in-Ok-copy_block.ensures.counts));
+          (subst (λ (q : List (List ℕ)). AddsCopies c.args.to.now (below (g.C.Clusters.state c.loop-child.clusters).source.rows q) (g.C.Clusters.state c.loop-child.clusters) (g.C.Clusters.state c.copy_block.new.clusters)) (c.in-Ok-child_path.ensures.child ∙ path) c.in-Ok-copy_block.ensures.adds)
+          (subst (λ (q : List (List ℕ)). CountsRows (below (g.C.Clusters.state c.loop-child.clusters).source.rows q) c.loop-child.counts c.copy_block.new.counts) (c.in-Ok-child_path.ensures.child ∙ path) c.in-Ok-copy_block.ensures.counts));
     }
 
 pub returns-clause-adds : goal.returns-clause-adds

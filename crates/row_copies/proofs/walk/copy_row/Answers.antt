@@ -1,9 +1,9 @@
 use Rattle.std.proofs.Common.{◌≡◌, ◌⊎◌, inl, ℕ, Bool, List, true, subst}
 use Rattle.inode_tree.specs.Rows.{is_marked}
 use Rattle.row_blocks.specs.Below.{below}
-use Rattle.row_copies.specs.Clusters.{KeepsRows, MakesDirectory}
+use Rattle.row_copies.specs.Clusters.{KeepsRows, MakesCopyDirectory}
 use Rattle.row_copies.specs.Copies.{IsTooLong, StepRefuses}
-use Rattle.row_copies.specs.Walks.{CopiesRow, MakesCopy, Stops}
+use Rattle.row_copies.specs.Walks.{CopiesRow, MakesCopy, StopsWalk}
 use Rattle.row_copies.proofs.StepLemmas.{if-ok, on-err, one, steps-join}
 use Rattle.row_copies.proofs.WalkLemmas.{kept-stops, row-copied, row-stopped}
 use Rattle.row_copies.proofs.CauseLemmas.{ends-call, ends-long, ends-now, free-keeps, then-ends, wide-ends}
@@ -30,9 +30,9 @@ returns-in-Ok-join-clause-err g c =
     let a = g.C.Clusters.state c.args.clusters.now in
     let b = g.C.Clusters.state c.look.new.self in
     let e = g.C.Clusters.state c.make_row.new.clusters in
-    on-err (KeepsRows b e ⊎ ((is_marked c.in-Ok.row ≡ true) × MakesDirectory c.in-Ok-join.path b e)) (Stops c.args.to.now (below a.source.rows c.args.from.now) a e) c.make_row.result c.make_row.ensures.err (λ ended.
+    on-err (KeepsRows b e ⊎ ((is_marked c.in-Ok.row ≡ true) × MakesCopyDirectory c.in-Ok-join.path b e)) (StopsWalk c.args.to.now (below a.source.rows c.args.from.now) a e) c.make_row.result c.make_row.ensures.err (λ ended.
     row-stopped c.args.from.now c.args.to.now a c.requires.next c.facts.ensures.source c.facts.ensures.target c.in-Ok.row b e c.in-Ok.ensures.row c.look.ensures.keeps
-    (subst (λ (path : List (List ℕ)). KeepsRows b e ⊎ ((is_marked c.in-Ok.row ≡ true) × MakesDirectory path b e)) c.in-Ok-join.ensures.joined ended))
+    (subst (λ (path : List (List ℕ)). KeepsRows b e ⊎ ((is_marked c.in-Ok.row ≡ true) × MakesCopyDirectory path b e)) c.in-Ok-join.ensures.joined ended))
 
 pub returns-in-Ok-join-clause-steps : goal.returns-in-Ok-join-clause-steps
 returns-in-Ok-join-clause-steps g c =

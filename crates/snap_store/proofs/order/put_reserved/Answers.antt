@@ -1,7 +1,7 @@
 use Rattle.std.proofs.Common.{◌≡◌, ◌∙◌, ℕ, List, sym, subst}
 use Rattle.std.specs.List.{insert}
 use Rattle.std.specs.Vec.{vec_capacity, vec_len}
-use Rattle.frozen_nodes.specs.Forest.{AllBelow}
+use Rattle.frozen_nodes.specs.Forest.{AreBelow}
 use Rattle.snap_store.specs.Snapshots.{key_of, snapshot_cmp}
 use Rattle.snap_store.specs.Stored.{snapshots_of}
 use Rattle.snap_store.proofs.OrderLemmas.{Parted}
@@ -22,6 +22,6 @@ returns-clause-snapshots c = λ nodes.
 
 pub returns-clause-below : goal.returns-clause-below
 returns-clause-below c = λ n lt below.
-    subst (λ (roots : List ℕ). AllBelow n roots)
+    subst (λ (roots : List ℕ). AreBelow n roots)
     (sym (sure c.insert-2.result c.insert-2.new.self.items (insert c.args.roots.now.items c.place-at.result c.args.root) c.args.roots.now.items (vec_capacity c.args.roots.now) (vec_len c.args.roots.now) c.insert-2.ensures.items c.insert-2.ensures.full c.requires.room.1))
     (below-insert n c.args.roots.now.items c.place-at.result c.args.root lt below)

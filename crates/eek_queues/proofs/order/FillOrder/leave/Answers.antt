@@ -1,6 +1,6 @@
 use Rattle.std.proofs.Common.{◌∙◌, List, sym, subst, arith}
 use Rattle.eek_queues.specs.declared.order.QueuePlace.{QueuePlace}
-use Rattle.eek_queues.specs.Order.{InOrder}
+use Rattle.eek_queues.specs.Order.{AreInPlaceOrder}
 use Rattle.eek_queues.proofs.Places.{in_order-with, remove-with_place}
 use Rattle.eek_queues.proofs.order.FillOrder.leave.Goals as goal
 
@@ -15,4 +15,4 @@ returns-then-place-self-clause-places c =
 
 pub place_in-at-requires : goal.place_in-at-requires
 place_in-at-requires c =
-    subst (λ (ps : List QueuePlace). InOrder ps) (sym c.requires.is) (in_order-with c.args.self.now.limit c.args.place c.requires.others c.requires.order)
+    subst (λ (ps : List QueuePlace). AreInPlaceOrder ps) (sym c.requires.is) (in_order-with c.args.self.now.limit c.args.place c.requires.others c.requires.order)

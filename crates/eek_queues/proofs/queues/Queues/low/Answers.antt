@@ -4,13 +4,13 @@ use Rattle.std.specs.Option.{option_map}
 use Rattle.eek_queues.specs.declared.order.QueuePlace.{QueuePlace}
 use Rattle.eek_queues.specs.declared.rings.Ring.{Ring}
 use Rattle.eek_queues.specs.Queues.{AllQueues, IsLowest, Queue, limit, lowest}
-use Rattle.eek_queues.specs.Kept.{IsKept, queues_of}
+use Rattle.eek_queues.specs.Kept.{AreQueuesKept, queues_of}
 use Rattle.eek_queues.proofs.Lowest.{birth-of-place, first-place, lowest-is, none-is}
 use Rattle.eek_queues.proofs.RingLemmas.{seen}
 use Rattle.eek_queues.proofs.queues.Queues.low.Goals as goal
 
 -- the birth of the first place is that of the lowest queue
-module _ (old : AllQueues) (size watermark n : ℕ) (rings : List Ring) (places : List QueuePlace) (spare : ℕ) (k : IsKept size n rings places spare) (m : n ≡ min watermark size) (view : seen size watermark (queues_of rings) ≡ old) where
+module _ (old : AllQueues) (size watermark n : ℕ) (rings : List Ring) (places : List QueuePlace) (spare : ℕ) (k : AreQueuesKept size n rings places spare) (m : n ≡ min watermark size) (view : seen size watermark (queues_of rings) ≡ old) where
   first : (o : Option QueuePlace) → o ≡ slice_get places 0 → option_map (λ (p : QueuePlace). p.birth) o ≡ option_map (λ (q : Queue). q.birth) (lowest (limit old) old.queues)
   first o e =
       ap (option_map (λ (p : QueuePlace). p.birth)) (e ∙ ap (λ ps. slice_get ps 0) k.order ∙ first-place n (queues_of rings))

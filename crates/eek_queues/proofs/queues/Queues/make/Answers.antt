@@ -7,8 +7,8 @@ use Rattle.hk_base.specs.declared.names.Edek.{Edek}
 use Rattle.eek_queues.specs.declared.order.QueuePlace.{QueuePlace}
 use Rattle.eek_queues.specs.declared.rings.Ring.{Ring}
 use Rattle.eek_queues.specs.Queues.{has_queue, put_queue}
-use Rattle.eek_queues.specs.Order.{InOrder, place_of, with_place}
-use Rattle.eek_queues.specs.Kept.{IsKept, queue_of, queues_of}
+use Rattle.eek_queues.specs.Order.{AreInPlaceOrder, place_of, with_place}
+use Rattle.eek_queues.specs.Kept.{AreQueuesKept, queue_of, queues_of}
 use Rattle.eek_queues.proofs.Places.{in_order-places_of}
 use Rattle.eek_queues.proofs.RingLemmas.{changed, has-seen, insert-ring, kept-insert, length-places_of}
 use Rattle.eek_queues.proofs.queues.Queues.make.Goals as goal
@@ -19,7 +19,7 @@ reserve-requires c =
 
 pub enter-requires-clause-order : goal.enter-requires-clause-order
 enter-requires-clause-order c =
-    subst (λ (ps : List QueuePlace). InOrder ps) (sym (c.reserve.ensures.places ∙ c.self.invariant.0.order)) (in_order-places_of c.self.inside.order.limit (queues_of c.self.inside.rings.items))
+    subst (λ (ps : List QueuePlace). AreInPlaceOrder ps) (sym (c.reserve.ensures.places ∙ c.self.invariant.0.order)) (in_order-places_of c.self.inside.order.limit (queues_of c.self.inside.rings.items))
 
 pub enter-requires-clause-room : goal.enter-requires-clause-room
 enter-requires-clause-room c =
@@ -35,10 +35,10 @@ invariant_of-self-2 c =
     ∙ ap (with_place c.self.inside.order.limit (record { count = 0; birth = c.args.birth })) c.reserve.ensures.places
     ∙ ap (λ (b : Buffer Edek). with_place c.self.inside.order.limit (record { count = length b.items; birth = c.args.birth }) c.self.inside.order.places.items) (sym c.in_ok-ready.ensures) in
     let room : suc (length c.self.inside.rings.items) ≤ vec_capacity c.enter.new.self.places = omega (arith, c.in_ok-reserve.ensures.room, c.enter.ensures.room) in
-    let kept : IsKept c.self.inside.size c.enter.new.self.limit (insert c.self.inside.rings.items c.place_of_birth-at.result new) c.enter.new.self.places.items (vec_capacity c.enter.new.self.places) =
+    let kept : AreQueuesKept c.self.inside.size c.enter.new.self.limit (insert c.self.inside.rings.items c.place_of_birth-at.result new) c.enter.new.self.places.items (vec_capacity c.enter.new.self.places) =
     kept-insert _ _ _ _ _ c.self.invariant.0 c.place_of_birth-at.result new c.enter.new.self.limit _ _ none c.place_of_birth-at.ensures.most c.place_of_birth-at.ensures.parted
     (ap (λ (b : Buffer Edek). b.capacity) c.in_ok-ready.ensures) (c.enter.ensures.limit ∙ c.reserve.ensures.limit) places room in (
-      subst (λ (rings : List Ring). IsKept c.self.inside.size c.enter.new.self.limit rings c.enter.new.self.places.items (vec_capacity c.enter.new.self.places)) (sym c.in_ok-insert.ensures.items) kept,
+      subst (λ (rings : List Ring). AreQueuesKept c.self.inside.size c.enter.new.self.limit rings c.enter.new.self.places.items (vec_capacity c.enter.new.self.places)) (sym c.in_ok-insert.ensures.items) kept,
       c.enter.ensures.limit ∙ c.reserve.ensures.limit ∙ c.self.invariant.1,
     )
 

@@ -2,7 +2,7 @@ use Rattle.std.proofs.Common.{length, ap, length-append, ◌≡◌, ◌++◌, []
 use Rattle.hk_base.specs.Disk.{DiskState, Tells, CallOn}
 use Rattle.hk_base.proofs.Runs.{begin, then, weaker}
 use Rattle.frame_log.specs.Format.{behind}
-use Rattle.frame_log.specs.Stands.{front, IsShut, IsReady, Is}
+use Rattle.frame_log.specs.Stands.{front, IsShut, IsFrameReady, Is}
 use Rattle.frame_log.proofs.Goings.{one}
 use Rattle.frame_log.proofs.Openings.{run_then, rose_since}
 use Rattle.frame_log.proofs.Reading.{before_or_after, fit_push, joined, end_push}
@@ -103,7 +103,7 @@ returns-in_err-write_at-2-clause-any_moment g c tells payloads s =
     let l1 = behind_leaves F end s.end _ _ _ s.leaves c.write_at.ensures.crash in
     let bytes : c.deref.result.now ≡ behind x ++ 0 ∷ [] = c.deref.ensures.value ∙ c.in_ok-behind.ensures in
     let s1 = staged F end s.end x _ _ _ s.reads bytes (c.in_ok-write_at.ensures.written tells) in
-    let l2 : (b : List ℕ) → (g.D.Disk.state c.sync.new.self).leaves file b → IsReady F x b = λ b h. subst (IsReady F x) (sym (c.in_ok-sync.ensures.durable tells1 b h)) (ready F 0 x _ s1) in
+    let l2 : (b : List ℕ) → (g.D.Disk.state c.sync.new.self).leaves file b → IsFrameReady F x b = λ b h. subst (IsFrameReady F x) (sym (c.in_ok-sync.ensures.durable tells1 b h)) (ready F 0 x _ s1) in
     let l3 = gate_leaves F end s.end x _ _ l2 c.write_at-2.ensures.crash in
     let go1 = then (begin file (g.D.Disk.state c.args.disk.now) P) c.write_at.ensures.call file_in (λ b h. inl (l1 b h)) in
     let go2 = then go1 c.sync.ensures.call file_in (λ b h. inl (l1 b (c.sync.ensures.same.leaves b h))) in
@@ -123,8 +123,8 @@ returns-in_err-write_at-2-clause-unsettled g c fault tells payloads s =
     let l1 = behind_leaves F end s.end _ _ _ s.leaves c.write_at.ensures.crash in
     let bytes : c.deref.result.now ≡ behind x ++ 0 ∷ [] = c.deref.ensures.value ∙ c.in_ok-behind.ensures in
     let s1 = staged F end s.end x _ _ _ s.reads bytes (c.in_ok-write_at.ensures.written tells) in
-    let l2 : (b : List ℕ) → (g.D.Disk.state c.sync.new.self).leaves file b → IsReady F x b = λ b h. subst (IsReady F x) (sym (c.in_ok-sync.ensures.durable tells1 b h)) (ready F 0 x _ s1) in
-    let r2 : IsReady F x ((g.D.Disk.state c.sync.new.self).reads file) = subst (IsReady F x) (sym (c.sync.ensures.same.reads tells1)) (ready F 0 x _ s1) in
+    let l2 : (b : List ℕ) → (g.D.Disk.state c.sync.new.self).leaves file b → IsFrameReady F x b = λ b h. subst (IsFrameReady F x) (sym (c.in_ok-sync.ensures.durable tells1 b h)) (ready F 0 x _ s1) in
+    let r2 : IsFrameReady F x ((g.D.Disk.state c.sync.new.self).reads file) = subst (IsFrameReady F x) (sym (c.sync.ensures.same.reads tells1)) (ready F 0 x _ s1) in
     let l3 = gate_leaves F end s.end x _ _ l2 c.write_at-2.ensures.crash in
     record {
       sized = s.sized;
@@ -147,7 +147,7 @@ returns-in_err-sync-2-clause-any_moment g c tells payloads s =
     let l1 = behind_leaves F end s.end _ _ _ s.leaves c.write_at.ensures.crash in
     let bytes : c.deref.result.now ≡ behind x ++ 0 ∷ [] = c.deref.ensures.value ∙ c.in_ok-behind.ensures in
     let s1 = staged F end s.end x _ _ _ s.reads bytes (c.in_ok-write_at.ensures.written tells) in
-    let l2 : (b : List ℕ) → (g.D.Disk.state c.sync.new.self).leaves file b → IsReady F x b = λ b h. subst (IsReady F x) (sym (c.in_ok-sync.ensures.durable tells1 b h)) (ready F 0 x _ s1) in
+    let l2 : (b : List ℕ) → (g.D.Disk.state c.sync.new.self).leaves file b → IsFrameReady F x b = λ b h. subst (IsFrameReady F x) (sym (c.in_ok-sync.ensures.durable tells1 b h)) (ready F 0 x _ s1) in
     let l3 = gate_leaves F end s.end x _ _ l2 c.write_at-2.ensures.crash in
     let go1 = then (begin file (g.D.Disk.state c.args.disk.now) P) c.write_at.ensures.call file_in (λ b h. inl (l1 b h)) in
     let go2 = then go1 c.sync.ensures.call file_in (λ b h. inl (l1 b (c.sync.ensures.same.leaves b h))) in
@@ -169,8 +169,8 @@ returns-in_err-sync-2-clause-unsettled g c fault tells payloads s =
     let l1 = behind_leaves F end s.end _ _ _ s.leaves c.write_at.ensures.crash in
     let bytes : c.deref.result.now ≡ behind x ++ 0 ∷ [] = c.deref.ensures.value ∙ c.in_ok-behind.ensures in
     let s1 = staged F end s.end x _ _ _ s.reads bytes (c.in_ok-write_at.ensures.written tells) in
-    let l2 : (b : List ℕ) → (g.D.Disk.state c.sync.new.self).leaves file b → IsReady F x b = λ b h. subst (IsReady F x) (sym (c.in_ok-sync.ensures.durable tells1 b h)) (ready F 0 x _ s1) in
-    let r2 : IsReady F x ((g.D.Disk.state c.sync.new.self).reads file) = subst (IsReady F x) (sym (c.sync.ensures.same.reads tells1)) (ready F 0 x _ s1) in
+    let l2 : (b : List ℕ) → (g.D.Disk.state c.sync.new.self).leaves file b → IsFrameReady F x b = λ b h. subst (IsFrameReady F x) (sym (c.in_ok-sync.ensures.durable tells1 b h)) (ready F 0 x _ s1) in
+    let r2 : IsFrameReady F x ((g.D.Disk.state c.sync.new.self).reads file) = subst (IsFrameReady F x) (sym (c.sync.ensures.same.reads tells1)) (ready F 0 x _ s1) in
     let l3 = gate_leaves F end s.end x _ _ l2 c.write_at-2.ensures.crash in
     let s3 = gate_written F end s.end 1 x _ _ r2 (c.in_ok-write_at-2.ensures.written tells2) in
     record {
@@ -178,7 +178,7 @@ returns-in_err-sync-2-clause-unsettled g c fault tells payloads s =
       payload = c.requires.payload;
       end = s.end;
       waits = refl;
-      reads = inr (subst (IsReady F x) (sym (c.sync-2.ensures.same.reads tells3)) (ready F 1 x _ s3));
+      reads = inr (subst (IsFrameReady F x) (sym (c.sync-2.ensures.same.reads tells3)) (ready F 1 x _ s3));
       leaves = λ b h. inr (l3 b (c.sync-2.ensures.same.leaves b h));
     }
 
@@ -194,7 +194,7 @@ returns-clause-any_moment g c tells payloads s =
     let l1 = behind_leaves F end s.end _ _ _ s.leaves c.write_at.ensures.crash in
     let bytes : c.deref.result.now ≡ behind x ++ 0 ∷ [] = c.deref.ensures.value ∙ c.in_ok-behind.ensures in
     let s1 = staged F end s.end x _ _ _ s.reads bytes (c.in_ok-write_at.ensures.written tells) in
-    let l2 : (b : List ℕ) → (g.D.Disk.state c.sync.new.self).leaves file b → IsReady F x b = λ b h. subst (IsReady F x) (sym (c.in_ok-sync.ensures.durable tells1 b h)) (ready F 0 x _ s1) in
+    let l2 : (b : List ℕ) → (g.D.Disk.state c.sync.new.self).leaves file b → IsFrameReady F x b = λ b h. subst (IsFrameReady F x) (sym (c.in_ok-sync.ensures.durable tells1 b h)) (ready F 0 x _ s1) in
     let l3 = gate_leaves F end s.end x _ _ l2 c.write_at-2.ensures.crash in
     let go1 = then (begin file (g.D.Disk.state c.args.disk.now) P) c.write_at.ensures.call file_in (λ b h. inl (l1 b h)) in
     let go2 = then go1 c.sync.ensures.call file_in (λ b h. inl (l1 b (c.sync.ensures.same.leaves b h))) in
@@ -216,8 +216,8 @@ returns-clause-added g c tells payloads s =
     let l1 = behind_leaves F end s.end _ _ _ s.leaves c.write_at.ensures.crash in
     let bytes : c.deref.result.now ≡ behind x ++ 0 ∷ [] = c.deref.ensures.value ∙ c.in_ok-behind.ensures in
     let s1 = staged F end s.end x _ _ _ s.reads bytes (c.in_ok-write_at.ensures.written tells) in
-    let l2 : (b : List ℕ) → (g.D.Disk.state c.sync.new.self).leaves file b → IsReady F x b = λ b h. subst (IsReady F x) (sym (c.in_ok-sync.ensures.durable tells1 b h)) (ready F 0 x _ s1) in
-    let r2 : IsReady F x ((g.D.Disk.state c.sync.new.self).reads file) = subst (IsReady F x) (sym (c.sync.ensures.same.reads tells1)) (ready F 0 x _ s1) in
+    let l2 : (b : List ℕ) → (g.D.Disk.state c.sync.new.self).leaves file b → IsFrameReady F x b = λ b h. subst (IsFrameReady F x) (sym (c.in_ok-sync.ensures.durable tells1 b h)) (ready F 0 x _ s1) in
+    let r2 : IsFrameReady F x ((g.D.Disk.state c.sync.new.self).reads file) = subst (IsFrameReady F x) (sym (c.sync.ensures.same.reads tells1)) (ready F 0 x _ s1) in
     let s3 = gate_written F end s.end 1 x _ _ r2 (c.in_ok-write_at-2.ensures.written tells2) in
     let done : IsShut (front file (payloads ++ x ∷ [])) ((g.D.Disk.state c.write_at-2.new.self).reads file) = (s3.0, s3.1 ∙ joined file payloads x s.sized c.requires.payload s3.0) in
     record {

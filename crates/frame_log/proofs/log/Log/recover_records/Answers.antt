@@ -4,7 +4,7 @@ use Rattle.hk_base.specs.Disk.{DiskState, Image, Tells, IsImage, CallOn, Reads, 
 use Rattle.hk_base.specs.Faults.{Rose}
 use Rattle.hk_base.proofs.Runs.{Going, begin, then, compose}
 use Rattle.frame_log.specs.Format.{log_of, NoLog, IsRecovered}
-use Rattle.frame_log.specs.Opens.{FailsAs, FailsFor, Recovers}
+use Rattle.frame_log.specs.Opens.{FailsAs, FailsFor, RecoversLog}
 use Rattle.frame_log.specs.declared.fault.LogFault.{LogFault}
 use Rattle.frame_log.specs.declared.fault.LogFault.TheVariants as log
 use Rattle.frame_log.specs.declared.fault.StartFault.{StartFault}
@@ -37,7 +37,7 @@ module _ (file : ℕ) (old mid : DiskState) (file_in : file < 2) (call : CallOn 
   synced : (P : List ℕ → Type 0) → ((b : List ℕ) → old.leaves file b → P b) → Going file old mid P
   synced P f = then (begin file old P) call file_in (λ b h. f b (same.leaves b h))
 
-  not_synced : {T : Type 0} (result : Result T LogFault) → result ≡ Err log.StoreFault → Rose old.faults mid.faults → Recovers file old mid (FailsAs result)
+  not_synced : {T : Type 0} (result : Result T LogFault) → result ≡ Err log.StoreFault → Rose old.faults mid.faults → RecoversLog file old mid (FailsAs result)
   not_synced result is rose = record {
     why = why_log old mid result (λ at other. absurd (cc (is, other))) (λ other. rose);
     any_moment = λ tells. (synced (λ b. old.leaves file b ⊎ IsRecovered file (old.reads file) b) (λ b h. inl h)).moments;
@@ -51,7 +51,7 @@ module _ (file : ℕ) (old mid : DiskState) (file_in : file < 2) (call : CallOn 
 
     opened : {fails : StartFault → Type 0} → RunOn file mid new → (Tells mid → LeavesOnly file mid new (IsRecovered file (mid.reads file)))
         → ((c : Image) → mid.left_since mid.moment c → IsImage mid c) → (Tells old → Only (old.reads file) (mid.leaves file))
-        → FailsFor file (λ bytes at. log_of file bytes ≡ NoLog at) (λ bytes. ⊥) mid new fails → Recovers file old new fails
+        → FailsFor file (λ bytes at. log_of file bytes ≡ NoLog at) (λ bytes. ⊥) mid new fails → RecoversLog file old new fails
     opened run moments only_now durable why = record {
       why = why_since old mid new (synced (old.leaves file) (λ b h. h)).run same.reads why;
       any_moment = λ tells. (compose (synced _ (λ b h. inl h)) (on_old tells run (moments (still call tells))) (λ b h. inr h)).moments;

@@ -4,7 +4,7 @@ use Rattle.std.specs.Prelude.{OnErr}
 use Rattle.hk_base.specs.Disk.{DiskState, Tells, CallOn, RunOn, LeavesOnly}
 use Rattle.hk_base.proofs.Runs.{begin, then, weaker}
 use Rattle.frame_log.specs.Format.{IsBeforeOrAfter}
-use Rattle.frame_log.specs.Stands.{front, IsShut, IsReady, Is}
+use Rattle.frame_log.specs.Stands.{front, IsShut, IsFrameReady, Is}
 use Rattle.frame_log.proofs.Goings.{one}
 use Rattle.frame_log.proofs.Openings.{run_then, rose_since}
 use Rattle.frame_log.proofs.Reading.{before_or_after, fit_push, joined, end_push}
@@ -118,8 +118,8 @@ returns-in_err-write_at-clause-any_moment g c tells payloads x s =
     let byte : slice_index_or c.read.new.buf 0 0 ≡ get_or R end 0 = byte_read c.read.new.buf _ end _ (omega arith) in1 (c.in_ok-read.ensures.answer tells1) (c.in_ok-read.ensures.bytes tells1) ∙ ap (λ (l : List ℕ). get_or l end 0) R1 in
     let only : (b : List ℕ) → (g.D.Disk.state c.read.new.self).leaves file b → b ≡ R = λ b h. c.in_ok-sync.ensures.durable tells b (c.read.ensures.same.leaves b h) in
     let rdy = not_shut F end s.end x R s.reads (λ z. c.if-byte-ne-SHUT.true (byte ∙ z)) in
-    let r2 : IsReady F x ((g.D.Disk.state c.read.new.self).reads file) = subst (IsReady F x) (sym R2) rdy in
-    let l3 = gate_leaves F end s.end x _ _ (λ b h. subst (IsReady F x) (sym (only b h)) rdy) c.write_at.ensures.crash in
+    let r2 : IsFrameReady F x ((g.D.Disk.state c.read.new.self).reads file) = subst (IsFrameReady F x) (sym R2) rdy in
+    let l3 = gate_leaves F end s.end x _ _ (λ b h. subst (IsFrameReady F x) (sym (only b h)) rdy) c.write_at.ensures.crash in
     let go1 = then (begin file (g.D.Disk.state c.args.disk.now) P) c.sync.ensures.call file_in (λ b h. s.leaves b (c.sync.ensures.same.leaves b h)) in
     let go2 = then go1 c.read.ensures.call file_in (λ b h. s.leaves b (c.sync.ensures.same.leaves b (c.read.ensures.same.leaves b h))) in
     let go3 = then go2 c.write_at.ensures.call file_in (λ b h. inr (l3 b h)) in
@@ -141,8 +141,8 @@ returns-in_err-write_at-clause-unsettled g c err tells payloads x s =
     let byte : slice_index_or c.read.new.buf 0 0 ≡ get_or R end 0 = byte_read c.read.new.buf _ end _ (omega arith) in1 (c.in_ok-read.ensures.answer tells1) (c.in_ok-read.ensures.bytes tells1) ∙ ap (λ (l : List ℕ). get_or l end 0) R1 in
     let only : (b : List ℕ) → (g.D.Disk.state c.read.new.self).leaves file b → b ≡ R = λ b h. c.in_ok-sync.ensures.durable tells b (c.read.ensures.same.leaves b h) in
     let rdy = not_shut F end s.end x R s.reads (λ z. c.if-byte-ne-SHUT.true (byte ∙ z)) in
-    let r2 : IsReady F x ((g.D.Disk.state c.read.new.self).reads file) = subst (IsReady F x) (sym R2) rdy in
-    let l3 = gate_leaves F end s.end x _ _ (λ b h. subst (IsReady F x) (sym (only b h)) rdy) c.write_at.ensures.crash in
+    let r2 : IsFrameReady F x ((g.D.Disk.state c.read.new.self).reads file) = subst (IsFrameReady F x) (sym R2) rdy in
+    let l3 = gate_leaves F end s.end x _ _ (λ b h. subst (IsFrameReady F x) (sym (only b h)) rdy) c.write_at.ensures.crash in
     record {
       sized = s.sized;
       payload = s.payload;
@@ -168,8 +168,8 @@ returns-in_err-sync-2-clause-any_moment g c tells payloads x s =
     let byte : slice_index_or c.read.new.buf 0 0 ≡ get_or R end 0 = byte_read c.read.new.buf _ end _ (omega arith) in1 (c.in_ok-read.ensures.answer tells1) (c.in_ok-read.ensures.bytes tells1) ∙ ap (λ (l : List ℕ). get_or l end 0) R1 in
     let only : (b : List ℕ) → (g.D.Disk.state c.read.new.self).leaves file b → b ≡ R = λ b h. c.in_ok-sync.ensures.durable tells b (c.read.ensures.same.leaves b h) in
     let rdy = not_shut F end s.end x R s.reads (λ z. c.if-byte-ne-SHUT.true (byte ∙ z)) in
-    let r2 : IsReady F x ((g.D.Disk.state c.read.new.self).reads file) = subst (IsReady F x) (sym R2) rdy in
-    let l3 = gate_leaves F end s.end x _ _ (λ b h. subst (IsReady F x) (sym (only b h)) rdy) c.write_at.ensures.crash in
+    let r2 : IsFrameReady F x ((g.D.Disk.state c.read.new.self).reads file) = subst (IsFrameReady F x) (sym R2) rdy in
+    let l3 = gate_leaves F end s.end x _ _ (λ b h. subst (IsFrameReady F x) (sym (only b h)) rdy) c.write_at.ensures.crash in
     let go1 = then (begin file (g.D.Disk.state c.args.disk.now) P) c.sync.ensures.call file_in (λ b h. s.leaves b (c.sync.ensures.same.leaves b h)) in
     let go2 = then go1 c.read.ensures.call file_in (λ b h. s.leaves b (c.sync.ensures.same.leaves b (c.read.ensures.same.leaves b h))) in
     let go3 = then go2 c.write_at.ensures.call file_in (λ b h. inr (l3 b h)) in
@@ -192,8 +192,8 @@ returns-in_err-sync-2-clause-unsettled g c err tells payloads x s =
     let byte : slice_index_or c.read.new.buf 0 0 ≡ get_or R end 0 = byte_read c.read.new.buf _ end _ (omega arith) in1 (c.in_ok-read.ensures.answer tells1) (c.in_ok-read.ensures.bytes tells1) ∙ ap (λ (l : List ℕ). get_or l end 0) R1 in
     let only : (b : List ℕ) → (g.D.Disk.state c.read.new.self).leaves file b → b ≡ R = λ b h. c.in_ok-sync.ensures.durable tells b (c.read.ensures.same.leaves b h) in
     let rdy = not_shut F end s.end x R s.reads (λ z. c.if-byte-ne-SHUT.true (byte ∙ z)) in
-    let r2 : IsReady F x ((g.D.Disk.state c.read.new.self).reads file) = subst (IsReady F x) (sym R2) rdy in
-    let l3 = gate_leaves F end s.end x _ _ (λ b h. subst (IsReady F x) (sym (only b h)) rdy) c.write_at.ensures.crash in
+    let r2 : IsFrameReady F x ((g.D.Disk.state c.read.new.self).reads file) = subst (IsFrameReady F x) (sym R2) rdy in
+    let l3 = gate_leaves F end s.end x _ _ (λ b h. subst (IsFrameReady F x) (sym (only b h)) rdy) c.write_at.ensures.crash in
     let tells3 = still c.write_at.ensures.call tells2 in
     let s3 = gate_written F end s.end 0 x _ _ r2 (c.in_ok-write_at.ensures.written tells2) in
     record {
@@ -201,7 +201,7 @@ returns-in_err-sync-2-clause-unsettled g c err tells payloads x s =
       payload = s.payload;
       end = s.end;
       waits = s.waits;
-      reads = inr (subst (IsReady F x) (sym (c.sync-then-byte-ne-SHUT.ensures.same.reads tells3)) (ready F 0 x _ s3));
+      reads = inr (subst (IsFrameReady F x) (sym (c.sync-then-byte-ne-SHUT.ensures.same.reads tells3)) (ready F 0 x _ s3));
       leaves = λ b h. inr (l3 b (c.sync-then-byte-ne-SHUT.ensures.same.leaves b h));
     }
 
@@ -225,8 +225,8 @@ returns-clause-any_moment g c tells payloads x s =
     elim c.if-byte-ne-SHUT.branch [
       | then-byte-ne-SHUT+in_ok-write_at+in_ok-sync-2 w ↦
           let rdy = not_shut F end s.end x R s.reads (λ z. w.if-byte-ne-SHUT.true (byte ∙ z)) in
-          let r2 : IsReady F x ((g.D.Disk.state c.read.new.self).reads file) = subst (IsReady F x) (sym R2) rdy in
-          let l3 = gate_leaves F end s.end x _ _ (λ b h. subst (IsReady F x) (sym (only b h)) rdy) w.write_at.ensures.crash in
+          let r2 : IsFrameReady F x ((g.D.Disk.state c.read.new.self).reads file) = subst (IsFrameReady F x) (sym R2) rdy in
+          let l3 = gate_leaves F end s.end x _ _ (λ b h. subst (IsFrameReady F x) (sym (only b h)) rdy) w.write_at.ensures.crash in
           let go3 = then go2 w.write_at.ensures.call file_in (λ b h. inr (l3 b h)) in
           let go4 = then go3 w.sync-then-byte-ne-SHUT.ensures.call file_in (λ b h. inr (l3 b (w.sync-then-byte-ne-SHUT.ensures.same.leaves b h))) in
           subst (λ d. LeavesOnly file (g.D.Disk.state c.args.disk.now) (g.D.Disk.state d) (IsBeforeOrAfter file payloads x)) (sym w.disk-is) (weaker (before_or_after file payloads x s.sized s.payload) go4.moments)
@@ -251,8 +251,8 @@ returns-clause-settled g c tells payloads x s =
     elim c.if-byte-ne-SHUT.branch [
       | then-byte-ne-SHUT+in_ok-write_at+in_ok-sync-2 w ↦
           let rdy = not_shut F end s.end x R s.reads (λ z. w.if-byte-ne-SHUT.true (byte ∙ z)) in
-          let r2 : IsReady F x ((g.D.Disk.state c.read.new.self).reads file) = subst (IsReady F x) (sym R2) rdy in
-          let l3 = gate_leaves F end s.end x _ _ (λ b h. subst (IsReady F x) (sym (only b h)) rdy) w.write_at.ensures.crash in
+          let r2 : IsFrameReady F x ((g.D.Disk.state c.read.new.self).reads file) = subst (IsFrameReady F x) (sym R2) rdy in
+          let l3 = gate_leaves F end s.end x _ _ (λ b h. subst (IsFrameReady F x) (sym (only b h)) rdy) w.write_at.ensures.crash in
           let tells3 = still w.write_at.ensures.call tells2 in
           let s3 = gate_written F end s.end 0 x _ _ r2 (w.in_ok-write_at.ensures.written tells2) in
           let done = shut F x _ s3 in

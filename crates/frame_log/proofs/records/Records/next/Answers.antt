@@ -4,7 +4,7 @@ use Rattle.hk_base.specs.Disk.{Tells}
 use Rattle.hk_base.proofs.Runs.{compose, both_read}
 use Rattle.frame_log.specs.declared.gates.Next.TheVariants as nexts
 use Rattle.frame_log.specs.Format.{part, Broken}
-use Rattle.frame_log.specs.Scan.{IsNext, IsEnd, NextFits}
+use Rattle.frame_log.specs.Scan.{IsNextItem, IsEnd, NextFits}
 use Rattle.frame_log.specs.Ahead.{Ahead, HasBytesOf}
 use Rattle.frame_log.proofs.Aheads.{no_more, none_in_so_few, not_broken, still_ahead, given}
 use Rattle.frame_log.proofs.Goings.{going}
@@ -38,7 +38,7 @@ returns-in-Payload-clause-first g c tells todo a =
     let long : length B ≡ old.size - old.at = omega (arith, length-drop old.at F, a.size) in
     let inside : old.at ≤ length F = omega (arith, a.size, old.at_in) in
     let fits : NextFits (old.size - old.at) (nexts.Payload count) = c.in-Payload.ensures.fits in
-    let here : IsNext B (nexts.Payload count) = c.in-Payload.ensures.next B (sym long) (c.bytes_at.ensures ∙ shown F c.show.new.self old.at 5 inside shows) in
+    let here : IsNextItem B (nexts.Payload count) = c.in-Payload.ensures.next B (sym long) (c.bytes_at.ensures ∙ shown F c.show.new.self old.at 5 inside shows) in
     let window1 : HasBytesOf (D1.reads old.file) c.show.new.self = subst (λ (l : List ℕ). HasBytesOf l c.show.new.self) (sym F1) shows.bytes in
     let copied : c.copy_payload.new.self.payload.items ≡ take count (drop (old.at + 5) F) = c.in_ok-copy_payload-in-Payload.ensures.copied tells1 window1 ∙ ap (λ (l : List ℕ). take count (drop (old.at + 5) l)) F1 in
     let window2 : HasBytesOf F c.copy_payload.new.self.window = subst (λ (l : List ℕ). HasBytesOf l c.copy_payload.new.self.window) F1 (c.copy_payload.ensures.window tells1 window1) in

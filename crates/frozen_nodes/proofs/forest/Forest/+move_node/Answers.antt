@@ -1,6 +1,6 @@
 use Rattle.std.proofs.Common.{◌≡◌, ◌∙◌, ◌+◌, ◌<◌, ◌++◌, ◌∷◌, [], ℕ, List, ap, sym, subst, arith, drop, get_or, length, take, take_all}
 use Rattle.std.proofs.lemmas.List.{take_more}
-use Rattle.frozen_nodes.specs.Forest.{AllBelow}
+use Rattle.frozen_nodes.specs.Forest.{AreBelow}
 use Rattle.frozen_nodes.specs.Moves.{AllMoved, AllReached}
 use Rattle.frozen_nodes.proofs.Copying.{drop-end, drop-joined, keeps-both, long-enough, take-joined}
 use Rattle.frozen_nodes.proofs.Grown.{keeps-itself}
@@ -32,7 +32,7 @@ loop-kid-init t c =
 pub move_node-requires : goal.move_node-requires
 move_node-requires t c =
     let below : get_or c.kids-kids.result.now c.loop-kid.kid-index 0 < c.args.n =
-    below-at c.args.n c.kids-kids.result.now c.loop-kid.kid-index 0 (subst (λ (ks : List ℕ). AllBelow c.args.n ks) (sym c.kids-kids.ensures.kids) (c.invariants.ensures c.args.n).below) c.loop-kid-test.true in
+    below-at c.args.n c.kids-kids.result.now c.loop-kid.kid-index 0 (subst (λ (ks : List ℕ). AreBelow c.args.n ks) (sym c.kids-kids.ensures.kids) (c.invariants.ensures c.args.n).below) c.loop-kid-test.true in
     (omega (arith, below), (omega (arith, below, c.requires.node), (c.loop-kid.invariant.count, c.loop-kid.invariant.numbered)))
 
 pub loop-kid-preserved : goal.loop-kid-preserved

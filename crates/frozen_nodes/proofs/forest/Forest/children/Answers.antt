@@ -1,6 +1,6 @@
 use Rattle.std.proofs.Common.{◌<◌, ◌++◌, ◌∷◌, ◌∙◌, ℕ, [], List, get_or, subst, sym, arith}
 use Rattle.std.proofs.lemmas.List.{map_more}
-use Rattle.frozen_nodes.specs.Forest.{AllBelow, HaveNames, child_at}
+use Rattle.frozen_nodes.specs.Forest.{AreBelow, HaveNames, child_at}
 use Rattle.frozen_nodes.proofs.Walks.{below-at, ruled-at}
 use Rattle.frozen_nodes.proofs.forest.Forest.children.Goals as goal
 
@@ -8,7 +8,7 @@ pub child-requires : goal.child-requires
 child-requires c = record {
   below =
       let b : get_or c.kids-kids.result.now c.loop-kid.kid-index 0 < c.args.n =
-      below-at c.args.n c.kids-kids.result.now c.loop-kid.kid-index 0 (subst (λ (ks : List ℕ). AllBelow c.args.n ks) (sym c.kids-kids.ensures.kids) (c.invariants.ensures c.args.n).below) c.loop-kid-test.true in
+      below-at c.args.n c.kids-kids.result.now c.loop-kid.kid-index 0 (subst (λ (ks : List ℕ). AreBelow c.args.n ks) (sym c.kids-kids.ensures.kids) (c.invariants.ensures c.args.n).below) c.loop-kid-test.true in
       let r = c.requires in omega arith;
   rule = ruled-at c.args.self.now.nodes c.kids-kids.result.now c.loop-kid.kid-index 0 (subst (λ (ks : List ℕ). HaveNames c.args.self.now.nodes ks) (sym c.kids-kids.ensures.kids) (c.invariants.ensures c.args.n).ruled) c.loop-kid-test.true;
 }

@@ -3,8 +3,8 @@ use Rattle.hk_base.specs.Disk.{DiskState}
 use Rattle.prop_text.specs.declared.lines.PropLine.{PropLine}
 use Rattle.command_io.specs.declared.ends.ReplayEnd.{ReplayEnd}
 use Rattle.command_io.specs.declared.ends.ReplayEnd.TheVariants as ended
-use Rattle.hk_runs.specs.declared.stage.LineOutcome.{LineOutcome}
-use Rattle.hk_runs.specs.declared.stage.LineOutcome.TheVariants.{Played, Unwritten}
+use Rattle.hk_runs.specs.declared.session.LineOutcome.{LineOutcome}
+use Rattle.hk_runs.specs.declared.session.LineOutcome.TheVariants.{Played, Unwritten}
 use Rattle.hk_runs.specs.Steps.{LinePlayed, PlaysSo, View, counts, end_of_play}
 use Rattle.hk_runs.proofs.replay.ReplayRun.play.Goals as goal
 

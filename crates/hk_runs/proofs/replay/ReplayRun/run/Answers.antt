@@ -8,10 +8,10 @@ use Rattle.command_io.specs.declared.lines.LineEnd.{LineEnd}
 use Rattle.command_io.specs.declared.lines.LineEnd.TheVariants as line_end
 use Rattle.command_io.specs.declared.ends.ReplayEnd.{ReplayEnd}
 use Rattle.command_io.specs.declared.ends.ReplayEnd.TheVariants as ended
-use Rattle.hk_runs.specs.declared.stage.LineOutcome.{LineOutcome}
-use Rattle.hk_runs.specs.declared.stage.LineOutcome.TheVariants.{Played, BadLine, Unread, Unanswered, Unwritten, Unopened}
+use Rattle.hk_runs.specs.declared.session.LineOutcome.{LineOutcome}
+use Rattle.hk_runs.specs.declared.session.LineOutcome.TheVariants.{Played, BadLine, Unread, Unanswered, Unwritten, Unopened}
 use Rattle.command_io.specs.Ends.{ended_by}
-use Rattle.hk_runs.specs.Steps.{Next, NextSo, Read, Stand, end_of_play}
+use Rattle.hk_runs.specs.Steps.{Next, NextSo, Read, ReplayStand, end_of_play}
 use Rattle.std.proofs.KnownBytes.{Appends-nil}
 use Rattle.hk_runs.proofs.EndLemmas.{first_ahead, goes_on_under, goes_on_untroubled, lists_under, stands_under, stops_under}
 use Rattle.hk_runs.proofs.HistoryLemmas.{nothing_yet}
@@ -73,7 +73,7 @@ not_between (Unopened fault) e = not_opened fault.file fault.fault e
 some_end : (stop how : ReplayEnd) → stop ≡ how → Some how ≡ Some stop
 some_end stop how is = cc
 
-next_end : (props : List PropLine) (old new : DiskState) (s s' : Stand) (stop : ReplayEnd) → Next props old new s (Some stop) s' → stop ≡ ended.Done → IsAtEnd s'.ahead
+next_end : (props : List PropLine) (old new : DiskState) (s s' : ReplayStand) (stop : ReplayEnd) → Next props old new s (Some stop) s' → stop ≡ ended.Done → IsAtEnd s'.ahead
 next_end props old new s s' stop n done = go n.how n.read n.next
   where
     go : (how : LineEnd) → Read s how n.line s' → NextSo props old new s how n.line (Some stop) s' → IsAtEnd s'.ahead

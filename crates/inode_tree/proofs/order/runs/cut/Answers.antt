@@ -1,6 +1,6 @@
 use Rattle.std.proofs.Common.{arith, ◌≡◌, ◌<◌, ◌≤◌, length, take, ℕ, ◌+◌, ◌-◌, List, [], get_or, sym, ap, ◌∙◌, subst}
 use Rattle.std.proofs.lemmas.List.{get_or_default}
-use Rattle.inode_tree.specs.Listed.{IsCut, flat, starts_of}
+use Rattle.inode_tree.specs.Listed.{IsCutAt, flat, starts_of}
 use Rattle.inode_tree.proofs.Pieces.{end-of, first-start, flat-parted, same-length, some-piece}
 use Rattle.inode_tree.proofs.Runs.{next-cut, parted-cut, parted-kept, start-first}
 use Rattle.inode_tree.proofs.order.runs.cut.Goals as goal
@@ -29,14 +29,14 @@ module _ (ps : List (List ℕ)) (starts : List ℕ) (c i s : ℕ) (e : starts �
   pub place-is : i ≡ length (flat (take c ps)) + (i - s)
   place-is = let f = start-is in let l = low in omega arith
 
-  pub at-start : i - s ≡ 0 → IsCut ps c i
+  pub at-start : i - s ≡ 0 → IsCutAt ps c i
   at-start z = let a = among ps starts c e h in let f = start-is in let l = low in (omega arith, omega arith)
 
   module _ (p : List ℕ) (len : ℕ) (ep : p ≡ get_or ps c p) (el : len ≡ length p) where
     len-is : len ≡ length (get_or ps c [])
     len-is = el ∙ ap length (ep ∙ get_or_default ps c p [] (among ps starts c e h))
 
-    pub at-end : i - s ≡ len → IsCut ps (c + 1) i
+    pub at-end : i - s ≡ len → IsCutAt ps (c + 1) i
     at-end z =
         let a = among ps starts c e h in
         let f = place-is in
@@ -83,7 +83,7 @@ returns-clause-cut c =
     let inner = inner c.args.pieces.now.items c.args.starts.now.items c.locate-c.result c.args.i c.index.result.now c.requires.starts c.locate-c.ensures.within c.index.ensures c.locate-c.ensures.from
     c.index-2.result.now c.len.result c.index-2.ensures c.len.ensures.len c.locate-c.ensures.to c.requires.within in
     let place = place-is c.args.pieces.now.items c.args.starts.now.items c.locate-c.result c.args.i c.index.result.now c.requires.starts c.locate-c.ensures.within c.index.ensures c.locate-c.ensures.from in
-    subst (λ (ps : List (List ℕ)). IsCut ps (c.locate-c.result + 1) c.args.i) (sym c.part.ensures.parted)
+    subst (λ (ps : List (List ℕ)). IsCutAt ps (c.locate-c.result + 1) c.args.i) (sym c.part.ensures.parted)
     (parted-cut c.args.pieces.now.items c.locate-c.result (c.args.i - c.index.result.now) c.args.i among inner place)
 
 pub returns-clause-kept : goal.returns-clause-kept
@@ -94,5 +94,5 @@ returns-clause-kept c =
     let less = inside c.args.pieces.now.items c.args.starts.now.items c.locate-c.result c.args.i c.index.result.now c.requires.starts c.locate-c.ensures.within c.index.ensures c.locate-c.ensures.from
     c.index-2.result.now c.len.result c.index-2.ensures c.len.ensures.len c.locate-c.ensures.to c.requires.within c.if-k-len.false in
     let place = place-is c.args.pieces.now.items c.args.starts.now.items c.locate-c.result c.args.i c.index.result.now c.requires.starts c.locate-c.ensures.within c.index.ensures c.locate-c.ensures.from in
-    λ k j l le. subst (λ (ps : List (List ℕ)). IsCut ps k j) (sym c.part.ensures.parted)
+    λ k j l le. subst (λ (ps : List (List ℕ)). IsCutAt ps k j) (sym c.part.ensures.parted)
     (parted-kept c.args.pieces.now.items c.locate-c.result (c.args.i - c.index.result.now) c.args.i among inner place less k j l le)

@@ -1,5 +1,5 @@
 use Rattle.std.proofs.Common.{arith, ◌≡◌, ◌<◌, ◌≤◌, ℕ, sym, ap, ◌∙◌}
-use Rattle.inode_tree.specs.Listed.{IsCut, flat, turned}
+use Rattle.inode_tree.specs.Listed.{IsCutAt, flat, turned}
 use Rattle.inode_tree.proofs.Runs.{cuts-rise, turned-flat, turned-right}
 use Rattle.inode_tree.proofs.order.runs.swap.Goals as goal
 
@@ -14,8 +14,8 @@ turn-requires-clause-runs c =
     let r = c.requires.runs in
     let low = less c.args.a c.args.b r.0 c.if-a-b.false in
     let high = less c.args.b c.args.c r.1 c.if-b-c.false in
-    let first : IsCut c.cut-last.new.pieces.items c.cut-first.result c.args.a = c.cut-last.ensures.kept _ _ (c.cut-middle.ensures.kept _ _ c.cut-first.ensures.cut r.0) (let x = r.0 in let y = r.1 in omega arith) in
-    let middle : IsCut c.cut-last.new.pieces.items c.cut-middle.result c.args.b = c.cut-last.ensures.kept _ _ c.cut-middle.ensures.cut r.1 in
+    let first : IsCutAt c.cut-last.new.pieces.items c.cut-first.result c.args.a = c.cut-last.ensures.kept _ _ (c.cut-middle.ensures.kept _ _ c.cut-first.ensures.cut r.0) (let x = r.0 in let y = r.1 in omega arith) in
+    let middle : IsCutAt c.cut-last.new.pieces.items c.cut-middle.result c.args.b = c.cut-last.ensures.kept _ _ c.cut-middle.ensures.cut r.1 in
     let last = c.cut-last.ensures.cut in
     (let x = cuts-rise _ _ _ _ _ first middle low in omega arith, let x = cuts-rise _ _ _ _ _ middle last high in omega arith, last.0)
 
@@ -23,7 +23,7 @@ pub overflow_sub-last : goal.overflow_sub-last
 overflow_sub-last c =
     let r = c.requires.runs in
     let high = less c.args.b c.args.c r.1 c.if-b-c.false in
-    let middle : IsCut c.cut-last.new.pieces.items c.cut-middle.result c.args.b = c.cut-last.ensures.kept _ _ c.cut-middle.ensures.cut r.1 in
+    let middle : IsCutAt c.cut-last.new.pieces.items c.cut-middle.result c.args.b = c.cut-last.ensures.kept _ _ c.cut-middle.ensures.cut r.1 in
     let x = cuts-rise _ _ _ _ _ middle c.cut-last.ensures.cut high in omega arith
 
 pub returns-clause-flat : goal.returns-clause-flat
@@ -31,8 +31,8 @@ returns-clause-flat c =
     let r = c.requires.runs in
     let low = less c.args.a c.args.b r.0 c.if-a-b.false in
     let high = less c.args.b c.args.c r.1 c.if-b-c.false in
-    let first : IsCut c.cut-last.new.pieces.items c.cut-first.result c.args.a = c.cut-last.ensures.kept _ _ (c.cut-middle.ensures.kept _ _ c.cut-first.ensures.cut r.0) (let x = r.0 in let y = r.1 in omega arith) in
-    let middle : IsCut c.cut-last.new.pieces.items c.cut-middle.result c.args.b = c.cut-last.ensures.kept _ _ c.cut-middle.ensures.cut r.1 in
+    let first : IsCutAt c.cut-last.new.pieces.items c.cut-first.result c.args.a = c.cut-last.ensures.kept _ _ (c.cut-middle.ensures.kept _ _ c.cut-first.ensures.cut r.0) (let x = r.0 in let y = r.1 in omega arith) in
+    let middle : IsCutAt c.cut-last.new.pieces.items c.cut-middle.result c.args.b = c.cut-last.ensures.kept _ _ c.cut-middle.ensures.cut r.1 in
     let x = cuts-rise _ _ _ _ _ first middle low in
     let y = cuts-rise _ _ _ _ _ middle c.cut-last.ensures.cut high in
     c.mend-3.ensures.flat ∙ c.mend-2.ensures.flat ∙ c.mend.ensures.flat ∙ ap flat c.turn.ensures.pieces

@@ -3,7 +3,7 @@ use Rattle.hk_base.specs.Disk.{LeavesOnly, Tells}
 use Rattle.hk_base.proofs.Runs.{begin}
 use Rattle.edit_ops.specs.declared.ops.EditOp.{EditOp}
 use Rattle.edit_log.specs.Log as edits
-use Rattle.name_store.specs.Store.{IsLeftOf, NothingMore, SettlesNames, IsNameStoreOf, StoreState, Unsettled, made_with}
+use Rattle.name_store.specs.Store.{IsLeftOf, NothingMore, SettlesNames, IsNameStoreOf, StoreState, LeavesUnsettled, made_with}
 use Rattle.name_store.proofs.SettleLemmas.{settle_moments, settles_kept, settles_none, unsettled}
 use Rattle.name_store.proofs.store.NameStore.settle.Goals as goal
 
@@ -13,7 +13,7 @@ returns-in-Err-clause-settles g c =
     let D1 = g.D.Disk.state c.settle.new.disk in
     let was : StoreState = record { log = c.self.inside.log; table = c.self.inside.names.table } in
     let is : StoreState = record { log = c.settle.new.self; table = c.self.inside.names.table } in
-    subst (λ (s : StoreState). Unsettled D0 D1 s is) c.self.view_is
+    subst (λ (s : StoreState). LeavesUnsettled D0 D1 s is) c.self.view_is
     (unsettled D0 D1 was is (λ none. cc (c.in-Err.is, (c.settle.ensures.nothing none).0)) c.in-Err.ensures.cause c.in-Err.ensures.still_pending refl c.in-Err.ensures.refused)
 
 pub returns-in-Ok-None-clause-settles : goal.returns-in-Ok-None-clause-settles

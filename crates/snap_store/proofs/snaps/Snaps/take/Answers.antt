@@ -1,5 +1,5 @@
 use Rattle.std.proofs.Common.{◌≡◌, ◌∙◌, ◌<◌, ℕ, List, ap, sym, subst, length}
-use Rattle.frozen_nodes.specs.Forest.{AllBelow}
+use Rattle.frozen_nodes.specs.Forest.{AreBelow}
 use Rattle.snap_store.specs.Snapshots.{IsSnapshots, Snapshot, SnapState, count_of, frozen, is_among, key_of, put_snapshot, snapshot_named}
 use Rattle.snap_store.specs.Stored.{snapshots_of}
 use Rattle.snap_store.proofs.FrozenTrees.{stands, tree-frozen}
@@ -35,7 +35,7 @@ invariant_of-self-2 c =
         rising = rising-keys c.take.new.forest.nodes c.put_reserved.new.taken.items c.put_reserved.new.roots.items c.put_reserved.ensures.count kept.order;
         count = c.put_reserved.ensures.count;
         below = c.put_reserved.ensures.below (length c.take.new.forest.nodes) c.in_ok-rows.ensures.within
-            (subst (λ (roots : List ℕ). AllBelow (length c.take.new.forest.nodes) roots) (sym c.reserve_place.ensures.roots)
+            (subst (λ (roots : List ℕ). AreBelow (length c.take.new.forest.nodes) roots) (sym c.reserve_place.ensures.roots)
             (below-more (length c.self.inside.forest.nodes) (length c.take.new.forest.nodes) c.self.inside.roots.items c.take.ensures.others.most c.self.invariant.rooted.below));
       };
     }

@@ -3,7 +3,7 @@ ghost use Rattle.std.specs.Prelude.{◌≡◌, ◌+◌, ◌≤◌, ◌^◌, List
 ghost use Rattle.hk_base.specs.Disk.{Tells};
 ghost use Rattle.hk_base.specs.Faults.{Rose};
 ghost use Rattle.prop_text.specs.declared.lines.PropLine.{PropLine};
-ghost use Rattle.replay_text.specs.Events.{Spells};
+ghost use Rattle.replay_text.specs.Events.{SpellsLine};
 ghost use Rattle.world_run.specs.Acknowledged.{Acknowledged, HoldsLogs};
 ghost use Rattle.hk_runs.specs.Steps.{HasLists, PlaysSo, TellsSo, counts, view_of};
 
@@ -92,9 +92,9 @@ impl Session {
         requires stands { Tells (D.state disk.old) →
             ((done : Acknowledged) × HoldsLogs (D.state disk.old) self.old.world done) }
         ensures plays { (lines : List PropLine) → HasLists self.old.world lines →
-            (line : List ℕ) → Spells line event →
+            (t : List ℕ) → SpellsLine t event →
             PlaysSo lines (D.state disk.old) (D.state disk.new)
-            (view_of self.old (W.to_come words.old) (K.written out.old)) line result
+            (view_of self.old (W.to_come words.old) (K.written out.old)) t result
             (view_of self.new (W.to_come words.new) (K.written out.new)) }
         ensures few { self.new.events ≤ self.old.events + counts result }
         ensures later { K.faults out.old ≤ K.faults out.new }

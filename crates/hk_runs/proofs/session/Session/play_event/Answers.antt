@@ -1,5 +1,5 @@
-use Rattle.hk_runs.proofs.StageLemmas.{event_plays}
-use Rattle.hk_runs.proofs.stage.Session.play_event.Goals as goal
+use Rattle.hk_runs.proofs.SessionLemmas.{event_plays}
+use Rattle.hk_runs.proofs.session.Session.play_event.Goals as goal
 
 pub returns-in-Ok-clause-plays : goal.returns-in-Ok-clause-plays
 returns-in-Ok-clause-plays g c = λ lines has.
