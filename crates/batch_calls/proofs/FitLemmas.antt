@@ -1,5 +1,5 @@
 -- The reply to the call for a batch fits it: as many keys come back as were sent, each of the same key.
-use Rattle.std.proofs.Common.{◌≡◌, ℕ, ◌+◌, ◌<◌, Bool, true, false, cond, not, ◌&&◌, suc, List, [], ◌∷◌, ◌++◌, length, map, take, get_or, Option, Some, None, is_none, Ok, Err, refl, sym, ap, subst, ◌∙◌}
+use Rattle.std.proofs.Common.{◌≡◌, ◌⊎◌, inl, inr, ℕ, ◌+◌, ◌<◌, Bool, true, false, cond, not, ◌&&◌, suc, List, [], ◌∷◌, ◌++◌, length, map, take, get_or, Option, Some, None, is_none, Ok, Err, refl, sym, ap, subst, ◌∙◌}
 use Rattle.std.specs.List.{list_any}
 use Rattle.std.specs.Str.{bytes_eq}
 use Rattle.std.specs.declared.result.Result.{Result}
@@ -16,9 +16,11 @@ use Rattle.kms_acls.specs.declared.answers.Shown.{Shown}
 use Rattle.eek_seal.specs.Seal.{seal}
 use Rattle.kms_calls.specs.declared.calls.KmsRefusal.{KmsRefusal}
 use Rattle.kms_calls.specs.declared.calls.KmsReply.{KmsReply}
+use Rattle.kms_calls.specs.declared.calls.KmsReply.TheVariants as key_reply
 use Rattle.kms_calls.specs.declared.calls.RawEdek.{RawEdek}
 use Rattle.kms_core.specs.Calls.{KmsActs, NoRoom, Plain, batch_causes, causes, current_material, current_version, deed, edek_of, first_cause, is_of_other_key, resealed, row_of, same_version, unless_refused, unsealed_dek}
 use Rattle.kms_core.specs.Laws.{sent_of}
+use Rattle.kms_core.specs.Service.{OnlyReads, ReadFails}
 use Rattle.kms_core.specs.State.{KmsState, ServiceState}
 use Rattle.kms_core.specs.Users.{ServesUnder}
 use Rattle.kms_core.proofs.KeyLemmas.{named}
@@ -85,15 +87,64 @@ batch-keys s batch free = go (row_of s name) refl has.stands
     go None found some = absurd cc
     go (Some row) found some = keys-of-sent s name row batch.sent found (named s.table.rows name row found) has.its
 
-pub batch-fits : (s : ServiceState) (words : ℕ → ℕ) (now : ℕ) (batch : BatchNote) (fault : Type 0) (reply : KmsReply) (drawn : ℕ) (logged : List KeyCommand) (after : ServiceState) (v : Result Shown Denied)
-    → ServesUnder v s words now (batch_call batch) fault reply drawn logged after → ReplyFits batch reply
-batch-fits s words now batch fault reply drawn logged after (Err denied) d = subst (ReplyFits batch) (sym d.reply_is) tt
-batch-fits s words now batch fault reply drawn logged after (Ok shown) p = subst (ReplyFits batch) (sym p.reply_is) (by-end p.serves.acts)
-  where
-    by-end : KmsActs s.keys words now (batch_call batch) p.reply drawn s.keys → ReplyFits batch p.reply
-    by-end (NoRoom some, may, is) = subst (ReplyFits batch) (sym (ap (λ o. o.reply) is)) tt
-    by-end (Plain, may, is) = subst (ReplyFits batch) (sym (ap (λ o. o.reply) is)) (go (first_cause (causes s.keys (batch_call batch))) refl)
-      where
-        go : (o : Option KmsRefusal) → first_cause (causes s.keys (batch_call batch)) ≡ o → ReplyFits batch (unless_refused o s.keys (deed s.keys words now (batch_call batch))).reply
-        go (Some why) cause = tt
-        go None free = batch-keys s.keys batch free
+-- whether keys are those of the files depends on their versions alone
+versions-fit : (sent : List Sent) (xs ys : List Edek) → map (λ (e : Edek). e.version) xs ≡ map (λ (e : Edek). e.version) ys → are_of_keys sent xs ≡ are_of_keys sent ys
+versions-fit [] [] [] same = refl
+versions-fit [] [] (y ∷ ys) same = absurd cc
+versions-fit [] (x ∷ xs) [] same = absurd cc
+versions-fit [] (x ∷ xs) (y ∷ ys) same = refl
+versions-fit (s ∷ sent) [] [] same = refl
+versions-fit (s ∷ sent) [] (y ∷ ys) same = absurd cc
+versions-fit (s ∷ sent) (x ∷ xs) [] same = absurd cc
+versions-fit (s ∷ sent) (x ∷ xs) (y ∷ ys) same =
+    let first : x.version ≡ y.version = cc in
+    let rest : map (λ (e : Edek). e.version) xs ≡ map (λ (e : Edek). e.version) ys = cc in
+    let later = versions-fit sent xs ys rest in
+    λ i. bytes_eq (first i).key s.edek.version.key && later i
+
+versions-of : (f : RawEdek → Edek) (sent : List RawEdek) → map (λ (e : Edek). e.version) (map f sent) ≡ map (λ (x : RawEdek). (f x).version) sent
+versions-of f [] = refl
+versions-of f (x ∷ xs) = ap (λ (vs : List VersionName). (f x).version ∷ vs) (versions-of f xs)
+
+module _ (s : ServiceState) (words : ℕ → ℕ) (now : ℕ) (batch : BatchNote) (fault tells : Type 0) (reply : KmsReply) (drawn : ℕ) (logged : List KeyCommand) (after : ServiceState)
+    (reads : OnlyReads s words now (batch_call batch) fault tells reply drawn logged after) where
+  abbrev cause : Option KmsRefusal
+  cause = first_cause (causes s.keys (batch_call batch))
+
+  by-end : KmsActs s.keys words now (batch_call batch) reply drawn s.keys → ReplyFits batch reply
+  by-end (NoRoom some, may, is) = subst (ReplyFits batch) (sym (ap (λ o. o.reply) is)) tt
+  by-end (Plain, may, is) = subst (ReplyFits batch) (sym (ap (λ o. o.reply) is)) (go cause refl)
+    where
+      go : (o : Option KmsRefusal) → cause ≡ o → ReplyFits batch (unless_refused o s.keys (deed s.keys words now (batch_call batch))).reply
+      go (Some why) is = tt
+      go None free = batch-keys s.keys batch free
+
+  -- the versions of the keys that come back are known, whatever the disk gave
+  by-reply : cause ≡ None → (given : KmsReply) → reply ≡ given → ReplyFits batch given
+  by-reply free (key_reply.Ready edeks) is =
+      versions-fit batch.sent edeks (map (resealed s.keys (key_of_sent batch.sent)) (raw_keys batch.sent))
+      (reads.versions (key_of_sent batch.sent) (raw_keys batch.sent) edeks refl is ∙ sym (versions-of (resealed s.keys (key_of_sent batch.sent)) (raw_keys batch.sent)))
+      ∙ batch-keys s.keys batch free
+  by-reply free (key_reply.Version version material) is = tt
+  by-reply free key_reply.Done is = tt
+  by-reply free (key_reply.Metadata meta) is = tt
+  by-reply free (key_reply.Metadatas metas) is = tt
+  by-reply free (key_reply.Names names) is = tt
+  by-reply free (key_reply.Versions versions) is = tt
+  by-reply free (key_reply.Resealed edek) is = tt
+  by-reply free (key_reply.Key dek) is = tt
+  by-reply free (key_reply.Refused why) is = tt
+
+  reads-fit : (o : Option KmsRefusal) → cause ≡ o → ReplyFits batch reply
+  reads-fit None free = by-reply free reply refl
+  reads-fit (Some why) stands = known (reads.acts (λ older. let no : None ≡ Some why = sym older.free ∙ stands in absurd cc))
+    where
+      known : KmsActs s.keys words now (batch_call batch) reply drawn s.keys ⊎ ReadFails s.keys (batch_call batch) fault reply → ReplyFits batch reply
+      known (inl acts) = by-end acts
+      known (inr fails) = subst (ReplyFits batch) (sym fails.reply_is) tt
+
+pub batch-fits : (s : ServiceState) (words : ℕ → ℕ) (now : ℕ) (batch : BatchNote) (fault tells : Type 0) (reply : KmsReply) (drawn : ℕ) (logged : List KeyCommand) (after : ServiceState) (v : Result Shown Denied)
+    → ServesUnder v s words now (batch_call batch) fault tells reply drawn logged after → ReplyFits batch reply
+batch-fits s words now batch fault tells reply drawn logged after (Err denied) d = subst (ReplyFits batch) (sym d.reply_is) tt
+batch-fits s words now batch fault tells reply drawn logged after (Ok shown) p =
+    subst (ReplyFits batch) (sym p.reply_is) (reads-fit s words now batch fault tells p.reply drawn logged after p.serves (first_cause (causes s.keys (batch_call batch))) refl)

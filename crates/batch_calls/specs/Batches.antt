@@ -11,7 +11,7 @@ use Rattle.reenc_walk.specs.declared.sent.BatchNote.{BatchNote}
 use Rattle.reenc_walk.specs.declared.sent.Sent.{Sent}
 use Rattle.reenc_update.specs.declared.reply.BatchResult.{BatchResult}
 use Rattle.reenc_update.specs.declared.reply.BatchResult.TheVariants as batch_result
-use Rattle.reenc_update.specs.Replies.{Fits, ReplyState}
+use Rattle.reenc_update.specs.Replies.{FitsSent, ReplyState}
 
 -- the call for a batch: all of its encrypted keys, under the name of the key that sealed the first of them
 
@@ -36,4 +36,4 @@ reply_for batch reply = record { note = batch; result = result_of reply }
 
 -- the reply has one encrypted key for each file of the batch, of the same key, or it is a refusal
 abbrev pub ReplyFits : BatchNote → KmsReply → Type 0
-ReplyFits batch reply = Fits batch.sent (result_of reply)
+ReplyFits batch reply = FitsSent batch.sent (result_of reply)

@@ -16,7 +16,7 @@ use Rattle.kms_cell.specs.Entries as keys
 use Rattle.kms_cell.specs.declared.acts.KmsAct.{KmsAct}
 use Rattle.kms_cell.specs.declared.acts.KmsAct.TheVariants as key_act
 use Rattle.kms_cell.specs.declared.acts.KmsActed.TheVariants as key_acted
-use Rattle.name_history.specs.Asked.{Answers}
+use Rattle.name_history.specs.Asked.{AnswersWant}
 use Rattle.name_history.specs.Entries as names
 use Rattle.name_history.specs.Served.{Got, GotForNote, IfWanted, act_wanted}
 use Rattle.name_history.proofs.GotLemmas.{got_by_call, got_meets}
@@ -90,21 +90,21 @@ module _ {D W : Type 0} (state : D → DiskState) (to_come : W → ℕ → ℕ) 
       (subst (λ (u : Text). keys.Makes state to_come v (key_act.Call u (key_call.Metadata name)) (key_acted.Call reply) w) user_is a))
 
   -- a finish with no reply
-  pub finished_alone : (k : keys.KmsKnown D W) (v w : names.NameKnown D W) (note : AskNote) (given : Option KmsReply) (result : Result (Unit {0}) NameRefusal) → HasGot k note.want given → Answers note.want given → given ≡ None
+  pub finished_alone : (k : keys.KmsKnown D W) (v w : names.NameKnown D W) (note : AskNote) (given : Option KmsReply) (result : Result (Unit {0}) NameRefusal) → HasGot k note.want given → AnswersWant note.want given → given ≡ None
       → names.Makes state to_come v (act.Finish (record { id = note.id; reply = None })) (acted.Finish result) w → FinishesAsk state to_come v note result w
   finished_alone k v w note given result got answers is a = record {
     given = None;
     makes = a;
-    answers = subst (Answers note.want) is answers;
+    answers = subst (AnswersWant note.want) is answers;
     shows = none_wanted (λ (q : KmsAct) (r : KmsReply). CallsOnce q r k.number k.seen) (Shows a.entry.after.keys) (act_wanted note.want) (subst (HasGot k note.want) is got);
   }
 
   -- a finish with the reply that a pass has got, which was met into the kept one
   pub finished_meeting : (k : keys.KmsKnown D W) (v w : names.NameKnown D W) (note : AskNote) (given : Option KmsReply) (reply : KmsReply) (result : Result (Unit {0}) NameRefusal) → HasGot k note.want given → k.ended ≡ []
-      → Answers note.want given → given ≡ Some reply → names.MakesMeeting state to_come v k (act.Finish (record { id = note.id; reply = Some reply })) (acted.Finish result) w → FinishesAsk state to_come v note result w
+      → AnswersWant note.want given → given ≡ Some reply → names.MakesMeeting state to_come v k (act.Finish (record { id = note.id; reply = Some reply })) (acted.Finish result) w → FinishesAsk state to_come v note result w
   finished_meeting k v w note given reply result got none_met answers is m = record {
     given = Some reply;
     makes = m.makes;
-    answers = subst (Answers note.want) is answers;
+    answers = subst (AnswersWant note.want) is answers;
     shows = wanted_shown m.kept k m.makes.entry.after.keys note.want (Some reply) m.meets none_met (subst (HasGot k note.want) is got);
   }

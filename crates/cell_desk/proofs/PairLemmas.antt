@@ -3,7 +3,7 @@ use Rattle.std.proofs.Common.{◌≡◌, inl, inr, refl, sym, subst, ℕ, List, 
 use Rattle.std.specs.Prelude.{Some}
 use Rattle.hk_base.specs.declared.ended.Ended.{Ended}
 use Rattle.hk_serve.specs.Ends.{Ends}
-use Rattle.hk_serve.specs.Exchanges.{AsksInOrder, Exchange, Leaves, NoCall, Outcome, Replied, Stand, WentOn, bytes_in}
+use Rattle.hk_serve.specs.Exchanges.{AsksInOrder, Exchange, Leaves, NoCall, Replied, RequestOutcome, Stand, WentOn, bytes_in}
 use Rattle.hk_serve.specs.Served.{AreRequestsOf, Served, last_request}
 use Rattle.hk_serve.specs.Transactions.{Answering, Transaction}
 
@@ -16,7 +16,7 @@ abbrev pub with_desk : {D V : Type 0} → Stand D → V → Stand V
 with_desk stand v = record { ahead = stand.ahead; desk = v; written = stand.written }
 
 module _ {D V : Type 0} (pair : D → V → Type 0) (answers : Answering D) (happens : Answering V) (pairs : Pairs pair answers happens) where
-  leaves_paired : (old new : D) (outcome : Outcome) (v : V) → pair old v → Leaves answers old outcome new → (w : V) × Leaves happens v outcome w × pair new w
+  leaves_paired : (old new : D) (outcome : RequestOutcome) (v : V) → pair old v → Leaves answers old outcome new → (w : V) × Leaves happens v outcome w × pair new w
   leaves_paired old new (Replied user done) v here leaves = pairs old new user done v here leaves
   leaves_paired old new (NoCall fault) v here leaves = (v, refl, subst (λ (d : D). pair d v) (sym leaves) here)
 

@@ -1,7 +1,7 @@
 -- The reply to the call that a note wants answers it, since its entry is a step.
 use Rattle.std.proofs.Common.{◌≡◌, ℕ, ◌-◌, false, nat_lt, List, [], ◌∷◌, ◌++◌, length, take, Option, Some, None, is_none, Ok, Err, slice_get, refl, ap, sym, subst, ◌∙◌, arith}
 use Rattle.std.specs.declared.result.Result.{Result}
-use Rattle.hk_base.specs.Disk.{DiskState}
+use Rattle.hk_base.specs.Disk.{DiskState, Tells}
 use Rattle.hk_base.specs.Faults.{Rose}
 use Rattle.hk_base.specs.declared.names.Edek.{Edek}
 use Rattle.hk_base.specs.declared.names.KeyName.{KeyName}
@@ -22,10 +22,11 @@ use Rattle.kms_core.specs.State.{IsService, KmsState, ServiceState, service_of}
 use Rattle.kms_core.specs.Users.{ServesUnder, running}
 use Rattle.kms_core.proofs.KeyLemmas.{named}
 use Rattle.kms_core.proofs.LawLemmas.{ready_opens}
+use Rattle.kms_core.proofs.MemoryReads.{acts-from-memory}
 use Rattle.kms_core.proofs.SentLemmas.{none_stands}
 use Rattle.name_calls.specs.declared.calls.Want.{Want}
 use Rattle.name_calls.specs.declared.calls.Want.TheVariants as want
-use Rattle.name_history.specs.Asked.{Answers, IsOneOf}
+use Rattle.name_history.specs.Asked.{AnswersWant, IsOneOf}
 use Rattle.kms_cell.specs.Entries.{KmsKnown, Makes}
 use Rattle.kms_cell.specs.Steps.{CallSteps}
 use Rattle.kms_cell.specs.Views.{KmsView}
@@ -51,60 +52,60 @@ module _ (s : ServiceState) (words : ℕ → ℕ) (now : ℕ) (name : KeyName) (
       subst (λ (rest : ℕ). IsOneOf name (e ∷ drawn_edeks (current_version (row_of s.keys name)) material words rest)) (sym none) current
 
   generate-answers : (o : Option KmsRefusal) → first_cause (causes s.keys (call.Generate name 1)) ≡ o
-      → Answers (want.Generate name) (Some (unless_refused o s.keys (deed s.keys words now (call.Generate name 1))).reply)
+      → AnswersWant (want.Generate name) (Some (unless_refused o s.keys (deed s.keys words now (call.Generate name 1))).reply)
   generate-answers (Some why) cause = tt
   generate-answers None free =
       one-key (none_stands (is_none (row_of s.keys name)) refusal.NoSuchKey ((nat_lt 1000 1, refusal.TooManyAsked) ∷ []) free).0 (ready_of s.keys name) refl (current_material s.keys name)
 
-  metadata-answers : (o : Option KmsRefusal) → Answers (want.Metadata name) (Some (unless_refused o s.keys (deed s.keys words now (call.Metadata name))).reply)
+  metadata-answers : (o : Option KmsRefusal) → AnswersWant (want.Metadata name) (Some (unless_refused o s.keys (deed s.keys words now (call.Metadata name))).reply)
   metadata-answers (Some why) = tt
   metadata-answers None = refl
 
-  generate-acts : (reply : KmsReply) (drawn : ℕ) (k : KmsState) → KmsActs s.keys words now (call.Generate name 1) reply drawn k → Answers (want.Generate name) (Some reply)
-  generate-acts reply drawn k (NoRoom some, may, is) = subst (λ (r : KmsReply). Answers (want.Generate name) (Some r)) (sym (ap (λ o. o.reply) is)) tt
+  generate-acts : (reply : KmsReply) (drawn : ℕ) (k : KmsState) → KmsActs s.keys words now (call.Generate name 1) reply drawn k → AnswersWant (want.Generate name) (Some reply)
+  generate-acts reply drawn k (NoRoom some, may, is) = subst (λ (r : KmsReply). AnswersWant (want.Generate name) (Some r)) (sym (ap (λ o. o.reply) is)) tt
   generate-acts reply drawn k (Plain, may, is) =
-      subst (λ (r : KmsReply). Answers (want.Generate name) (Some r)) (sym (ap (λ o. o.reply) is)) (generate-answers (first_cause (causes s.keys (call.Generate name 1))) refl)
+      subst (λ (r : KmsReply). AnswersWant (want.Generate name) (Some r)) (sym (ap (λ o. o.reply) is)) (generate-answers (first_cause (causes s.keys (call.Generate name 1))) refl)
 
-  metadata-acts : (reply : KmsReply) (drawn : ℕ) (k : KmsState) → KmsActs s.keys words now (call.Metadata name) reply drawn k → Answers (want.Metadata name) (Some reply)
-  metadata-acts reply drawn k (NoRoom some, may, is) = subst (λ (r : KmsReply). Answers (want.Metadata name) (Some r)) (sym (ap (λ o. o.reply) is)) tt
+  metadata-acts : (reply : KmsReply) (drawn : ℕ) (k : KmsState) → KmsActs s.keys words now (call.Metadata name) reply drawn k → AnswersWant (want.Metadata name) (Some reply)
+  metadata-acts reply drawn k (NoRoom some, may, is) = subst (λ (r : KmsReply). AnswersWant (want.Metadata name) (Some r)) (sym (ap (λ o. o.reply) is)) tt
   metadata-acts reply drawn k (Plain, may, is) =
-      subst (λ (r : KmsReply). Answers (want.Metadata name) (Some r)) (sym (ap (λ o. o.reply) is)) (metadata-answers (first_cause (causes s.keys (call.Metadata name))))
+      subst (λ (r : KmsReply). AnswersWant (want.Metadata name) (Some r)) (sym (ap (λ o. o.reply) is)) (metadata-answers (first_cause (causes s.keys (call.Metadata name))))
 
-  generate-served : (fault : Type 0) (reply : KmsReply) (drawn : ℕ) (logged : List KeyCommand) (after : ServiceState) (v : Result Shown Denied)
-      → ServesUnder v s words now (call.Generate name 1) fault reply drawn logged after → Answers (want.Generate name) (Some reply)
-  generate-served fault reply drawn logged after (Err denied) d = subst (λ (r : KmsReply). Answers (want.Generate name) (Some r)) (sym d.reply_is) tt
-  generate-served fault reply drawn logged after (Ok shown) p =
-      subst (λ (r : KmsReply). Answers (want.Generate name) (Some r)) (sym p.reply_is) (generate-acts p.reply drawn p.serves.changed p.serves.acts)
+  generate-served : (fault tells : Type 0) (reply : KmsReply) (drawn : ℕ) (logged : List KeyCommand) (after : ServiceState) (v : Result Shown Denied)
+      → ServesUnder v s words now (call.Generate name 1) fault tells reply drawn logged after → AnswersWant (want.Generate name) (Some reply)
+  generate-served fault tells reply drawn logged after (Err denied) d = subst (λ (r : KmsReply). AnswersWant (want.Generate name) (Some r)) (sym d.reply_is) tt
+  generate-served fault tells reply drawn logged after (Ok shown) p =
+      subst (λ (r : KmsReply). AnswersWant (want.Generate name) (Some r)) (sym p.reply_is) (generate-acts p.reply drawn p.serves.changed p.serves.acts)
 
-  metadata-served : (fault : Type 0) (reply : KmsReply) (drawn : ℕ) (logged : List KeyCommand) (after : ServiceState) (v : Result Shown Denied)
-      → ServesUnder v s words now (call.Metadata name) fault reply drawn logged after → Answers (want.Metadata name) (Some reply)
-  metadata-served fault reply drawn logged after (Err denied) d = subst (λ (r : KmsReply). Answers (want.Metadata name) (Some r)) (sym d.reply_is) tt
-  metadata-served fault reply drawn logged after (Ok shown) p =
-      subst (λ (r : KmsReply). Answers (want.Metadata name) (Some r)) (sym p.reply_is) (metadata-acts p.reply drawn s.keys p.serves.acts)
+  metadata-served : (fault tells : Type 0) (reply : KmsReply) (drawn : ℕ) (logged : List KeyCommand) (after : ServiceState) (v : Result Shown Denied)
+      → ServesUnder v s words now (call.Metadata name) fault tells reply drawn logged after → AnswersWant (want.Metadata name) (Some reply)
+  metadata-served fault tells reply drawn logged after (Err denied) d = subst (λ (r : KmsReply). AnswersWant (want.Metadata name) (Some r)) (sym d.reply_is) tt
+  metadata-served fault tells reply drawn logged after (Ok shown) p =
+      subst (λ (r : KmsReply). AnswersWant (want.Metadata name) (Some r)) (sym p.reply_is) (metadata-acts p.reply drawn s.keys (acts-from-memory s words now (call.Metadata name) fault tells p.reply drawn logged after refl p.serves))
 
 module _ {D W : Type 0} (state : D → DiskState) (to_come : W → ℕ → ℕ) where
-  generate-step : (s t : KmsView D W) (user : Text) (name : KeyName) (reply : KmsReply) → IsService (service_of (running s.kms)) → CallSteps state to_come s user (call.Generate name 1) reply t → Answers (want.Generate name) (Some reply)
+  generate-step : (s t : KmsView D W) (user : Text) (name : KeyName) (reply : KmsReply) → IsService (service_of (running s.kms)) → CallSteps state to_come s user (call.Generate name 1) reply t → AnswersWant (want.Generate name) (Some reply)
   generate-step s t user name reply rules step =
       let lines = step.has_lines.0 in
       let acts = step.acts lines step.has_lines.1 in
-      generate-served (service_of (running s.kms)) (to_come s.words) step.now name rules (Rose (state s.disk).faults (state t.disk).faults) reply acts.drawn acts.logged (service_of (running t.kms))
+      generate-served (service_of (running s.kms)) (to_come s.words) step.now name rules (Rose (state s.disk).faults (state t.disk).faults) (Tells (state s.disk)) reply acts.drawn acts.logged (service_of (running t.kms))
       (verdict lines user (call.Generate name 1)) acts.serves
 
-  metadata-step : (s t : KmsView D W) (user : Text) (name : KeyName) (reply : KmsReply) → IsService (service_of (running s.kms)) → CallSteps state to_come s user (call.Metadata name) reply t → Answers (want.Metadata name) (Some reply)
+  metadata-step : (s t : KmsView D W) (user : Text) (name : KeyName) (reply : KmsReply) → IsService (service_of (running s.kms)) → CallSteps state to_come s user (call.Metadata name) reply t → AnswersWant (want.Metadata name) (Some reply)
   metadata-step s t user name reply rules step =
       let lines = step.has_lines.0 in
       let acts = step.acts lines step.has_lines.1 in
-      metadata-served (service_of (running s.kms)) (to_come s.words) step.now name rules (Rose (state s.disk).faults (state t.disk).faults) reply acts.drawn acts.logged (service_of (running t.kms))
+      metadata-served (service_of (running s.kms)) (to_come s.words) step.now name rules (Rose (state s.disk).faults (state t.disk).faults) (Tells (state s.disk)) reply acts.drawn acts.logged (service_of (running t.kms))
       (verdict lines user (call.Metadata name)) acts.serves
 
   pub generate_is_answered : (v w : KmsKnown D W) (user : Text) (name : KeyName) (reply : KmsReply) (wanted : Want) → Makes state to_come v (act.Call user (call.Generate name 1)) (acted.Call reply) w
-      → wanted ≡ want.Generate name → Answers wanted (Some reply)
+      → wanted ≡ want.Generate name → AnswersWant wanted (Some reply)
   generate_is_answered v w user name reply wanted a is =
       let made = made_step state to_come v w (act.Call user (call.Generate name 1)) (acted.Call reply) a in
-      subst (λ (x : Want). Answers x (Some reply)) (sym is) (generate-step made.0 made.1 user name reply made.2.before made.2.does)
+      subst (λ (x : Want). AnswersWant x (Some reply)) (sym is) (generate-step made.0 made.1 user name reply made.2.before made.2.does)
 
   pub metadata_is_answered : (v w : KmsKnown D W) (user : Text) (name : KeyName) (reply : KmsReply) (wanted : Want) → Makes state to_come v (act.Call user (call.Metadata name)) (acted.Call reply) w
-      → wanted ≡ want.Metadata name → Answers wanted (Some reply)
+      → wanted ≡ want.Metadata name → AnswersWant wanted (Some reply)
   metadata_is_answered v w user name reply wanted a is =
       let made = made_step state to_come v w (act.Call user (call.Metadata name)) (acted.Call reply) a in
-      subst (λ (x : Want). Answers x (Some reply)) (sym is) (metadata-step made.0 made.1 user name reply made.2.before made.2.does)
+      subst (λ (x : Want). AnswersWant x (Some reply)) (sym is) (metadata-step made.0 made.1 user name reply made.2.before made.2.does)

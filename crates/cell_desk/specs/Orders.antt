@@ -16,7 +16,7 @@ use Rattle.kms_cell.specs.declared.acts.KmsAct.{KmsAct}
 use Rattle.kms_cell.specs.declared.acts.KmsAct.TheVariants as key_act
 use Rattle.kms_cell.specs.declared.acts.KmsActed.{KmsActed}
 use Rattle.kms_cell.specs.declared.acts.KmsActed.TheVariants as key_acted
-use Rattle.name_history.specs.Asked.{Answers}
+use Rattle.name_history.specs.Asked.{AnswersWant}
 use Rattle.name_history.specs.Entries.{NameEntry}
 use Rattle.name_history.specs.Served.{Got, IfWanted, act_wanted}
 use Rattle.name_history.specs.declared.acts.NameAct.TheVariants as act
@@ -69,7 +69,7 @@ module _ {D W : Type 0} where
     pub names_are : names ≡ asking ∷ finish ∷ []
     pub asks : (asking.call ≡ act.Ask user asked) × (asking.reply ≡ acted.Ask (Ok note))
     pub finishes : (finish.call ≡ act.Finish (record { id = note.id; reply = given })) × (finish.reply ≡ acted.Finish result)
-    pub answers : Answers note.want given
+    pub answers : AnswersWant note.want given
     pub shows : ShowsWanted note.want given finish.after.keys
     pub answer_is : answer ≡ finish_reply result
 

@@ -4,7 +4,7 @@ ghost use Rattle.hist_cell.specs.History.{Splits};
 ghost use Rattle.kms_cell.specs.Entries.{KmsKnown};
 ghost use Rattle.hk_serve.specs.Transactions.{OfNames};
 ghost use Rattle.name_core.specs.Calls.{superuser};
-ghost use Rattle.name_history.specs.Asked.{Answers, HasNote};
+ghost use Rattle.name_history.specs.Asked.{AnswersWant, HasNote};
 ghost use Rattle.name_history.specs.Served.{IfWanted, act_wanted};
 ghost use Rattle.cell_desk.specs.Connections.{MakesOrder};
 ghost use Rattle.cell_desk.specs.Finishes.{FinishesAsk};
@@ -51,7 +51,7 @@ fn call_wanted<S: Turns, R: Wait>(
         (λ q r. CallsOnce q r (S.keys_seen pass.new).number (S.keys_seen pass.new).seen)
         (act_wanted want) result }
     ensures none_met { (S.keys_seen pass.new).ended ≡ [] }
-    ensures answers { Answers want result }
+    ensures answers { AnswersWant want result }
 {
     match want {
         Want::Nothing => None,

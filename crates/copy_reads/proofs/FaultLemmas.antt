@@ -3,17 +3,17 @@ use Rattle.std.proofs.Common.{◌≡◌, inl, inr, ⊎_elim, ℕ, List, refl, sy
 use Rattle.std.specs.Prelude.{Option, codes}
 use Rattle.frame_log.specs.declared.fault.StartFault.{StartFault}
 use Rattle.frame_log.specs.declared.fault.StartFault.TheVariants as start
-use Rattle.command_io.specs.Ends.{Shows}
+use Rattle.command_io.specs.Ends.{ShowsWith}
 use Rattle.data_stream.proofs.StatusLemmas.{Either}
 use Rattle.copy_reads.specs.Commands.{ReportsCopies, copies_line, copies_status}
 
 -- the line of this fault was shown
-pub reports_shown : (fault own : StartFault) → fault ≡ own → (text : List ℕ) (written now : Option (List ℕ)) (status : ℕ) → text ≡ copies_line own → Shows text (copies_status own) written now status → ReportsCopies fault written now status
+pub reports_shown : (fault own : StartFault) → fault ≡ own → (text : List ℕ) (written now : Option (List ℕ)) (status : ℕ) → text ≡ copies_line own → ShowsWith text (copies_status own) written now status → ReportsCopies fault written now status
 reports_shown fault own same text written now status is shows =
-    record { last = own; last_is = inl (sym same); shows = subst (λ (t : List ℕ). Shows t (copies_status own) written now status) is shows }
+    record { last = own; last_is = inl (sym same); shows = subst (λ (t : List ℕ). ShowsWith t (copies_status own) written now status) is shows }
 
 -- there was no memory for it
-pub reports_unmade : (fault : StartFault) (written now : Option (List ℕ)) (status : ℕ) → Shows (codes "no memory\n") 6 written now status → ReportsCopies fault written now status
+pub reports_unmade : (fault : StartFault) (written now : Option (List ℕ)) (status : ℕ) → ShowsWith (codes "no memory\n") 6 written now status → ReportsCopies fault written now status
 reports_unmade fault written now status shows = record { last = start.NoMemory; last_is = inr refl; shows = shows }
 
 pub copies_either : (fault : StartFault) (written now : Option (List ℕ)) (status : ℕ) → ReportsCopies fault written now status → Either (copies_status fault) status

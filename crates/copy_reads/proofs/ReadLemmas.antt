@@ -2,6 +2,7 @@
 use Rattle.std.proofs.Common.{◌≡◌, inl, inr, ℕ, List, [], refl, ap, sym, ◌∙◌, subst}
 use Rattle.std.specs.Prelude.{Option, Some, None, Result, Ok, Err}
 use Rattle.std.specs.Io.KnownBytes.{Appends}
+use Rattle.hk_base.specs.Faults.{Rose}
 use Rattle.hk_base.specs.declared.names.Edek.{Edek}
 use Rattle.inode_tree.specs.Rows.{Entry}
 use Rattle.key_rows.specs.declared.rows.KeyRow.{KeyRow}
@@ -11,7 +12,7 @@ use Rattle.body_stream.specs.Vaults.{TellsBodies, VaultState}
 use Rattle.body_stream.specs.declared.keys.BodyKey.{BodyKey}
 use Rattle.world_run.specs.Ledger.{Draw}
 use Rattle.world_run.specs.World.{WorldState}
-use Rattle.hk_runs.specs.Run.{History, Runs, world_after}
+use Rattle.hk_runs.specs.Run.{History, Runs, faults_after, world_after}
 use Rattle.file_orders.specs.Bodies.{Sends, SentWhole}
 use Rattle.file_orders.specs.Events.{Leading}
 use Rattle.file_orders.specs.Opening.{OpensShown}
@@ -22,7 +23,7 @@ use Rattle.file_orders.specs.declared.ends.FsEnd.TheVariants as end
 use Rattle.file_orders.specs.declared.open.OpenFile.{OpenFile}
 use Rattle.file_orders.specs.declared.open.ShownFile.{ShownFile}
 use Rattle.data_stream.specs.Bodies.{stored_of}
-use Rattle.data_stream.specs.Runs.{Adds}
+use Rattle.data_stream.specs.Runs.{AddsEvent}
 use Rattle.data_stream.proofs.KeyLemmas.{IsKeyOf, form_of_draw, key_at, key_of_draw, none_is_some}
 use Rattle.data_stream.proofs.LastLemmas.{body_stores, edek_stores}
 use Rattle.data_stream.proofs.OpenLemmas.{edek_opened}
@@ -63,11 +64,11 @@ module _ (lines : List PropLine) (tells : Type 0) (first : WorldState) (words : 
   abbrev keys : List KeyRow
   keys = (world_after first history).keys.keys.table.rows
 
-  whole : (found : Result ShownFile FsEnd) (file : OpenFile) → FindsCopy rows path found → OpensShown (Adds now) user found [] (Ok file) history → SentWhole file from count how copies written body → TellsBodies copies
+  whole : tells → (found : Result ShownFile FsEnd) (file : OpenFile) → FindsCopy rows path found → OpensShown (AddsEvent now) user found [] (Ok file) history → SentWhole file from count how copies written body → TellsBodies copies
       → HasReadCopy keys rows path from count copies written body
-  whole (Err why) file finds (is, same) done told = absurd cc
-  whole (Ok shown) file finds opens done told =
-      let o = edek_opened lines tells first words before now user path shown.id shown.edek [] history file runs opens in
+  whole telling (Err why) file finds (is, same) done told = absurd cc
+  whole telling (Ok shown) file finds opens done told =
+      let o = edek_opened lines tells first words before now user path telling shown.id shown.edek [] history file runs opens in
       let key_is = subst (λ (w : WorldState). IsKeyOf w.keys.keys.table.rows shown.edek file.key) (sym o.2) o.1 in
       record {
         file = shown;
@@ -75,27 +76,27 @@ module _ (lines : List PropLine) (tells : Type 0) (first : WorldState) (words : 
         range = λ draw of bytes is. subst (Appends written body) (done.reads.range told bytes (ap copies.bodies o.0 ∙ is ∙ sym (form_is keys shown file.key key_is draw of bytes))) done.reads.wrote;
       }
 
-  sent_so : (found : Result ShownFile FsEnd) (result : Result OpenFile FsEnd) → FindsCopy rows path found → OpensShown (Adds now) user found [] result history → Sends from count result how copies copies' written body
+  sent_so : tells → (found : Result ShownFile FsEnd) (result : Result OpenFile FsEnd) → FindsCopy rows path found → OpensShown (AddsEvent now) user found [] result history → Sends from count result how copies copies' written body
       → (sent : ℕ) → how ≡ end.Read sent → TellsBodies copies → HasReadCopy keys rows path from count copies written body
-  sent_so found (Ok file) finds opens (inl done, same) sent is told = whole found file finds opens done told
-  sent_so found (Ok file) finds opens (inr cut, same) sent is told = absurd (no_read cut.fault sent (sym cut.how_is ∙ is))
-  sent_so found (Err why) finds opens (same, unwritten, untouched) sent is told =
-      absurd (never why (end.Read sent) (not_opened (Adds now) rows user path found [] history (Err why) finds opens) (sym same ∙ is) (λ f. f))
+  sent_so telling found (Ok file) finds opens (inl done, same) sent is told = whole telling found file finds opens done told
+  sent_so telling found (Ok file) finds opens (inr cut, same) sent is told = absurd (no_read cut.fault sent (sym cut.how_is ∙ is))
+  sent_so telling found (Err why) finds opens (same, unwritten, untouched) sent is told =
+      absurd (never why (end.Read sent) (not_opened (AddsEvent now) rows user path found [] history (Err why) finds opens) (sym same ∙ is) (λ f. f))
 
-  pub copy_written : ReadsCopy (Adds now) rows user path from count [] how history copies copies' written body → (sent : ℕ) → how ≡ end.Read sent → TellsBodies copies → HasReadCopy keys rows path from count copies written body
-  copy_written r sent is told = sent_so r.found r.opened r.finds r.opens r.sends sent is told
+  pub copy_written : tells → ReadsCopy (AddsEvent now) rows user path from count [] how history copies copies' written body → (sent : ℕ) → how ≡ end.Read sent → TellsBodies copies → HasReadCopy keys rows path from count copies written body
+  copy_written telling r sent is told = sent_so telling r.found r.opened r.finds r.opens r.sends sent is told
 
-  -- ---- no disk fails in it
+  -- ---- a fault of the store is one of the disk
 
-  none_stores : (found : Result ShownFile FsEnd) → FindsCopy rows path found → OpensShown (Adds now) user found [] (Err end.StoreFault) history → ⊥
-  none_stores (Err why) finds (is, same) = finds.no_fault (sym (same_err {T = OpenFile} end.StoreFault why is))
+  none_stores : (found : Result ShownFile FsEnd) → FindsCopy rows path found → OpensShown (AddsEvent now) user found [] (Err end.StoreFault) history → Rose before (faults_after before history)
+  none_stores (Err why) finds (is, same) = absurd (finds.no_fault (sym (same_err {T = OpenFile} end.StoreFault why is)))
   none_stores (Ok shown) finds opens = edek_stores lines tells first words before now user path shown.id shown.edek [] history runs opens
 
-  sends_store : (found : Result ShownFile FsEnd) (result : Result OpenFile FsEnd) → FindsCopy rows path found → OpensShown (Adds now) user found [] result history → Sends from count result how copies copies' written body → how ≡ end.StoreFault → ⊥
-  sends_store found (Ok file) finds opens (inl done, same) is = let bad : end.Read done.sent ≡ end.StoreFault = sym done.how_is ∙ is in cc
-  sends_store found (Ok file) finds opens (inr cut, same) is = body_stores cut.fault (sym is ∙ cut.how_is)
+  sends_store : (found : Result ShownFile FsEnd) (result : Result OpenFile FsEnd) → FindsCopy rows path found → OpensShown (AddsEvent now) user found [] result history → Sends from count result how copies copies' written body → how ≡ end.StoreFault → Rose before (faults_after before history)
+  sends_store found (Ok file) finds opens (inl done, same) is = let bad : end.Read done.sent ≡ end.StoreFault = sym done.how_is ∙ is in absurd cc
+  sends_store found (Ok file) finds opens (inr cut, same) is = absurd (body_stores cut.fault (sym is ∙ cut.how_is))
   sends_store found (Err why) finds opens (same, unwritten, untouched) is =
-      none_stores found finds (subst (λ (w : FsEnd). OpensShown (Adds now) user found [] (Err w) history) (sym same ∙ is) opens)
+      none_stores found finds (subst (λ (w : FsEnd). OpensShown (AddsEvent now) user found [] (Err w) history) (sym same ∙ is) opens)
 
-  pub copy_store : ReadsCopy (Adds now) rows user path from count [] how history copies copies' written body → how ≡ end.StoreFault → ⊥
+  pub copy_store : ReadsCopy (AddsEvent now) rows user path from count [] how history copies copies' written body → how ≡ end.StoreFault → Rose before (faults_after before history)
   copy_store r is = sends_store r.found r.opened r.finds r.opens r.sends is

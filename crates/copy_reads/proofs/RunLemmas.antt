@@ -13,7 +13,7 @@ use Rattle.prop_text.specs.declared.props.Props.{Props}
 use Rattle.body_stream.specs.Vaults.{VaultState}
 use Rattle.world_run.specs.Acknowledged.{LeavesBoth, RunBoth}
 use Rattle.world_run.specs.Drives.{Standing}
-use Rattle.world_run.specs.Keeps.{Begins, LeftByStarts}
+use Rattle.world_run.specs.Keeps.{BeginsFirstWorld, LeftByStarts}
 use Rattle.world_run.specs.Ledger.{Past}
 use Rattle.world_run.specs.Linked.{StartsSound}
 use Rattle.hk_runs.specs.Headline.{NothingHappened}
@@ -21,11 +21,11 @@ use Rattle.hk_runs.specs.Steps.{HasLists}
 use Rattle.hk_runs.proofs.HeadlineLemmas.{Ends, Unmoved, unmoved_keeps, unopened_keeps}
 use Rattle.file_orders.specs.Events.{Leading}
 use Rattle.file_orders.specs.declared.ends.FsEnd.{FsEnd}
-use Rattle.backup_names.specs.Orders.{HoldsNames, IsSettled, OrdersNames}
-use Rattle.data_stream.specs.Runs.{Adds, LeadsAt, world_before}
+use Rattle.backup_names.specs.Orders.{HoldsNamesystem, IsSettled, OrdersNames}
+use Rattle.data_stream.specs.Runs.{AddsEvent, LeadsAt, world_before}
 use Rattle.data_stream.proofs.CommandLemmas.{IsSeen, Shows, follow}
 use Rattle.data_stream.proofs.RunLemmas.{Opened, WorksAs, adds_on, begins_as, worked_keeps, worked_so}
-use Rattle.copy_reads.specs.Commands.{CannotOpenCopies, CopyKept, CopyOnDisks, CopyUnder, HoldsCopies, ReadsCopyFile, ReadsOpened, Rest}
+use Rattle.copy_reads.specs.Commands.{CannotOpenCopies, CopyOnDisks, CopyUnder, HoldsCopies, ReadCopyKept, ReadsCopyFile, ReadsOpened, Rest}
 use Rattle.copy_reads.specs.Copies.{ReadsCopy}
 use Rattle.copy_reads.proofs.FindLemmas.{err, same_err}
 use Rattle.copy_reads.proofs.ReadLemmas.{copy_so, copy_written}
@@ -42,7 +42,7 @@ module _ {X Y : Type 0} (view : X → Y) (Holds : X → Type 0) (leads : Leading
 -- ---- the second namesystem
 
 -- after a start, the log on the disk is that of the namesystem, and nothing is pending
-pub started_holds : (batch : ℕ) (old new : DiskState) (r : RunningNames) → Starts batch old new r → RunOn 1 old new → HoldsNames new r
+pub started_holds : (batch : ℕ) (old new : DiskState) (r : RunningNames) → Starts batch old new r → RunOn 1 old new → HoldsNamesystem new r
 started_holds batch old new r s run tells = let log = s.log (subst IsTrue run.tells tells) in (log.0 ++ next_opening s.found ∷ [], log.3)
 
 pub started_settled : (batch : ℕ) (old new : DiskState) (r : RunningNames) → Starts batch old new r → IsSettled r
@@ -92,7 +92,7 @@ rest_at leads same n m user path from count backup backup' a b copies copies' wr
 
 -- ---- once the logs of the first cluster were opened
 
-module _ {D W : Type 0} (state : D → DiskState) (to_come : W → ℕ → ℕ) (props : Props) (old : DiskState) (v v' : Standing D W) (b : Begins props.sizes old (state v.disk) v.world) (moments : Tells old → LeavesBoth old (state v.disk) (LeftByStarts old))
+module _ {D W : Type 0} (state : D → DiskState) (to_come : W → ℕ → ℕ) (props : Props) (old : DiskState) (v v' : Standing D W) (b : BeginsFirstWorld props.sizes old (state v.disk) v.world) (moments : Tells old → LeavesBoth old (state v.disk) (LeftByStarts old))
     (run : RunBoth old (state v.disk)) (has : HasLists v.world props.lines) (same : Type 0) (user path : List ℕ) (from count : ℕ) (backup backup' : DiskState) (copies copies' : VaultState) (written now : Option (List ℕ)) (status : ℕ) where
   abbrev o : Opened
   o = record { disk = state v.disk; services = v.world; words = to_come v.words }
@@ -110,7 +110,7 @@ module _ {D W : Type 0} (state : D → DiskState) (to_come : W → ℕ → ℕ) 
   opened_ran : ReadsOpened (LeadsAt state to_come) props.sizes.batch user path from count backup backup' v v' copies copies' written now status → Does
   unfolding worked_so
   opened_ran r =
-      let f = copy_so (LeadsAt state to_come r.moment) (Adds r.moment) (WorksAs state to_come props.lines o) (adds_on state to_come props.lines o r.moment has) r.names.store.table.rows user path from count v v' [] r.how copies copies' written r.body
+      let f = copy_so (LeadsAt state to_come r.moment) (AddsEvent r.moment) (WorksAs state to_come props.lines o) (adds_on state to_come props.lines o r.moment has) r.names.store.table.rows user path from count v v' [] r.how copies copies' written r.body
       (begins_as state to_come props.lines v) r.reads in
       let worked = worked_so state to_come props old v v' f.then b moments run f.follows in
       record {
@@ -131,7 +131,8 @@ module _ {D W : Type 0} (state : D → DiskState) (to_come : W → ℕ → ℕ) 
             reads = f.did;
             closes = r.closes;
           },
-          copy_written props.lines (Tells old) (world_before worked) (to_come v.words) worked.before r.moment r.names.store.table.rows user path from count f.then worked.runs r.how copies copies' written r.body f.did,
+          λ telling.
+              copy_written props.lines (Tells old) (world_before worked) (to_come v.words) worked.before r.moment r.names.store.table.rows user path from count f.then worked.runs r.how copies copies' written r.body telling f.did,
         );
       }
 
@@ -144,11 +145,11 @@ module _ {D W : Type 0} (state : D → DiskState) (to_come : W → ℕ → ℕ) 
 module _ (past : Past) (old new : DiskState) (tells : Tells old) (sound : StartsSound old past) (ends : Ends old new) where
   pub copy_keeps : (same_disk same_backup same : Type 0) (user path : List ℕ) (from count : ℕ) (backup backup' : DiskState) (acls acls' : Option (List ℕ)) (words words' : ℕ → ℕ) (copies copies' : VaultState) (written now : Option (List ℕ)) (status : ℕ)
       → (same_disk → Unmoved old new) → ReadsCopyFile same_disk same_backup same user path from count old new backup backup' acls acls' words words' copies copies' written now status
-      → NothingHappened (same_backup × same) past old new ⊎ CopyKept past same user path from count old new backup backup' acls acls' words words' copies copies' written now status
+      → NothingHappened (same_backup × same) past old new ⊎ ReadCopyKept past same user path from count old new backup backup' acls acls' words words' copies copies' written now status
   copy_keeps same_disk same_backup same user path from count backup backup' acls acls' words words' copies copies' written now status idle (inl bad) = inl (unmoved_keeps past old new tells sound bad.untouched.1 (idle bad.untouched.0))
   copy_keeps same_disk same_backup same user path from count backup backup' acls acls' words words' copies copies' written now status idle (inr with) = under with.range
     where
       under : CopyUnder with.props same_backup same user path from count old new backup backup' words words' copies copies' written now status
-          → NothingHappened (same_backup × same) past old new ⊎ CopyKept past same user path from count old new backup backup' acls acls' words words' copies copies' written now status
+          → NothingHappened (same_backup × same) past old new ⊎ ReadCopyKept past same user path from count old new backup backup' acls acls' words words' copies copies' written now status
       under (inl not) = inl (unopened_keeps past old new tells sound not.untouched ends (not.not_opened.any_moment tells) not.not_opened.run.later)
       under (inr range) = inr (record { props = with.props; read = with.read; range = range; keeps = worked_keeps past with.props old new words words' tells sound ends range.worked })

@@ -15,8 +15,8 @@ use Rattle.hk_runs.proofs.BeganLemmas.{start_cause, store_ended}
 use Rattle.file_orders.specs.declared.ends.FsEnd.{FsEnd}
 use Rattle.file_orders.specs.declared.ends.FsEnd.TheVariants as end
 use Rattle.data_stream.specs.Runs.{Worked, world_before}
-use Rattle.data_stream.specs.Ends.{Closes, status_of}
-use Rattle.data_stream.proofs.StatusLemmas.{closes_either, reports_either}
+use Rattle.data_stream.specs.Ends.{ClosesWith, status_of}
+use Rattle.data_stream.proofs.StatusLemmas.{closes_either, reports_either, rose_within}
 use Rattle.copy_reads.specs.Commands.{CopyUnder, ReadsCopyFile, RestAfter}
 use Rattle.copy_reads.proofs.FaultLemmas.{by_either, copies_store}
 use Rattle.copy_reads.proofs.ReadLemmas.{copy_store}
@@ -60,7 +60,7 @@ props_store (props_fault.TextFault prop.NoMemory) h = cc
 pub reported_store : (how : ReplayEnd) (written now : Option (List ℕ)) (status : ℕ) → Reports how written now status → status ≡ 5 → how ≡ ended.StoreFault
 reported_store how written now status r is = replay_stores how (by_either (replay_status how) 5 status (λ h. cc) (λ h. cc) (reports_either how written now status r) is)
 
-pub closed_store : (how : FsEnd) (written now : Option (List ℕ)) (status : ℕ) → Closes how written now status → status ≡ 5 → how ≡ end.StoreFault
+pub closed_store : (how : FsEnd) (written now : Option (List ℕ)) (status : ℕ) → ClosesWith how written now status → status ≡ 5 → how ≡ end.StoreFault
 closed_store how written now status c is = end_stores how (by_either (status_of how) 5 status (λ h. cc) (λ h. cc) (closes_either how written now status c) is)
 
 module _ (user path : List ℕ) (from count : ℕ) (old new backup backup' : DiskState) (words words' : ℕ → ℕ) (copies copies' : VaultState) (written now : Option (List ℕ)) (status : ℕ) (is : status ≡ 5) where
@@ -70,8 +70,9 @@ module _ (user path : List ℕ) (from count : ℕ) (old new backup backup' : Dis
   rest_cause : (props : Props) (same : Type 0) (worked : Worked props old new words words') → RestAfter worked same user path from count backup backup' copies copies' written now status → Cause
   rest_cause props same worked (inl not) = inr (not.not_opened.why.cause (copies_store not.fault written now status not.reports is))
   rest_cause props same worked (inr (r, wrote)) =
-      absurd (copy_store props.lines (Tells old) (world_before worked) words worked.before r.moment r.names.store.table.rows user path from count worked.history worked.runs r.how copies copies' written r.body r.reads
-      (closed_store r.how r.body now status r.closes is))
+      inl (rose_within old.faults worked.before _ new.faults worked.began worked.ended
+      (copy_store props.lines (Tells old) (world_before worked) words worked.before r.moment r.names.store.table.rows user path from count worked.history worked.runs r.how copies copies' written r.body r.reads
+      (closed_store r.how r.body now status r.closes is)))
 
   pub store_cause : (same_disk same_backup same : Type 0) (acls acls' : Option (List ℕ)) → ReadsCopyFile same_disk same_backup same user path from count old new backup backup' acls acls' words words' copies copies' written now status → Cause
   store_cause same_disk same_backup same acls acls' (inl bad) = absurd (props_store bad.fault (reported_store (ended_by_props bad.fault) written now status bad.reports is))

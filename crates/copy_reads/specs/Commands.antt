@@ -10,7 +10,7 @@ use Rattle.name_store.specs.Store.{IsNameLog, OpensNames}
 use Rattle.name_store.specs.Table.{NameTable, next_opening}
 use Rattle.name_core.specs.State.{IsNamesystemOf, RunningNames, service_of, started}
 use Rattle.prop_text.specs.declared.props.Props.{Props}
-use Rattle.command_io.specs.Ends.{Shows}
+use Rattle.command_io.specs.Ends.{ShowsWith}
 use Rattle.command_io.specs.Properties.{ReadsProperties}
 use Rattle.world_run.specs.Ledger.{Past}
 use Rattle.hk_runs.specs.Headline.{Headline}
@@ -19,8 +19,8 @@ use Rattle.file_orders.specs.Events.{Leading}
 use Rattle.file_orders.specs.declared.ends.FsEnd.{FsEnd}
 use Rattle.file_orders.specs.declared.ends.FsEnd.TheVariants as end
 use Rattle.data_stream.specs.Commands.{CannotOpen, RefusesProperties}
-use Rattle.data_stream.specs.Ends.{Closes}
-use Rattle.data_stream.specs.Runs.{Adds, Worked, last_world, world_before}
+use Rattle.data_stream.specs.Ends.{ClosesWith}
+use Rattle.data_stream.specs.Runs.{AddsEvent, Worked, last_world, world_before}
 use Rattle.copy_reads.specs.Bodies.{HasReadCopy}
 use Rattle.copy_reads.specs.Copies.{CauseOfRead, ReadsCopy}
 
@@ -43,7 +43,7 @@ copies_line start.Spent = codes "openings spent\n"
 pub record ReportsCopies (fault : StartFault) (written now : Option (List ℕ)) (status : ℕ) : Type 0 where
   pub last : StartFault
   pub last_is : (last ≡ fault) ⊎ (last ≡ start.NoMemory)
-  pub shows : Shows (copies_line last) (copies_status last) written now status
+  pub shows : ShowsWith (copies_line last) (copies_status last) written now status
 
 -- The log could not be opened. No event happened, and nothing but both disks was changed, as `same` says.
 pub record CannotOpenCopies {X : Type 0} (same : Type 0) (backup backup' : DiskState) (a b : X) (written now : Option (List ℕ)) (status : ℕ) : Type 0 where
@@ -79,7 +79,7 @@ pub record ReadsOpened {X : Type 0} (leads : ℕ → Leading X) (batch : ℕ) (u
   -- the time of the event
   pub moment : ℕ
   pub reads : ReadsCopy (leads moment) names.store.table.rows user path from count a how b copies copies' written body
-  pub closes : Closes how body now status
+  pub closes : ClosesWith how body now status
 
 -- the second namesystem was not opened, or the range was read
 abbrev pub Rest : {X : Type 0} → (ℕ → Leading X) → Type 0 → ℕ → List ℕ → List ℕ → ℕ → ℕ → DiskState → DiskState → X → X → VaultState → VaultState → Option (List ℕ) → Option (List ℕ) → ℕ → Type 0
@@ -92,12 +92,13 @@ Wrote keys path from count copies written how body names = (sent : ℕ) → how 
 
 -- ---- both
 
--- After these events of the first cluster, the second namesystem was not opened, or the range was read. If the whole range was written, it
--- is that of the bytes that were copied.
+-- After these events of the first cluster, the second namesystem was not opened, or the range was read. If the whole range was written, and
+-- the disk of the first cluster tells its content, it is that of the bytes that were copied.
 abbrev pub RestAfter : {props : Props} {old new : DiskState} {words words' : ℕ → ℕ} → Worked props old new words words' → Type 0 → List ℕ → List ℕ → ℕ → ℕ → DiskState → DiskState → VaultState → VaultState → Option (List ℕ) → Option (List ℕ) → ℕ → Type 0
-RestAfter {props} worked same user path from count backup backup' copies copies' written now status =
+RestAfter {props} {old} worked same user path from count backup backup' copies copies' written now status =
     CannotOpenCopies same backup backup' [] worked.history written now status
-    ⊎ ((opened : ReadsOpened Adds props.sizes.batch user path from count backup backup' [] worked.history copies copies' written now status) × Wrote (last_world worked).keys.keys.table.rows path from count copies written opened.how opened.body opened.names)
+    ⊎ ((opened : ReadsOpened AddsEvent props.sizes.batch user path from count backup backup' [] worked.history copies copies' written now status)
+    × (Tells old → Wrote (last_world worked).keys.keys.table.rows path from count copies written opened.how opened.body opened.names))
 
 -- the logs of the first cluster were opened, and what came then
 pub record CopyOnDisks (same : Type 0) (props : Props) (user path : List ℕ) (from count : ℕ) (old new backup backup' : DiskState) (words words' : ℕ → ℕ) (copies copies' : VaultState) (written now : Option (List ℕ)) (status : ℕ) : Type 0 where
@@ -122,7 +123,7 @@ ReadsCopyFile same_disk same_backup same user path from count old new backup bac
 -- ---- what is kept
 
 -- The logs of the first cluster were opened, and the history of the events keeps the promise.
-pub record CopyKept (past : Past) (same : Type 0) (user path : List ℕ) (from count : ℕ) (old new backup backup' : DiskState) (acls acls' : Option (List ℕ)) (words words' : ℕ → ℕ) (copies copies' : VaultState) (written now : Option (List ℕ)) (status : ℕ) : Type 0 where
+pub record ReadCopyKept (past : Past) (same : Type 0) (user path : List ℕ) (from count : ℕ) (old new backup backup' : DiskState) (acls acls' : Option (List ℕ)) (words words' : ℕ → ℕ) (copies copies' : VaultState) (written now : Option (List ℕ)) (status : ℕ) : Type 0 where
   pub props : Props
   pub read : ReadsProperties acls acls' props
   pub range : CopyOnDisks same props user path from count old new backup backup' words words' copies copies' written now status

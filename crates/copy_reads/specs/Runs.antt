@@ -11,7 +11,7 @@ use Rattle.world_run.specs.World.{RunningWorld}
 use Rattle.world_desk.specs.Worlds.{standing}
 use Rattle.world_events.specs.Events.{LeadsAt}
 use Rattle.hk_runs.specs.Headline.{NothingHappened}
-use Rattle.copy_reads.specs.Commands.{CopyKept, CopyUnder, ReadsCopyFile, Rest}
+use Rattle.copy_reads.specs.Commands.{CopyUnder, ReadCopyKept, ReadsCopyFile, Rest}
 
 -- What the command works on: the disk of the first cluster, the disk of the second namesystem, the output, the source of random words, the
 -- vault of the copies and the clock.
@@ -55,6 +55,6 @@ module _ {D E K W U C : Type 0} (of_disk : disks.Ghosts D) (of_backup : disks.Gh
     abbrev pub ReadsCopiesKept : List ℕ → List ℕ → ℕ → ℕ → Past → ℕ → Type 0
     ReadsCopiesKept user path from count past status =
         NothingHappened ((new.backup ≡ old.backup) × Unused old new) past (of_disk.state old.disk) (of_disk.state new.disk)
-        ⊎ CopyKept past (Unused old new) user path from count (of_disk.state old.disk) (of_disk.state new.disk) (of_backup.state old.backup) (of_backup.state new.backup)
+        ⊎ ReadCopyKept past (Unused old new) user path from count (of_disk.state old.disk) (of_disk.state new.disk) (of_backup.state old.backup) (of_backup.state new.backup)
         (of_acls.left acls) (of_acls.left acls') (of_rand.to_come old.rand) (of_rand.to_come new.rand) (of_copies.state old.copies) (of_copies.state new.copies)
         (of_out.written old.out) (of_out.written new.out) status

@@ -3,10 +3,10 @@ ghost use Rattle.std.specs.Prelude.{◌≡◌, ◌⊎◌, ◌≤◌, ℕ};
 ghost use Rattle.hk_base.specs.Faults.{Rose};
 ghost use Rattle.name_core.specs.State.{RunningNames, service_of};
 ghost use Rattle.world_run.specs.World.{RunningWorld};
-ghost use Rattle.world_desk.specs.Worlds.{IsReady, standing};
+ghost use Rattle.world_desk.specs.Worlds.{IsDeskReady, standing};
 ghost use Rattle.world_events.specs.Events.{LeadsAt, standing_of};
 ghost use Rattle.hk_runs.specs.Headline.{FromSoundFiles};
-ghost use Rattle.backup_names.specs.Orders.{HoldsNames, IsSettled, OrdersNames};
+ghost use Rattle.backup_names.specs.Orders.{HoldsNamesystem, IsSettled, OrdersNames};
 ghost use Rattle.copy_reads.specs.Copies.{CauseOfRead, ReadsCopy};
 ghost use Rattle.copy_reads.specs.Runs.{CopiesUnder, ReadsCopies, ReadsCopiesKept, RestFrom, files};
 
@@ -36,8 +36,8 @@ fn read_over<'a, D: Disk, E: Disk, W: Words, U: Vault, K: Sink>(
     copies: &mut U,
     out: &mut K,
 ) -> FsEnd
-    requires ready { IsReady D.state (standing_of events.old) }
-    requires holds { HoldsNames (E.state backup.old) name.old }
+    requires ready { IsDeskReady D.state (standing_of events.old) }
+    requires holds { HoldsNamesystem (E.state backup.old) name.old }
     requires settled { IsSettled name.old }
     ensures reads { ReadsCopy (LeadsAt D.state W.to_come events.old.now)
         name.old.store.table.rows user.now path.now from count (standing_of events.old) result
@@ -76,8 +76,8 @@ fn read_from<D: Disk, E: Disk, W: Words, C: Clock, U: Vault, K: Sink>(
     clock: &mut C,
     out: &mut K,
 ) -> FsEnd
-    requires ready { IsReady D.state (standing disk.old world.old rand.old) }
-    requires holds { HoldsNames (E.state backup.old) name.old }
+    requires ready { IsDeskReady D.state (standing disk.old world.old rand.old) }
+    requires holds { HoldsNamesystem (E.state backup.old) name.old }
     requires settled { IsSettled name.old }
     ensures reads { (now : ℕ) ×
         ReadsCopy (LeadsAt D.state W.to_come now) name.old.store.table.rows user.now path.now from
@@ -125,8 +125,8 @@ fn read_in<D: Disk, E: Disk, W: Words, C: Clock, U: Vault, K: Sink>(
     clock: &mut C,
     out: &mut K,
 ) -> FsEnd
-    requires ready { IsReady D.state (standing disk.old world rand.old) }
-    requires holds { HoldsNames (E.state backup.old) name }
+    requires ready { IsDeskReady D.state (standing disk.old world rand.old) }
+    requires holds { HoldsNamesystem (E.state backup.old) name }
     requires settled { IsSettled name }
     ensures reads { (now : ℕ) × (w : RunningWorld) ×
         ReadsCopy (LeadsAt D.state W.to_come now) name.store.table.rows user.now path.now from
@@ -168,7 +168,7 @@ fn read_opened<D: Disk, E: Disk, W: Words, C: Clock, U: Vault, K: Sink>(
     rand: &mut W,
     clock: &mut C,
 ) -> u8
-    requires ready { IsReady D.state (standing disk.old world rand.old) }
+    requires ready { IsDeskReady D.state (standing disk.old world rand.old) }
     requires some { 1 ≤ batch }
     requires most { batch ≤ 1000 }
     ensures read { RestFrom D.Disk E.Disk K.Sink W.Words U.Vault

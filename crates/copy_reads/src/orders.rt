@@ -2,7 +2,7 @@
 ghost use Rattle.std.specs.Prelude.{◌≡◌, ◌≤◌, IfErr};
 ghost use Rattle.hk_base.specs.Faults.{Rose};
 ghost use Rattle.name_core.specs.State.{service_of};
-ghost use Rattle.backup_names.specs.Orders.{HoldsNames, IsSettled, OrdersNames};
+ghost use Rattle.backup_names.specs.Orders.{HoldsNamesystem, IsSettled, OrdersNames};
 ghost use Rattle.copy_reads.specs.Copies.{CauseOfRead, FindsCopy, ReadsCopy};
 
 use backup_names::look_file;
@@ -21,7 +21,7 @@ fn find_copy<E: Disk>(
     user: &Text,
     path: &Text,
 ) -> Result<ShownFile, FsEnd>
-    requires holds { HoldsNames (E.state backup.old) name.old }
+    requires holds { HoldsNamesystem (E.state backup.old) name.old }
     requires settled { IsSettled name.old }
     ensures finds { FindsCopy name.old.store.table.rows path.now result }
     ensures cause { IfErr result (CauseOfRead name.old user.now path.now) }
@@ -52,7 +52,7 @@ pub fn read_copy<T: Events, E: Disk, U: Vault, K: Sink>(
     out: &mut K,
 ) -> FsEnd
     requires ready { T.ready events.old }
-    requires holds { HoldsNames (E.state backup.old) name.old }
+    requires holds { HoldsNamesystem (E.state backup.old) name.old }
     requires settled { IsSettled name.old }
     ensures reads { ReadsCopy T.leads name.old.store.table.rows user.now path.now from count
         events.old result events.new (U.state copies.old) (U.state copies.new)

@@ -13,7 +13,7 @@ use Rattle.command_io.specs.declared.props.PropsFault.{PropsFault}
 use Rattle.command_io.specs.declared.props.PropsFault.TheVariants as props
 use Rattle.file_orders.specs.declared.ends.FsEnd.{FsEnd}
 use Rattle.file_orders.specs.declared.ends.FsEnd.TheVariants as end
-use Rattle.data_stream.specs.Ends.{Closes, status_of}
+use Rattle.data_stream.specs.Ends.{ClosesWith, status_of}
 
 -- ---- the ends of a command over a file
 
@@ -56,18 +56,18 @@ is_long end.WriteFault h = absurd cc
 is_long end.VaultFault h = absurd cc
 is_long end.TooLong h = refl
 
-closed_by : (own : FsEnd) (n : ℕ) → ((how : FsEnd) → status_of how ≡ n → how ≡ own) → (n ≡ 8 → ⊥) → (end.NoMemory ≡ own → ⊥) → (how : FsEnd) (written now : Option (List ℕ)) (status : ℕ) → Closes how written now status → status ≡ n → how ≡ own
+closed_by : (own : FsEnd) (n : ℕ) → ((how : FsEnd) → status_of how ≡ n → how ≡ own) → (n ≡ 8 → ⊥) → (end.NoMemory ≡ own → ⊥) → (how : FsEnd) (written now : Option (List ℕ)) (status : ℕ) → ClosesWith how written now status → status ≡ n → how ≡ own
 closed_by own n of failed memory how written now status c is = ⊎_elim
     (λ shown. ⊎_elim (λ same. sym same ∙ of c.last (sym shown.0 ∙ is)) (λ none. absurd (memory (sym none ∙ of c.last (sym shown.0 ∙ is)))) c.last_is)
     (λ cut. absurd (failed (sym is ∙ cut.0))) c.shows
 
-pub closed_read : (how : FsEnd) (written now : Option (List ℕ)) (status : ℕ) → Closes how written now status → status ≡ 7 → how ≡ end.ReadFault
+pub closed_read : (how : FsEnd) (written now : Option (List ℕ)) (status : ℕ) → ClosesWith how written now status → status ≡ 7 → how ≡ end.ReadFault
 closed_read how written now status c is = closed_by end.ReadFault 7 is_read (λ h. absurd cc) (λ h. cc) how written now status c is
 
-pub closed_vault : (how : FsEnd) (written now : Option (List ℕ)) (status : ℕ) → Closes how written now status → status ≡ 12 → how ≡ end.VaultFault
+pub closed_vault : (how : FsEnd) (written now : Option (List ℕ)) (status : ℕ) → ClosesWith how written now status → status ≡ 12 → how ≡ end.VaultFault
 closed_vault how written now status c is = closed_by end.VaultFault 12 is_vault (λ h. absurd cc) (λ h. cc) how written now status c is
 
-pub closed_long : (how : FsEnd) (written now : Option (List ℕ)) (status : ℕ) → Closes how written now status → status ≡ 13 → how ≡ end.TooLong
+pub closed_long : (how : FsEnd) (written now : Option (List ℕ)) (status : ℕ) → ClosesWith how written now status → status ≡ 13 → how ≡ end.TooLong
 closed_long how written now status c is = closed_by end.TooLong 13 is_long (λ h. absurd cc) (λ h. cc) how written now status c is
 
 -- ---- the ends before it

@@ -11,18 +11,18 @@ use Rattle.command_io.specs.declared.ends.ReplayEnd.{ReplayEnd}
 use Rattle.body_stream.specs.Vaults.{VaultState}
 use Rattle.world_run.specs.Acknowledged.{LeavesBoth, RunBoth}
 use Rattle.world_run.specs.Drives.{Standing}
-use Rattle.world_run.specs.Keeps.{Begins, LeftByStarts}
+use Rattle.world_run.specs.Keeps.{BeginsFirstWorld, LeftByStarts}
 use Rattle.world_run.specs.Ledger.{Past}
 use Rattle.world_run.specs.Linked.{StartsSound}
 use Rattle.hk_runs.specs.Headline.{NothingHappened}
 use Rattle.hk_runs.specs.Steps.{HasLists}
 use Rattle.hk_runs.proofs.HeadlineLemmas.{Ends, Unmoved, unmoved_keeps, unopened_keeps}
-use Rattle.file_orders.specs.Bodies.{Puts, Reads}
+use Rattle.file_orders.specs.Bodies.{Puts, ReadsRange}
 use Rattle.file_orders.specs.Events.{Leading}
 use Rattle.file_orders.specs.declared.ends.FsEnd.{FsEnd}
 use Rattle.file_orders.proofs.FollowLemmas.{puts_so, reads_so}
 use Rattle.data_stream.specs.Commands.{PutKept, PutOnDisk, PutUnder, PutsFile, ReadKept, ReadOnDisk, ReadUnder, ReadsFile}
-use Rattle.data_stream.specs.Runs.{Adds, LeadsAt, Worked}
+use Rattle.data_stream.specs.Runs.{AddsEvent, LeadsAt, Worked}
 use Rattle.data_stream.proofs.EndLemmas.{close_is_no_usage}
 use Rattle.data_stream.proofs.RunLemmas.{Opened, WorksAs, adds_on, begins_as, worked_keeps, worked_so}
 use Rattle.data_stream.proofs.StoreLemmas.{put_stored, range_read}
@@ -49,11 +49,11 @@ module _ {X Y : Type 0} (view : X → Y) (Holds : X → Type 0) (leads : Leading
       let f = puts_so leads others (IsSeen view Holds) follow user path a b (view a) how left left' old new (record { is = refl; holds = holds }) p in
       subst (λ (y : Y). Puts others user path (view a) how y left left' old new) (sym f.follows.is) f.did
 
-  pub reads_seen : (user path : List ℕ) (from count : ℕ) (a b : X) (how : FsEnd) (old new : VaultState) (written now : Option (List ℕ)) → Holds a → Reads leads user path from count a how b old new written now
-      → Reads others user path from count (view a) how (view b) old new written now
+  pub reads_seen : (user path : List ℕ) (from count : ℕ) (a b : X) (how : FsEnd) (old new : VaultState) (written now : Option (List ℕ)) → Holds a → ReadsRange leads user path from count a how b old new written now
+      → ReadsRange others user path from count (view a) how (view b) old new written now
   reads_seen user path from count a b how old new written now holds r =
       let f = reads_so leads others (IsSeen view Holds) follow user path from count a b (view a) how old new written now (record { is = refl; holds = holds }) r in
-      subst (λ (y : Y). Reads others user path from count (view a) how y old new written now) (sym f.follows.is) f.did
+      subst (λ (y : Y). ReadsRange others user path from count (view a) how y old new written now) (sym f.follows.is) f.did
 
 -- the line of the same end
 pub reported : (end same : ReplayEnd) (written now : Option (List ℕ)) (status : ℕ) → end ≡ same → Reports end written now status → Reports same written now status
@@ -61,23 +61,23 @@ reported end same written now status is reports = subst (λ (e : ReplayEnd). Rep
 
 -- ---- once both logs were opened
 
-module _ {D W : Type 0} (state : D → DiskState) (to_come : W → ℕ → ℕ) (props : Props) (old : DiskState) (v v' : Standing D W) (b : Begins props.sizes old (state v.disk) v.world) (moments : Tells old → LeavesBoth old (state v.disk) (LeftByStarts old))
+module _ {D W : Type 0} (state : D → DiskState) (to_come : W → ℕ → ℕ) (props : Props) (old : DiskState) (v v' : Standing D W) (b : BeginsFirstWorld props.sizes old (state v.disk) v.world) (moments : Tells old → LeavesBoth old (state v.disk) (LeftByStarts old))
     (run : RunBoth old (state v.disk)) (has : HasLists v.world props.lines) (user path : List ℕ) (now : ℕ) (how : FsEnd) (vault vault' : VaultState) (written body : Option (List ℕ)) where
   abbrev o : Opened
   o = record { disk = state v.disk; services = v.world; words = to_come v.words }
 
   pub put_ran : Puts (LeadsAt state to_come now) user path v how v' written body vault vault'
-      → (worked : Worked props old (state v'.disk) (to_come v.words) (to_come v'.words)) × Puts (Adds now) user path [] how worked.history written body vault vault'
+      → (worked : Worked props old (state v'.disk) (to_come v.words) (to_come v'.words)) × Puts (AddsEvent now) user path [] how worked.history written body vault vault'
   unfolding worked_so
   put_ran p =
-      let f = puts_so (LeadsAt state to_come now) (Adds now) (WorksAs state to_come props.lines o) (adds_on state to_come props.lines o now has) user path v v' [] how written body vault vault' (begins_as state to_come props.lines v) p in
+      let f = puts_so (LeadsAt state to_come now) (AddsEvent now) (WorksAs state to_come props.lines o) (adds_on state to_come props.lines o now has) user path v v' [] how written body vault vault' (begins_as state to_come props.lines v) p in
       (worked_so state to_come props old v v' f.then b moments run f.follows, f.did)
 
-  pub read_ran : (from count : ℕ) → Reads (LeadsAt state to_come now) user path from count v how v' vault vault' written body
-      → (worked : Worked props old (state v'.disk) (to_come v.words) (to_come v'.words)) × Reads (Adds now) user path from count [] how worked.history vault vault' written body
+  pub read_ran : (from count : ℕ) → ReadsRange (LeadsAt state to_come now) user path from count v how v' vault vault' written body
+      → (worked : Worked props old (state v'.disk) (to_come v.words) (to_come v'.words)) × ReadsRange (AddsEvent now) user path from count [] how worked.history vault vault' written body
   unfolding worked_so
   read_ran from count r =
-      let f = reads_so (LeadsAt state to_come now) (Adds now) (WorksAs state to_come props.lines o) (adds_on state to_come props.lines o now has) user path from count v v' [] how vault vault' written body (begins_as state to_come props.lines v) r in
+      let f = reads_so (LeadsAt state to_come now) (AddsEvent now) (WorksAs state to_come props.lines o) (adds_on state to_come props.lines o now has) user path from count v v' [] how vault vault' written body (begins_as state to_come props.lines v) r in
       (worked_so state to_come props old v v' f.then b moments run f.follows, f.did)
 
 -- ---- what is kept
@@ -97,7 +97,7 @@ module _ (past : Past) (old new : DiskState) (tells : Tells old) (sound : Starts
             read = with.read;
             put = put;
             keeps = keeps;
-            stored = put_stored past with.props old new words words' put.worked keeps put.moment user path put.how left left' vault vault' put.puts;
+            stored = put_stored past with.props old new words words' put.worked keeps put.moment user path tells put.how left left' vault vault' put.puts;
           }
 
       under : PutUnder with.props same user path old new words words' left left' vault vault' written now status
@@ -119,7 +119,7 @@ module _ (past : Past) (old new : DiskState) (tells : Tells old) (sound : Starts
             read = with.read;
             range = range;
             keeps = keeps;
-            wrote = range_read past with.props old new words words' range.worked keeps range.moment user path from count range.how vault vault' written range.body range.reads;
+            wrote = range_read past with.props old new words words' range.worked keeps range.moment user path tells from count range.how vault vault' written range.body range.reads;
           }
 
       under : ReadUnder with.props same user path from count old new words words' vault vault' written now status

@@ -25,6 +25,7 @@ use Rattle.kms_calls.specs.declared.calls.RawEdek.{RawEdek}
 use Rattle.kms_core.specs.Calls as keys
 use Rattle.kms_core.specs.State.{KmsState, ServiceState}
 use Rattle.kms_core.specs.Users.{ServesUnder}
+use Rattle.kms_core.proofs.MemoryReads.{acts-from-memory}
 use Rattle.name_calls.specs.declared.calls.Ask.{Ask}
 use Rattle.name_calls.specs.declared.calls.Ask.TheVariants as ask
 use Rattle.name_calls.specs.declared.calls.AskNote.{AskNote}
@@ -208,20 +209,20 @@ module _ (s : KmsState) (words : ℕ → ℕ) (now : ℕ) (c : KmsCall) (sound :
   key_acts answered drawn s' (keys.Plain, may, e) is = key_unless (keys.first_cause (keys.causes s c)) answered drawn s' refl e is
   key_acts answered drawn s' (keys.NoRoom count, may, e) is = let r : answered ≡ key_reply.Refused key.NoMemory = ap (λ (o : keys.Outcome). o.reply) e in absurd cc
 
-module _ (s : ServiceState) (words : ℕ → ℕ) (now : ℕ) (fault : Type 0) (answered : KmsReply) (drawn : ℕ) (logged : List KeyCommand) (s' : ServiceState) where
-  decrypted_soundly : (judged : Result Shown Denied) (name : KeyName) (sent : RawEdek) → ServesUnder judged s words now (call.Decrypt name sent) fault answered drawn logged s' → answered ≢ key_reply.Refused key.StoreFault
-  decrypted_soundly (Err denied) name sent denies is = let r = denies.reply_is in absurd cc
-  decrypted_soundly (Ok shown) name sent permits is =
-      key_acts s.keys words now (call.Decrypt name sent) (λ h. cc, (λ h. cc, (λ h. cc, (λ h. cc, tt)))) (λ h. cc) permits.reply drawn s.keys permits.serves.acts (sym permits.reply_is ∙ is)
+module _ (s : ServiceState) (words : ℕ → ℕ) (now : ℕ) (fault tells : Type 0) (answered : KmsReply) (drawn : ℕ) (logged : List KeyCommand) (s' : ServiceState) where
+  decrypted_fails : (judged : Result Shown Denied) (name : KeyName) (sent : RawEdek) → ServesUnder judged s words now (call.Decrypt name sent) fault tells answered drawn logged s' → answered ≡ key_reply.Refused key.StoreFault → fault
+  decrypted_fails (Err denied) name sent denies is = let r = denies.reply_is in absurd cc
+  decrypted_fails (Ok shown) name sent permits is = permits.serves.fails (sym permits.reply_is ∙ is)
 
-  generated_soundly : (judged : Result Shown Denied) (name : KeyName) (count : ℕ) → ServesUnder judged s words now (call.Generate name count) fault answered drawn logged s' → answered ≢ key_reply.Refused key.StoreFault
+  generated_soundly : (judged : Result Shown Denied) (name : KeyName) (count : ℕ) → ServesUnder judged s words now (call.Generate name count) fault tells answered drawn logged s' → answered ≢ key_reply.Refused key.StoreFault
   generated_soundly (Err denied) name count denies is = let r = denies.reply_is in absurd cc
   generated_soundly (Ok shown) name count permits is =
       key_acts s.keys words now (call.Generate name count) (λ h. cc, (λ h. cc, tt)) (λ h. cc) permits.reply drawn permits.serves.changed permits.serves.acts (sym permits.reply_is ∙ is)
 
-  shown_soundly : (judged : Result Shown Denied) (name : KeyName) → ServesUnder judged s words now (call.Metadata name) fault answered drawn logged s' → answered ≢ key_reply.Refused key.StoreFault
+  shown_soundly : (judged : Result Shown Denied) (name : KeyName) → ServesUnder judged s words now (call.Metadata name) fault tells answered drawn logged s' → answered ≢ key_reply.Refused key.StoreFault
   shown_soundly (Err denied) name denies is = let r = denies.reply_is in absurd cc
-  shown_soundly (Ok shown) name permits is = key_acts s.keys words now (call.Metadata name) (λ h. cc, tt) (λ h. cc) permits.reply drawn s.keys permits.serves.acts (sym permits.reply_is ∙ is)
+  shown_soundly (Ok shown) name permits is = key_acts s.keys words now (call.Metadata name) (λ h. cc, tt) (λ h. cc) permits.reply drawn s.keys
+      (acts-from-memory s words now (call.Metadata name) fault tells permits.reply drawn logged s' refl permits.serves) (sym permits.reply_is ∙ is)
 
 keys_store : (why : KmsRefusal) → end_of_keys why ≡ end.StoreFault → why ≡ key.StoreFault
 keys_store key.BadRequest h = absurd cc
@@ -288,15 +289,15 @@ kept_is : (few : Bool) (number own : ℕ) → (if few then Ok number else Err en
 kept_is true number own e = cc
 kept_is false number own e = absurd cc
 
-wanted_soundly : (lines : List PropLine) (s : ServiceState) (words : ℕ → ℕ) (now : ℕ) (w : Want) (fault : Type 0) (kept : Option KmsReply) (drawn : ℕ) (logged : List KeyCommand) (s' : ServiceState)
-    → WantActs lines s words now w fault kept drawn logged s' → kept ≢ Some (key_reply.Refused key.StoreFault)
-wanted_soundly lines s words now want.Nothing fault kept drawn logged s' nothing h = let r = nothing.reply_is in absurd cc
-wanted_soundly lines s words now (want.Generate name) fault kept drawn logged s' acts h =
+wanted_soundly : (lines : List PropLine) (s : ServiceState) (words : ℕ → ℕ) (now : ℕ) (w : Want) (fault tells : Type 0) (kept : Option KmsReply) (drawn : ℕ) (logged : List KeyCommand) (s' : ServiceState)
+    → WantActs lines s words now w fault tells kept drawn logged s' → kept ≢ Some (key_reply.Refused key.StoreFault)
+wanted_soundly lines s words now want.Nothing fault tells kept drawn logged s' nothing h = let r = nothing.reply_is in absurd cc
+wanted_soundly lines s words now (want.Generate name) fault tells kept drawn logged s' acts h =
     let own : acts.reply ≡ key_reply.Refused key.StoreFault = let r = acts.reply_is in cc in
-    generated_soundly s words now fault acts.reply drawn logged s' (verdict lines names.superuser (call.Generate name 1)) name 1 acts.serves own
-wanted_soundly lines s words now (want.Metadata name) fault kept drawn logged s' acts h =
+    generated_soundly s words now fault tells acts.reply drawn logged s' (verdict lines names.superuser (call.Generate name 1)) name 1 acts.serves own
+wanted_soundly lines s words now (want.Metadata name) fault tells kept drawn logged s' acts h =
     let own : acts.reply ≡ key_reply.Refused key.StoreFault = let r = acts.reply_is in cc in
-    shown_soundly s words now fault acts.reply drawn logged s' (verdict lines names.superuser (call.Metadata name)) name acts.serves own
+    shown_soundly s words now fault tells acts.reply drawn logged s' (verdict lines names.superuser (call.Metadata name)) name acts.serves own
 
 -- ---- the events of a command
 
@@ -338,27 +339,27 @@ module _ (lines : List PropLine) (w : WorldState) (words : ℕ → ℕ) (now : �
       go (Some p) (inr unread) = by refusal.NoMemory unread.reply_is memory
       go (Some p) (inl acts) = served acts.reply acts.reply_is (info_served w.names user p fault acts.reply acts.ops acts.names (first_cause (names.early_causes user (name_call.Info p))) refl acts.serves)
 
-  -- nor does a decryption
-  pub decrypt_never : (user : List ℕ) (name : KeyName) (sent : RawEdek) → Step lines w words now (event.Kms user (call.Decrypt name sent)) fault tells answer drawn logged w' → end_in answer ≢ end.StoreFault
-  decrypt_never user name sent step h = served step.reply step.reply_is (decrypted_soundly w.keys words now fault step.reply drawn step.commands step.keys (verdict lines user (call.Decrypt name sent)) name sent step.serves)
+  -- a decryption tells of a fault only if there was one
+  pub decrypt_fails : (user : List ℕ) (name : KeyName) (sent : RawEdek) → Step lines w words now (event.Kms user (call.Decrypt name sent)) fault tells answer drawn logged w' → end_in answer ≡ end.StoreFault → fault
+  decrypt_fails user name sent step h = served step.reply step.reply_is (decrypted_fails w.keys words now fault tells step.reply drawn step.commands step.keys (verdict lines user (call.Decrypt name sent)) name sent step.serves)
     where
-      served : (given : KmsReply) → answer ≡ line.Kms given → given ≢ key_reply.Refused key.StoreFault → ⊥
-      served (key_reply.Refused why) is sound = sound (ap key_reply.Refused (keys_store why (sym (ap end_in is) ∙ h)))
-      served (key_reply.Version version material) is sound = memory (sym (ap end_in is) ∙ h)
-      served (key_reply.Metadata meta) is sound = memory (sym (ap end_in is) ∙ h)
-      served (key_reply.Metadatas metas) is sound = memory (sym (ap end_in is) ∙ h)
-      served (key_reply.Names names) is sound = memory (sym (ap end_in is) ∙ h)
-      served (key_reply.Versions versions) is sound = memory (sym (ap end_in is) ∙ h)
-      served (key_reply.Ready edeks) is sound = memory (sym (ap end_in is) ∙ h)
-      served (key_reply.Key dek) is sound = memory (sym (ap end_in is) ∙ h)
-      served (key_reply.Resealed edek) is sound = memory (sym (ap end_in is) ∙ h)
-      served key_reply.Done is sound = memory (sym (ap end_in is) ∙ h)
+      served : (given : KmsReply) → answer ≡ line.Kms given → (given ≡ key_reply.Refused key.StoreFault → fault) → fault
+      served (key_reply.Refused why) is fails = fails (ap key_reply.Refused (keys_store why (sym (ap end_in is) ∙ h)))
+      served (key_reply.Version version material) is fails = absurd (memory (sym (ap end_in is) ∙ h))
+      served (key_reply.Metadata meta) is fails = absurd (memory (sym (ap end_in is) ∙ h))
+      served (key_reply.Metadatas metas) is fails = absurd (memory (sym (ap end_in is) ∙ h))
+      served (key_reply.Names names) is fails = absurd (memory (sym (ap end_in is) ∙ h))
+      served (key_reply.Versions versions) is fails = absurd (memory (sym (ap end_in is) ∙ h))
+      served (key_reply.Ready edeks) is fails = absurd (memory (sym (ap end_in is) ∙ h))
+      served (key_reply.Key dek) is fails = absurd (memory (sym (ap end_in is) ∙ h))
+      served (key_reply.Resealed edek) is fails = absurd (memory (sym (ap end_in is) ∙ h))
+      served key_reply.Done is fails = absurd (memory (sym (ap end_in is) ∙ h))
 
   -- the reply that a draw keeps tells of none
   pub draw_keeps : (number own : ℕ) → Step lines w words now (event.Draw number) fault tells answer drawn logged w' → replied_in answer ≡ Ok own → IsKeptSound w' own
   draw_keeps number own step is = go (numbered w.kept.notes number) step
     where
-      go : (note : Option AskNote) → DrawActs lines w words now note fault answer drawn logged w' → IsKeptSound w' own
+      go : (note : Option AskNote) → DrawActs lines w words now note fault tells answer drawn logged w' → IsKeptSound w' own
       go None unknown = let r = sym (ap replied_in unknown.reply_is) ∙ is in absurd cc
       go (Some note) (inr lacks) = let r = sym (ap replied_in lacks.reply_is) ∙ is in absurd cc
       go (Some note) (inl draws) =
@@ -367,7 +368,7 @@ module _ (lines : List PropLine) (w : WorldState) (words : ℕ → ℕ) (now : �
             id = note.id;
             answer = answer_of draws.reply;
             at = subst (λ (x : WorldState). numbered x.kept.replies own ≡ Some (ToAsk note.id (answer_of draws.reply))) (sym draws.left) (numbered_at_end w.kept.replies (ToAsk note.id (answer_of draws.reply)) own (sym number_is));
-            sound = answered_soundly draws.reply (wanted_soundly lines w.keys words now note.want fault draws.reply drawn draws.commands draws.keys draws.acts);
+            sound = answered_soundly draws.reply (wanted_soundly lines w.keys words now note.want fault tells draws.reply drawn draws.commands draws.keys draws.acts);
           }
 
   -- a finish by such a reply tells of a fault only if there was one

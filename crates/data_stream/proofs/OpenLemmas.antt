@@ -19,12 +19,12 @@ use Rattle.prop_text.specs.declared.lines.PropLine.{PropLine}
 use Rattle.world_run.specs.Step.{Step}
 use Rattle.world_run.specs.World.{WorldState}
 use Rattle.hk_runs.specs.Run.{History, Runs, behind, drawn_in, faults_after, world_after}
-use Rattle.file_orders.specs.Opening.{Decrypts, Opens, OpensEdek, OpensShown, as_sent, dek_by, dek_in, file_with, shown_by, shown_in}
+use Rattle.file_orders.specs.Opening.{Decrypts, OpensEdek, OpensFile, OpensShown, as_sent, dek_by, dek_in, file_with, shown_by, shown_in}
 use Rattle.file_orders.specs.declared.ends.FsEnd.{FsEnd}
 use Rattle.file_orders.specs.declared.open.OpenFile.{OpenFile}
 use Rattle.file_orders.specs.declared.open.ShownFile.{ShownFile}
 use Rattle.data_stream.specs.Bodies.{IsFileAt}
-use Rattle.data_stream.specs.Runs.{Adds}
+use Rattle.data_stream.specs.Runs.{AddsEvent}
 use Rattle.data_stream.proofs.KeyLemmas.{IsKeyOf}
 use Rattle.data_stream.proofs.StepLemmas.{decrypted, showed}
 
@@ -95,7 +95,7 @@ is_dek line.Unknown dek e = absurd cc
 
 -- the step of the last event of a run
 pub last_step : (lines : List PropLine) (tells : Type 0) (first : WorldState) (words : ℕ → ℕ) (before now : ℕ) (earlier later : History) (e : Event) (answer : Line)
-    → Runs lines tells first words before later → (a : Adds now earlier e answer later)
+    → Runs lines tells first words before later → (a : AddsEvent now earlier e answer later)
     → Step lines (world_after first earlier) (behind (drawn_in earlier) words) a.happened.now e (Rose (faults_after before earlier) a.happened.faults) tells answer a.happened.drawn a.happened.logged (world_after first later)
 last_step lines tells first words before now earlier later e answer runs a =
     let x = a.happened in
@@ -106,7 +106,7 @@ last_step lines tells first words before now earlier later e answer runs a =
 
 -- and the run before it
 pub run_before : (lines : List PropLine) (tells : Type 0) (first : WorldState) (words : ℕ → ℕ) (before now : ℕ) (earlier later : History) (e : Event) (answer : Line)
-    → Runs lines tells first words before later → Adds now earlier e answer later → Runs lines tells first words before earlier
+    → Runs lines tells first words before later → AddsEvent now earlier e answer later → Runs lines tells first words before earlier
 run_before lines tells first words before now earlier later e answer runs a = (subst (Runs lines tells first words before) a.later_is runs).1
 
 -- the file that was opened at a path, and its key
@@ -121,35 +121,35 @@ pub record IsOpened (w : WorldState) (path : List ℕ) (file : OpenFile) : Type 
 moved_to : (w w' : WorldState) (path : List ℕ) (file : OpenFile) → w' ≡ w → IsOpened w path file → IsOpened w' path file
 moved_to w w' path file same opened = subst (λ (x : WorldState). IsOpened x path file) (sym same) opened
 
-module _ (lines : List PropLine) (tells : Type 0) (first : WorldState) (words : ℕ → ℕ) (before now : ℕ) (user path : List ℕ) where
+module _ (lines : List PropLine) (tells : Type 0) (first : WorldState) (words : ℕ → ℕ) (before now : ℕ) (user path : List ℕ) (telling : tells) where
   abbrev Goes : History → Type 0
   Goes history = Runs lines tells first words before history
 
   -- the key of a file, once the world after these events has shown its encrypted key
-  key_opened : (id : ℕ) (edek : Edek) (mid later : History) (file : OpenFile) (dek : Result Dek FsEnd) → Goes later → Decrypts (Adds now) user edek mid dek later → Ok file ≡ file_with id edek.iv dek
+  key_opened : (id : ℕ) (edek : Edek) (mid later : History) (file : OpenFile) (dek : Result Dek FsEnd) → Goes later → Decrypts (AddsEvent now) user edek mid dek later → Ok file ≡ file_with id edek.iv dek
       → (file.id ≡ id) × IsKeyOf (world_after first mid).keys.keys.table.rows (Some edek) file.key × (world_after first later ≡ world_after first mid)
   key_opened id edek mid later file (Err why) runs decrypts is = absurd cc
   key_opened id edek mid later file (Ok dek) runs (inr (none, same)) is = absurd cc
   key_opened id edek mid later file (Ok dek) runs (inl (answer, adds, given)) is =
       let own : file ≡ record { id = id; key = Some (record { dek = dek; iv = edek.iv }) } = cc in
       let d = decrypted lines (world_after first mid) _ _ user edek.version.key (as_sent edek) _ tells answer _ _ (world_after first later)
-      (last_step lines tells first words before now mid later _ answer runs adds) dek (is_dek answer dek (sym given)) in
+      (last_step lines tells first words before now mid later _ answer runs adds) telling dek (is_dek answer dek (sym given)) in
       (ap (λ (f : OpenFile). f.id) own, (dek, ap (λ (f : OpenFile). f.key) own, d.dek_is), d.same)
 
-  pub edek_opened : (id : ℕ) (edek : Option Edek) (mid later : History) (file : OpenFile) → Goes later → OpensEdek (Adds now) user id edek mid (Ok file) later
+  pub edek_opened : (id : ℕ) (edek : Option Edek) (mid later : History) (file : OpenFile) → Goes later → OpensEdek (AddsEvent now) user id edek mid (Ok file) later
       → (file.id ≡ id) × IsKeyOf (world_after first mid).keys.keys.table.rows edek file.key × (world_after first later ≡ world_after first mid)
   edek_opened id None mid later file runs (is, same) =
       let own : file ≡ record { id = id; key = None } = cc in
       (ap (λ (f : OpenFile). f.id) own, ap (λ (f : OpenFile). f.key) own, ap (world_after first) same)
   edek_opened id (Some edek) mid later file runs (dek, decrypts, is) = key_opened id edek mid later file dek runs decrypts is
 
-  before_edek : (id : ℕ) (edek : Option Edek) (mid later : History) (result : Result OpenFile FsEnd) → Goes later → OpensEdek (Adds now) user id edek mid result later → Goes mid
+  before_edek : (id : ℕ) (edek : Option Edek) (mid later : History) (result : Result OpenFile FsEnd) → Goes later → OpensEdek (AddsEvent now) user id edek mid result later → Goes mid
   before_edek id None mid later result runs (is, same) = subst Goes same runs
   before_edek id (Some edek) mid later result runs (dek, inl (answer, adds, given), is) = run_before lines tells first words before now mid later _ answer runs adds
   before_edek id (Some edek) mid later result runs (dek, inr (none, same), is) = subst Goes same runs
 
-  shown_opened : (shown : Result ShownFile FsEnd) (answer : Line) (earlier mid later : History) (file : OpenFile) → shown_in answer ≡ shown → Goes later → Adds now earlier (event.Info user path) answer mid
-      → OpensShown (Adds now) user shown mid (Ok file) later → IsOpened (world_after first later) path file
+  shown_opened : (shown : Result ShownFile FsEnd) (answer : Line) (earlier mid later : History) (file : OpenFile) → shown_in answer ≡ shown → Goes later → AddsEvent now earlier (event.Info user path) answer mid
+      → OpensShown (AddsEvent now) user shown mid (Ok file) later → IsOpened (world_after first later) path file
   shown_opened (Err why) answer earlier mid later file given runs adds (is, same) = absurd cc
   shown_opened (Ok shown) answer earlier mid later file given runs adds opens =
       let s = is_shown answer shown given in
@@ -165,6 +165,6 @@ module _ (lines : List PropLine) (tells : Type 0) (first : WorldState) (words : 
         key_is = subst (λ (w : WorldState). IsKeyOf w.keys.keys.table.rows shown.edek file.key) i.same o.1;
       })
 
-  pub opened : (earlier later : History) (file : OpenFile) → Goes later → Opens (Adds now) user path earlier (Ok file) later → IsOpened (world_after first later) path file
+  pub opened : (earlier later : History) (file : OpenFile) → Goes later → OpensFile (AddsEvent now) user path earlier (Ok file) later → IsOpened (world_after first later) path file
   opened earlier later file runs (inl (answer, mid, adds, opens)) = shown_opened (shown_in answer) answer earlier mid later file refl runs adds opens
   opened earlier later file runs (inr (none, same)) = absurd cc

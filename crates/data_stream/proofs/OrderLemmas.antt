@@ -4,7 +4,7 @@ use Rattle.std.specs.Prelude.{IfErr, IfOk, Ok, Err, Option, Result, string_bytes
 use Rattle.clap.specs.Words.{IsAmong, Text}
 use Rattle.clap.specs.declared.error.ErrorKind.TheVariants.{DisplayHelp, DisplayVersion}
 use Rattle.clap_lines.specs.Orders.{IsMistake, ShownAs}
-use Rattle.fs_command_line.specs.Orders.{Answers, IsHelp, IsVersion, Names, line_fault}
+use Rattle.fs_command_line.specs.Orders.{IsHelp, IsOrderOf, IsVersion, Names, line_fault}
 use Rattle.fs_command_line.specs.declared.order.FsOrder.{FsOrder}
 use Rattle.fs_command_line.specs.declared.order.FsOrder.TheVariants.{Put, Read, Help, Version}
 use Rattle.clap_lines.specs.declared.told.OrderFault.{OrderFault}
@@ -37,7 +37,7 @@ module _ (puts : List ℕ → List ℕ → Type 0) (reads : List ℕ → List �
   obeyed order o (inr is) obeys = inr (subst (λ (x : OrderRead). Obeys x puts reads same written now status) is obeys)
 
 -- words that name an order give it, or there is no memory to read them
-pub named_so : (order : OrderRead) (words : List Text) → IfOk order (λ o. Answers o words) → IfErr order (λ fault. fault ≡ Usage → IsMistake (line_fault words)) → (o : FsOrder) → Names o words
+pub named_so : (order : OrderRead) (words : List Text) → IfOk order (λ o. IsOrderOf o words) → IfErr order (λ fault. fault ≡ Usage → IsMistake (line_fault words)) → (o : FsOrder) → Names o words
     → (order ≡ Ok o) ⊎ (order ≡ Err NoMemory)
 named_so (Err NoMemory) words answers usage o names = inr refl
 named_so (Err Usage) words answers usage o names = absurd ((usage refl).0 names.no_fault)

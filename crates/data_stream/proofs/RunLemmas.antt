@@ -5,7 +5,7 @@ use Rattle.prop_text.specs.declared.lines.PropLine.{PropLine}
 use Rattle.prop_text.specs.declared.props.Props.{Props}
 use Rattle.world_run.specs.Acknowledged.{Acknowledged, LeavesBoth, RunBoth}
 use Rattle.world_run.specs.Drives.{Standing}
-use Rattle.world_run.specs.Keeps.{Begins, LeftByStarts}
+use Rattle.world_run.specs.Keeps.{BeginsFirstWorld, LeftByStarts}
 use Rattle.world_run.specs.World.{RunningWorld, WorldState, first_world, world_of}
 use Rattle.hk_runs.specs.Logs.{NoRestart, opened_logs}
 use Rattle.hk_runs.specs.Run.{History, Runs, world_after}
@@ -17,7 +17,7 @@ use Rattle.hk_runs.specs.Headline.{Headline}
 use Rattle.world_run.specs.Ledger.{Past}
 use Rattle.world_run.specs.Linked.{StartsSound}
 use Rattle.file_orders.proofs.FollowLemmas.{Follows}
-use Rattle.data_stream.specs.Runs.{Adds, LeadsAt, Worked, world_before}
+use Rattle.data_stream.specs.Runs.{AddsEvent, LeadsAt, Worked, world_before}
 
 -- the state in which a command began: the disk, the services, and the words to come
 pub record Opened : Type 1 where
@@ -31,7 +31,7 @@ WorksAs state to_come lines o v history = Lived lines o.disk (state v.disk) o.se
 
 -- each event is added to the history
 pub adds_on : {D W : Type 0} (state : D → DiskState) (to_come : W → ℕ → ℕ) (lines : List PropLine) (o : Opened) (now : ℕ) → HasLists o.services lines
-    → Follows (LeadsAt state to_come now) (Adds now) (WorksAs state to_come lines o)
+    → Follows (LeadsAt state to_come now) (AddsEvent now) (WorksAs state to_come lines o)
 adds_on state to_come lines o now has a b history e answer so leads =
     let s = leads lines (has_lists o.services a.world lines so.lists has) in (
       happened_in s ∷ history,
@@ -47,7 +47,7 @@ begins_as state to_come lines v = lived_nothing lines (state v.disk) v.world (to
 
 -- a history after both logs were opened
 unfoldable pub worked_so : {D W : Type 0} (state : D → DiskState) (to_come : W → ℕ → ℕ) (props : Props) (old : DiskState) (v v' : Standing D W) (h : History)
-    → Begins props.sizes old (state v.disk) v.world → (Tells old → LeavesBoth old (state v.disk) (LeftByStarts old)) → RunBoth old (state v.disk)
+    → BeginsFirstWorld props.sizes old (state v.disk) v.world → (Tells old → LeavesBoth old (state v.disk) (LeftByStarts old)) → RunBoth old (state v.disk)
     → WorksAs state to_come props.lines (record { disk = state v.disk; services = v.world; words = to_come v.words }) v' h
     → Worked props old (state v'.disk) (to_come v.words) (to_come v'.words)
 worked_so {D} {W} state to_come props old v v' h b moments run worked = record {

@@ -16,17 +16,24 @@ use Rattle.world_run.specs.Starts.{FailsAt, OpensBoth}
 use Rattle.body_stream.specs.Transfers.{longest_body}
 use Rattle.body_stream.specs.Vaults.{TellsBodies, VaultState}
 use Rattle.clap_lines.specs.Orders.{IsMistake}
-use Rattle.fs_command_line.specs.Orders.{Answers, Names, line_fault}
+use Rattle.fs_command_line.specs.Orders.{IsOrderOf, Names, line_fault}
 use Rattle.fs_command_line.specs.declared.order.FsOrder.TheVariants.{Put}
 use Rattle.clap_lines.specs.declared.told.OrderFault.TheVariants.{Usage}
 use Rattle.file_orders.specs.Bodies.{HadBody}
 use Rattle.file_orders.specs.declared.ends.FsEnd.{FsEnd}
 use Rattle.file_orders.specs.declared.ends.FsEnd.TheVariants as end
 use Rattle.data_stream.specs.Commands.{CannotOpen, PutOnDisk, PutUnder, PutsFile, ReadOnDisk, ReadUnder, ReadsFile, RefusesProperties}
-use Rattle.data_stream.specs.Ends.{Closes, status_of}
+use Rattle.data_stream.specs.Ends.{ClosesWith, status_of}
 use Rattle.data_stream.specs.Statuses.{BadProperties, BadWords, Damaged, Done, HasReason, IsGood, IsRefusal, NamesPut, NoMemory, OrdersPut, ReadFailed, Refused, Spent, StoreFailed, Surroundings, TooLong, VaultFailed, WasRefused, WriteFailed}
 use Rattle.data_stream.proofs.LastLemmas.{put_end, put_store, read_end, read_store}
 use Rattle.data_stream.proofs.OrderLemmas.{OrderRead}
+
+-- what rose within a run rose over it
+pub rose_within : (a b c d : ℕ) → a ≤ b → c ≤ d → Rose b c → Rose a d
+rose_within a b c d le more rose = raised (a + 1) (b + 1) (2 ^ 64 - 1) c d (omega (arith, le)) more rose
+  where
+    raised : (m n most p q : ℕ) → m ≤ n → p ≤ q → min n most ≤ p → min m most ≤ q
+    raised m n most p q le more h = grind arith
 
 -- ---- the status of an end, of a lack of memory, or of the output
 
@@ -43,7 +50,7 @@ reports_either stop written now status r =
     (λ cut. inr (inr (r.status_is ∙ (λ i. replay_status (cut.0 i)))))
     r.closes.writes
 
-pub closes_either : (how : FsEnd) (written now : Option (List ℕ)) (status : ℕ) → Closes how written now status → Either (status_of how) status
+pub closes_either : (how : FsEnd) (written now : Option (List ℕ)) (status : ℕ) → ClosesWith how written now status → Either (status_of how) status
 closes_either how written now status c =
     ⊎_elim
     (λ shown. ⊎_elim
@@ -110,12 +117,6 @@ module _ (s : Surroundings) (status : ℕ) (output : status ≡ 8 → s.output_f
 
   -- ---- both commands
 
-  rose_within : (a b c d : ℕ) → a ≤ b → c ≤ d → Rose b c → Rose a d
-  rose_within a b c d le more rose = raised (a + 1) (b + 1) (2 ^ 64 - 1) c d (omega (arith, le)) more rose
-    where
-      raised : (m n most p q : ℕ) → m ≤ n → p ≤ q → min n most ≤ p → min m most ≤ q
-      raised m n most p q le more h = grind arith
-
   pub put_reason : (same_disk same : Type 0) (user path : List ℕ) (left' : Option (List ℕ)) (vault' : VaultState) (written now : Option (List ℕ)) → PutsFile same_disk same user path s.disk s.disk' s.acls s.acls' s.words s.words' s.input left' s.vault vault' written now status → s.puts
       → (status ≡ 7 → s.input_failed ⊎ s.properties_failed) → (status ≡ 12 → s.vault_failed ⊎ (TellsBodies s.vault → HadBody s.vault)) → (status ≡ 13 → (all : List ℕ) → s.input ≡ Some all → longest_body < length all)
       → HasReason s status
@@ -162,7 +163,8 @@ module _ (s : Surroundings) (status : ℕ) (output : status ≡ 8 → s.output_f
               (end_good range.how
               (λ is. let e = read_end range.moment user path from count range.how range.worked.history s.vault vault' written range.body range.reads is in
               record { props = with.props; read = with.read; worked = range.worked; last = e.last; earlier = e.earlier; history_is = e.history_is; refused = subst IsRefusal (sym e.tells) is })
-              (λ is. absurd (read_store with.props.lines _ _ s.words range.worked.before range.moment user path from count range.how range.worked.history s.vault vault' written range.body range.worked.runs range.reads is))
+              (λ is. rose_within s.disk.faults range.worked.before _ s.disk'.faults range.worked.began range.worked.ended
+              (read_store with.props.lines _ _ s.words range.worked.before range.moment user path from count range.how range.worked.history s.vault vault' written range.body range.worked.runs range.reads is))
               (λ is. inl (read is))
               (λ is. inl (vault is))
               (λ is. absurd (long is)))
@@ -193,10 +195,10 @@ as_words s mistake puts status m p (TooLong, is, good) = (TooLong, is, (p good.0
 pub mistaken : (order : OrderRead) (words : List Text) → IfErr order (λ fault. fault ≡ Usage → IsMistake (line_fault words)) → order ≡ Err Usage → IsMistake (line_fault words)
 mistaken order words usage is = subst (λ (o : OrderRead). IfErr o (λ fault. fault ≡ Usage → IsMistake (line_fault words))) is usage refl
 
-put_named : (user path : List ℕ) (words : List Text) → Answers (Put user path) words → Names (Put user path) words
+put_named : (user path : List ℕ) (words : List Text) → IsOrderOf (Put user path) words → Names (Put user path) words
 put_named user path words (inl named) = record { no_fault = named.0; command = named.1 }
 put_named user path words (inr (inl help)) = absurd help.0
 put_named user path words (inr (inr version)) = absurd version.0
 
-pub names_put : (order : OrderRead) (words : List Text) → IfOk order (λ o. Answers o words) → OrdersPut order → NamesPut words
-names_put order words answers (user, path, is) = (user, path, put_named user path words (subst (λ (o : OrderRead). IfOk o (λ x. Answers x words)) is answers))
+pub names_put : (order : OrderRead) (words : List Text) → IfOk order (λ o. IsOrderOf o words) → OrdersPut order → NamesPut words
+names_put order words answers (user, path, is) = (user, path, put_named user path words (subst (λ (o : OrderRead). IfOk o (λ x. IsOrderOf x words)) is answers))

@@ -1,5 +1,5 @@
 -- What the answers to an info and to a decryption tell.
-use Rattle.std.proofs.Common.{◌≡◌, inl, inr, ℕ, List, [], refl, sym, ap, ◌∙◌}
+use Rattle.std.proofs.Common.{◌≡◌, ◌⊎◌, inl, inr, ℕ, List, [], refl, sym, ap, ◌∙◌}
 use Rattle.std.specs.Prelude.{Option, Some, None, Result, Ok, Err, unwrap_or}
 use Rattle.edit_ops.specs.declared.ops.EditOp.{EditOp}
 use Rattle.hk_base.specs.declared.names.Dek.{Dek}
@@ -24,6 +24,7 @@ use Rattle.kms_calls.specs.declared.calls.RawEdek.{RawEdek}
 use Rattle.kms_core.specs.Calls.{Ending, KmsActs, Plain, NoRoom, causes, deed, edek_of, first_cause, unless_refused}
 use Rattle.kms_core.specs.Opening.{unseals}
 use Rattle.kms_core.specs.State.{KmsState, ServiceState}
+use Rattle.kms_core.specs.Service.{ReadFails}
 use Rattle.kms_core.specs.Users.{ServesUnder}
 use Rattle.name_calls.specs.declared.calls.NameCall.TheVariants as name_call
 use Rattle.name_calls.specs.declared.calls.NameRefusal.{NameRefusal}
@@ -120,18 +121,21 @@ module _ (s : KmsState) (words : ℕ → ℕ) (now : ℕ) (name : KeyName) (sent
   acts_opened given drawn s' (Plain, may, e) is = unless_opened (first_cause (causes s (call.Decrypt name sent))) given drawn s' e is
   acts_opened given drawn s' (NoRoom count, may, e) is = absurd cc
 
-opened_so : (judged : Result Shown Denied) (s : ServiceState) (words : ℕ → ℕ) (now : ℕ) (name : KeyName) (sent : RawEdek) (fault : Type 0) (given : KmsReply) (drawn : ℕ) (logged : List KeyCommand) (s' : ServiceState)
-    → ServesUnder judged s words now (call.Decrypt name sent) fault given drawn logged s' → (dek : Dek) → given ≡ key_reply.Key dek
+opened_so : (judged : Result Shown Denied) (s : ServiceState) (words : ℕ → ℕ) (now : ℕ) (name : KeyName) (sent : RawEdek) (fault tells : Type 0) (given : KmsReply) (drawn : ℕ) (logged : List KeyCommand) (s' : ServiceState)
+    → tells → ServesUnder judged s words now (call.Decrypt name sent) fault tells given drawn logged s' → (dek : Dek) → given ≡ key_reply.Key dek
     → (s' ≡ s) × (dek ≡ unwrap_or (unseals s.keys.table.rows (edek_of sent)) [])
-opened_so (Err denied) s words now name sent fault given drawn logged s' denies dek is = let r = denies.reply_is in absurd cc
-opened_so (Ok shown) s words now name sent fault given drawn logged s' permits dek is =
-    (permits.serves.same, acts_opened s.keys words now name sent dek permits.reply drawn s.keys permits.serves.acts (sym permits.reply_is ∙ is))
+opened_so (Err denied) s words now name sent fault tells given drawn logged s' telling denies dek is = let r = denies.reply_is in absurd cc
+opened_so (Ok shown) s words now name sent fault tells given drawn logged s' telling permits dek is = (permits.serves.same, known (permits.serves.acts (λ older. telling)))
+  where
+    known : KmsActs s.keys words now (call.Decrypt name sent) permits.reply drawn s.keys ⊎ ReadFails s.keys (call.Decrypt name sent) fault permits.reply → dek ≡ unwrap_or (unseals s.keys.table.rows (edek_of sent)) []
+    known (inl acts) = acts_opened s.keys words now name sent dek permits.reply drawn s.keys acts (sym permits.reply_is ∙ is)
+    known (inr fails) = let r = sym fails.reply_is ∙ sym permits.reply_is ∙ is in absurd cc
 
 pub decrypted : (lines : List PropLine) (w : WorldState) (words : ℕ → ℕ) (now : ℕ) (user : List ℕ) (name : KeyName) (sent : RawEdek) (fault tells : Type 0) (answer : Line) (drawn : ℕ) (logged : Acknowledged) (w' : WorldState)
-    → Step lines w words now (event.Kms user (call.Decrypt name sent)) fault tells answer drawn logged w' → (dek : Dek) → answer ≡ line.Kms (key_reply.Key dek) → Decrypted w w' sent dek
-decrypted lines w words now user name sent fault tells answer drawn logged w' step dek is =
+    → Step lines w words now (event.Kms user (call.Decrypt name sent)) fault tells answer drawn logged w' → tells → (dek : Dek) → answer ≡ line.Kms (key_reply.Key dek) → Decrypted w w' sent dek
+decrypted lines w words now user name sent fault tells answer drawn logged w' step telling dek is =
     let given : step.reply ≡ key_reply.Key dek = let r = step.reply_is in cc in
-    let s = opened_so (verdict lines user (call.Decrypt name sent)) w.keys words now name sent fault step.reply drawn step.commands step.keys step.serves dek given in
+    let s = opened_so (verdict lines user (call.Decrypt name sent)) w.keys words now name sent fault tells step.reply drawn step.commands step.keys telling step.serves dek given in
     record {
       same = step.left ∙ ap (λ (k : ServiceState). record w { keys = k }) s.0;
       dek_is = λ d opens. s.1 ∙ ap (λ (o : Option Dek). unwrap_or o []) opens;

@@ -10,7 +10,7 @@ use Rattle.key_rows.specs.declared.rows.KeyRow.{KeyRow}
 use Rattle.name_calls.specs.declared.read_paths.ReadPath.{ReadPath}
 use Rattle.name_calls.specs.ReadPaths.{read_any_path}
 use Rattle.name_core.specs.Reads.{path_read, rows_read}
-use Rattle.body_stream.specs.Vaults.{OthersStay, VaultState}
+use Rattle.body_stream.specs.Vaults.{OtherBodiesStay, VaultState}
 use Rattle.world_run.specs.Ledger.{Draw, Past}
 use Rattle.world_run.specs.Promise.{In, edek_of}
 use Rattle.world_run.specs.World.{WorldState}
@@ -44,11 +44,11 @@ pub record HasStored (known : Past) (w : WorldState) (path : List ℕ) (count : 
   pub end : IsAtEnd left'
   pub long : count ≡ length bytes
   pub stored : (draw : Option Draw) → IsDrawOf known w.keys.keys.table.rows file draw → new.bodies file.id ≡ stored_of draw bytes
-  pub others : OthersStay file.id old.bodies new.bodies
+  pub others : OtherBodiesStay file.id old.bodies new.bodies
 
 -- The range of the file at the path was written: if these bytes are stored as its body under its draw, it is that range of them, cut at
 -- their end.
-pub record HasRead (known : Past) (w : WorldState) (path : List ℕ) (from count : ℕ) (vault : VaultState) (written now : Option (List ℕ)) : Type 0 where
+pub record HasReadBody (known : Past) (w : WorldState) (path : List ℕ) (from count : ℕ) (vault : VaultState) (written now : Option (List ℕ)) : Type 0 where
   pub file : Row
   pub at : IsFileAt w path file
   pub range : (draw : Option Draw) → IsDrawOf known w.keys.keys.table.rows file draw → (bytes : List ℕ) → vault.bodies file.id ≡ stored_of draw bytes → Appends written now (piece from count bytes)

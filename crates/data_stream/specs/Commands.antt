@@ -5,8 +5,8 @@ use Rattle.frame_log.specs.declared.fault.StartFault.{StartFault}
 use Rattle.prop_text.specs.declared.props.Props.{Props}
 use Rattle.world_run.specs.Ledger.{Past}
 use Rattle.world_run.specs.Starts.{FailsAt, OpensBoth}
-use Rattle.command_io.specs.Ends.{Reports, Shows, ended_by, ended_by_props}
-pub use Rattle.command_io.specs.Ends.{Refuses, ShowsText, WantsMemory}
+use Rattle.command_io.specs.Ends.{Reports, ShowsWith, ended_by, ended_by_props}
+pub use Rattle.command_io.specs.Ends.{RefusesUsage, ShowsText, WantsMemory}
 use Rattle.command_io.specs.Properties.{HasPropsFault, ReadsProperties}
 use Rattle.command_io.specs.declared.props.PropsFault.{PropsFault}
 use Rattle.hk_runs.specs.Headline.{Headline, known_after}
@@ -15,12 +15,12 @@ use Rattle.fs_command_line.specs.declared.order.FsOrder.{FsOrder}
 use Rattle.fs_command_line.specs.declared.order.FsOrder.TheVariants.{Put, Read, Help, Version}
 use Rattle.clap_lines.specs.declared.told.OrderFault.{OrderFault}
 use Rattle.clap_lines.specs.declared.told.OrderFault.TheVariants.{Usage, NoMemory}
-use Rattle.file_orders.specs.Bodies.{Puts, Reads}
+use Rattle.file_orders.specs.Bodies.{Puts, ReadsRange}
 use Rattle.file_orders.specs.declared.ends.FsEnd.{FsEnd}
 use Rattle.file_orders.specs.declared.ends.FsEnd.TheVariants as end
-use Rattle.data_stream.specs.Bodies.{HasRead, HasStored}
-use Rattle.data_stream.specs.Ends.{Closes}
-use Rattle.data_stream.specs.Runs.{Adds, Worked, last_world, world_before}
+use Rattle.data_stream.specs.Bodies.{HasReadBody, HasStored}
+use Rattle.data_stream.specs.Ends.{ClosesWith}
+use Rattle.data_stream.specs.Runs.{AddsEvent, Worked, last_world, world_before}
 
 -- The properties could not be read: nothing else was done, as `same` says, and the last line tells of it.
 pub record RefusesProperties (same : Type 0) (acls written now : Option (List ℕ)) (status : ℕ) : Type 0 where
@@ -43,8 +43,8 @@ pub record PutOnDisk (props : Props) (user path : List ℕ) (old new : DiskState
   pub worked : Worked props old new words words'
   -- the time of the events
   pub moment : ℕ
-  pub puts : Puts (Adds moment) user path [] how worked.history left left' vault vault'
-  pub closes : Closes how written now status
+  pub puts : Puts (AddsEvent moment) user path [] how worked.history left left' vault vault'
+  pub closes : ClosesWith how written now status
 
 abbrev pub PutUnder : Props → Type 0 → List ℕ → List ℕ → DiskState → DiskState → (ℕ → ℕ) → (ℕ → ℕ) → Option (List ℕ) → Option (List ℕ) → VaultState → VaultState → Option (List ℕ) → Option (List ℕ) → ℕ → Type 0
 PutUnder props same user path old new words words' left left' vault vault' written now status =
@@ -68,8 +68,8 @@ pub record ReadOnDisk (props : Props) (user path : List ℕ) (from count : ℕ) 
   pub worked : Worked props old new words words'
   -- the time of the events
   pub moment : ℕ
-  pub reads : Reads (Adds moment) user path from count [] how worked.history vault vault' written body
-  pub closes : Closes how body now status
+  pub reads : ReadsRange (AddsEvent moment) user path from count [] how worked.history vault vault' written body
+  pub closes : ClosesWith how body now status
 
 abbrev pub ReadUnder : Props → Type 0 → List ℕ → List ℕ → ℕ → ℕ → DiskState → DiskState → (ℕ → ℕ) → (ℕ → ℕ) → VaultState → VaultState → Option (List ℕ) → Option (List ℕ) → ℕ → Type 0
 ReadUnder props same user path from count old new words words' vault vault' written now status =
@@ -101,7 +101,7 @@ pub record ReadKept (past : Past) (user path : List ℕ) (from count : ℕ) (old
   pub read : ReadsProperties acls acls' props
   pub range : ReadOnDisk props user path from count old new words words' vault vault' written now status
   pub keeps : Headline past props.lines old new words (world_before range.worked) range.worked.history
-  pub wrote : (sent : ℕ) → range.how ≡ end.Read sent → TellsBodies vault → HasRead (known_after past (world_before range.worked) words range.worked.history) (last_world range.worked) path from count vault written range.body
+  pub wrote : (sent : ℕ) → range.how ≡ end.Read sent → TellsBodies vault → HasReadBody (known_after past (world_before range.worked) words range.worked.history) (last_world range.worked) path from count vault written range.body
 
 -- ---- the words
 
@@ -109,7 +109,7 @@ pub record ReadKept (past : Past) (user path : List ℕ) (from count : ℕ) (old
 abbrev pub Obeys : Result FsOrder OrderFault → (List ℕ → List ℕ → Type 0) → (List ℕ → List ℕ → ℕ → ℕ → Type 0) → Type 0 → Option (List ℕ) → Option (List ℕ) → ℕ → Type 0
 Obeys (Ok (Put user path)) puts reads same written now status = puts user path
 Obeys (Ok (Read user path from count)) puts reads same written now status = reads user path from count
-Obeys (Ok (Help text)) puts reads same written now status = same × Shows (string_bytes text) 0 written now status
-Obeys (Ok (Version text)) puts reads same written now status = same × Shows (string_bytes text) 0 written now status
-Obeys (Err Usage) puts reads same written now status = Refuses same written now status
+Obeys (Ok (Help text)) puts reads same written now status = same × ShowsWith (string_bytes text) 0 written now status
+Obeys (Ok (Version text)) puts reads same written now status = same × ShowsWith (string_bytes text) 0 written now status
+Obeys (Err Usage) puts reads same written now status = RefusesUsage same written now status
 Obeys (Err NoMemory) puts reads same written now status = WantsMemory same written now status

@@ -3,7 +3,7 @@ use Rattle.std.specs.Prelude.{◌≡◌, ◌⊎◌, ℕ, List, [], ◌++◌, cod
 use Rattle.std.specs.Fmt.{decimal}
 use Rattle.kms_calls.specs.Refusals.{refusal_text}
 use Rattle.name_text.specs.Refusals.{name_refusal_text}
-use Rattle.command_io.specs.Ends.{Shows}
+use Rattle.command_io.specs.Ends.{ShowsWith}
 use Rattle.file_orders.specs.declared.ends.FsEnd.{FsEnd}
 use Rattle.file_orders.specs.declared.ends.FsEnd.TheVariants as end
 
@@ -35,7 +35,7 @@ last_line end.TooLong = codes "body too long\n"
 
 -- The last line of an end was written, and the status is that end's; or a prefix of it, and the output failed. If there was no memory for
 -- the line, the end is another.
-pub record Closes (how : FsEnd) (written now : Option (List ℕ)) (status : ℕ) : Type 0 where
+pub record ClosesWith (how : FsEnd) (written now : Option (List ℕ)) (status : ℕ) : Type 0 where
   pub last : FsEnd
   pub last_is : (last ≡ how) ⊎ (last ≡ end.NoMemory)
-  pub shows : Shows (last_line last) (status_of last) written now status
+  pub shows : ShowsWith (last_line last) (status_of last) written now status

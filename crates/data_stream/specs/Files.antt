@@ -14,7 +14,7 @@ use Rattle.fs_command_line.specs.Orders.{Names}
 use Rattle.fs_command_line.specs.declared.order.FsOrder.{FsOrder}
 use Rattle.fs_command_line.specs.declared.order.FsOrder.TheVariants.{Put, Read}
 use Rattle.clap_lines.specs.declared.told.OrderFault.{OrderFault}
-use Rattle.data_stream.specs.Commands.{Obeys, PutKept, PutUnder, PutsFile, ReadKept, ReadUnder, ReadsFile, Refuses, ShowsText, WantsMemory}
+use Rattle.data_stream.specs.Commands.{Obeys, PutKept, PutUnder, PutsFile, ReadKept, ReadUnder, ReadsFile, RefusesUsage, ShowsText, WantsMemory}
 use Rattle.data_stream.specs.Statuses.{HasReason, Surroundings}
 
 -- what each command works on: the disk, the output, the source of random words, the vault and the clock
@@ -98,7 +98,7 @@ module _ {D K W V C A S : Type 0} (of_out : sinks.Ghosts K) (old new : Files D K
 
   -- the words are refused, or there is no memory to read them
   abbrev pub RefusesWords : ℕ → Type 0
-  RefusesWords status = Refuses (WritesAlone old new acls acls' input input') (of_out.written old.out) (of_out.written new.out) status ⊎ LacksMemory status
+  RefusesWords status = RefusesUsage (WritesAlone old new acls acls' input input') (of_out.written old.out) (of_out.written new.out) status ⊎ LacksMemory status
 
   -- a text is shown, or there is no memory to read the words
   abbrev pub ShowsOwnText : ℕ → Type 0

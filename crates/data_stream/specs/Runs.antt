@@ -10,12 +10,12 @@ use Rattle.world_run.specs.Acknowledged.{also}
 use Rattle.world_run.specs.Ledger.{Hidden}
 use Rattle.world_run.specs.Linked.{WordsApart}
 use Rattle.world_run.specs.World.{WorldState, first_world}
-use Rattle.hk_runs.specs.Logs.{HiddenBefore, NoRestart, OnDisk, ReadsAs, opened_logs}
+use Rattle.hk_runs.specs.Logs.{HiddenBefore, HoldsLogsOf, NoRestart, OnDisk, opened_logs}
 use Rattle.hk_runs.specs.Run.{FilesOpenThroughout, Happened, History, Runs, StayApart, behind, drawn_in, faults_after, logged_in, world_after}
 pub use Rattle.world_events.specs.Events.{HoldsSame, LeadsAt, standing_of}
 
 -- an event is added to a history, with this answer and at this moment
-pub record Adds (now : ℕ) (earlier : History) (e : Event) (answer : Line) (later : History) : Type 0 where
+pub record AddsEvent (now : ℕ) (earlier : History) (e : Event) (answer : Line) (later : History) : Type 0 where
   pub happened : Happened
   pub later_is : later ≡ happened ∷ earlier
   pub event_is : happened.event ≡ e
@@ -38,7 +38,7 @@ pub record Worked (props : Props) (old new : DiskState) (words words' : ℕ → 
   pub on_disk : Tells old → OnDisk old new words props.sizes table names history NoRestart
   pub promise : Tells old → (h : Hidden) → HiddenBefore old h → FilesOpenThroughout h (first_world props.sizes table names) words history
   pub apart : Tells old → (h : Hidden) → HiddenBefore old h → WordsApart h → StayApart h (first_world props.sizes table names) words history
-  pub reads : (tells : Tells old) → let found = on_disk tells in ReadsAs new (also (opened_logs found.commands table found.ops names) (logged_in history)) (world_after (first_world props.sizes table names) history)
+  pub reads : (tells : Tells old) → let found = on_disk tells in HoldsLogsOf new (also (opened_logs found.commands table found.ops names) (logged_in history)) (world_after (first_world props.sizes table names) history)
 
 -- the world at the first event, and the world in the end
 abbrev pub world_before : {props : Props} {old new : DiskState} {words words' : ℕ → ℕ} → Worked props old new words words' → WorldState

@@ -4,7 +4,7 @@ ghost use Rattle.body_stream.specs.Transfers.{longest_body};
 ghost use Rattle.body_stream.specs.Vaults.{TellsBodies};
 ghost use Rattle.file_orders.specs.Bodies.{HadBody};
 ghost use Rattle.hk_base.specs.Faults.{Rose};
-ghost use Rattle.command_io.specs.Ends.{Shows};
+ghost use Rattle.command_io.specs.Ends.{ShowsWith};
 ghost use Rattle.hk_runs.specs.Headline.{FromSoundFiles};
 ghost use Rattle.clap_lines.specs.Orders.{IsMistake};
 ghost use Rattle.fs_command_line.specs.Orders.{FindsHelp, FindsVersion, line_fault};
@@ -21,7 +21,7 @@ use std::alloc::Global;
 
 /// Writes a text and drops it. Returns 0, or 8 if the output fails.
 fn show_made<K: Sink>(out: &mut K, text: String) -> u8
-    ensures shows { Shows (string_bytes text) 0 (K.written out.old) (K.written out.new) result }
+    ensures shows { ShowsWith (string_bytes text) 0 (K.written out.old) (K.written out.new) result }
     ensures write { result ≡ 8 → Rose (K.faults out.old) (K.faults out.new) }
 {
     let status = show(out, text.as_bytes(), 0);

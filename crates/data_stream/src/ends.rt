@@ -1,8 +1,8 @@
 //! How a command ends: its last line, and its exit status.
 ghost use Rattle.std.specs.Prelude.{◌≡◌, ◌≢◌, ◌⊎◌, IfOk, MatchResult, codes, string_bytes};
 ghost use Rattle.hk_base.specs.Faults.{Rose};
-ghost use Rattle.command_io.specs.Ends.{Shows};
-ghost use Rattle.data_stream.specs.Ends.{Closes, last_line, status_of};
+ghost use Rattle.command_io.specs.Ends.{ShowsWith};
+ghost use Rattle.data_stream.specs.Ends.{ClosesWith, last_line, status_of};
 
 use command_io::show;
 use file_orders::FsEnd;
@@ -40,7 +40,7 @@ fn put_line(alloc: Global, count: u64) -> Result<String, AllocError>
 
 /// Writes the last line of an end. Returns its status, or 8 if the output fails.
 pub fn close<K: Sink>(alloc: Global, out: &mut K, how: FsEnd) -> u8
-    ensures closes { Closes how (K.written out.old) (K.written out.new) result }
+    ensures closes { ClosesWith how (K.written out.old) (K.written out.new) result }
     ensures write { result ≡ 8 →
         (how ≡ FsEnd.WriteFault) ⊎ Rose (K.faults out.old) (K.faults out.new) }
     ensures quiet { how ≡ FsEnd.WriteFault → out.new ≡ out.old }

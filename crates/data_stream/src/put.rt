@@ -4,7 +4,7 @@ ghost use Rattle.body_stream.specs.Transfers.{longest_body};
 ghost use Rattle.body_stream.specs.Vaults.{TellsBodies};
 ghost use Rattle.hk_base.specs.Faults.{Rose};
 ghost use Rattle.world_run.specs.World.{RunningWorld};
-ghost use Rattle.world_desk.specs.Worlds.{IsReady, standing};
+ghost use Rattle.world_desk.specs.Worlds.{IsDeskReady, standing};
 ghost use Rattle.hk_runs.specs.Headline.{FromSoundFiles};
 ghost use Rattle.file_orders.specs.Bodies.{HadBody, Puts};
 ghost use Rattle.data_stream.specs.Runs.{LeadsAt, standing_of};
@@ -29,7 +29,7 @@ fn put_over<'a, S: Source, D: Disk, V: Vault, W: Words>(
     input: &mut S,
     vault: &mut V,
 ) -> FsEnd
-    requires { IsReady D.state (standing_of events.old) }
+    requires { IsDeskReady D.state (standing_of events.old) }
     ensures puts { Puts (LeadsAt D.state W.to_come events.old.now) user.now path.now
         (standing_of events.old) result (standing_of events.new) (S.left input.old)
         (S.left input.new) (V.state vault.old) (V.state vault.new) }
@@ -59,7 +59,7 @@ fn put_from<S: Source, D: Disk, V: Vault, W: Words, C: Clock>(
     rand: &mut W,
     clock: &mut C,
 ) -> FsEnd
-    requires { IsReady D.state (standing disk.old world.old rand.old) }
+    requires { IsDeskReady D.state (standing disk.old world.old rand.old) }
     ensures puts { (now : ℕ) ×
         Puts (LeadsAt D.state W.to_come now) user.now path.now
         (standing disk.old world.old rand.old) result (standing disk.new world.new rand.new)
@@ -88,7 +88,7 @@ fn put_in<S: Source, D: Disk, V: Vault, W: Words, C: Clock>(
     rand: &mut W,
     clock: &mut C,
 ) -> FsEnd
-    requires { IsReady D.state (standing disk.old world rand.old) }
+    requires { IsDeskReady D.state (standing disk.old world rand.old) }
     ensures puts { (now : ℕ) × (then : RunningWorld) ×
         Puts (LeadsAt D.state W.to_come now) user.now path.now (standing disk.old world rand.old)
         result (standing disk.new then rand.new) (S.left input.old) (S.left input.new)

@@ -2,9 +2,9 @@
 ghost use Rattle.std.specs.Prelude.{◌≡◌, ◌⊎◌, ◌≤◌, ℕ};
 ghost use Rattle.hk_base.specs.Faults.{Rose};
 ghost use Rattle.world_run.specs.World.{RunningWorld};
-ghost use Rattle.world_desk.specs.Worlds.{IsReady, standing};
+ghost use Rattle.world_desk.specs.Worlds.{IsDeskReady, standing};
 ghost use Rattle.hk_runs.specs.Headline.{FromSoundFiles};
-ghost use Rattle.file_orders.specs.Bodies.{Reads};
+ghost use Rattle.file_orders.specs.Bodies.{ReadsRange};
 ghost use Rattle.data_stream.specs.Runs.{LeadsAt, standing_of};
 ghost use Rattle.data_stream.specs.Files.{ReadKeeps, ReadsBody, ReadsUnder, files};
 
@@ -29,8 +29,8 @@ fn read_over<'a, K: Sink, D: Disk, V: Vault, W: Words>(
     vault: &mut V,
     out: &mut K,
 ) -> FsEnd
-    requires { IsReady D.state (standing_of events.old) }
-    ensures reads { Reads (LeadsAt D.state W.to_come events.old.now) user.now path.now from
+    requires { IsDeskReady D.state (standing_of events.old) }
+    ensures reads { ReadsRange (LeadsAt D.state W.to_come events.old.now) user.now path.now from
         count (standing_of events.old) result (standing_of events.new) (V.state vault.old)
         (V.state vault.new) (K.written out.old) (K.written out.new) }
     ensures world { events.new.world.ghost_name ≡ events.old.world.ghost_name }
@@ -59,9 +59,9 @@ fn read_from<K: Sink, D: Disk, V: Vault, W: Words, C: Clock>(
     clock: &mut C,
     out: &mut K,
 ) -> FsEnd
-    requires { IsReady D.state (standing disk.old world.old rand.old) }
+    requires { IsDeskReady D.state (standing disk.old world.old rand.old) }
     ensures reads { (now : ℕ) ×
-        Reads (LeadsAt D.state W.to_come now) user.now path.now from count
+        ReadsRange (LeadsAt D.state W.to_come now) user.now path.now from count
         (standing disk.old world.old rand.old) result (standing disk.new world.new rand.new)
         (V.state vault.old) (V.state vault.new) (K.written out.old) (K.written out.new) }
     ensures write { result ≡ FsEnd.WriteFault → Rose (K.faults out.old) (K.faults out.new) }
@@ -88,9 +88,9 @@ fn read_in<K: Sink, D: Disk, V: Vault, W: Words, C: Clock>(
     clock: &mut C,
     out: &mut K,
 ) -> FsEnd
-    requires { IsReady D.state (standing disk.old world rand.old) }
+    requires { IsDeskReady D.state (standing disk.old world rand.old) }
     ensures reads { (now : ℕ) × (then : RunningWorld) ×
-        Reads (LeadsAt D.state W.to_come now) user.now path.now from count
+        ReadsRange (LeadsAt D.state W.to_come now) user.now path.now from count
         (standing disk.old world rand.old) result (standing disk.new then rand.new)
         (V.state vault.old) (V.state vault.new) (K.written out.old) (K.written out.new) }
     ensures write { result ≡ FsEnd.WriteFault → Rose (K.faults out.old) (K.faults out.new) }

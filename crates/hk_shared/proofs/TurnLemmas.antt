@@ -1,7 +1,7 @@
 -- The call for a batch was answered for the batch, since its entry is a step.
 use Rattle.std.specs.Prelude.{◌≡◌, ℕ}
 use Rattle.std.proofs.Common.{inl, subst}
-use Rattle.hk_base.specs.Disk.{DiskState}
+use Rattle.hk_base.specs.Disk.{DiskState, Tells}
 use Rattle.hk_base.specs.Faults.{Rose}
 use Rattle.hk_base.specs.declared.texts.Text.{Text}
 use Rattle.kms_acls.specs.Verdict.{verdict}
@@ -27,7 +27,7 @@ module _ {D W : Type 0} (state : D → DiskState) (to_come : W → ℕ → ℕ) 
   step_fits s t user batch reply step =
       let lines = step.has_lines.0 in
       let acts = step.acts lines step.has_lines.1 in
-      batch-fits (service_of (running s.kms)) (to_come s.words) step.now batch (Rose (state s.disk).faults (state t.disk).faults) reply acts.drawn acts.logged (service_of (running t.kms))
+      batch-fits (service_of (running s.kms)) (to_come s.words) step.now batch (Rose (state s.disk).faults (state t.disk).faults) (Tells (state s.disk)) reply acts.drawn acts.logged (service_of (running t.kms))
       (verdict lines user (batch_call batch)) acts.serves
 
   batch_is_answered : (v w : KmsKnown D W) (user : Text) (batch : BatchNote) (reply : KmsReply) → Makes state to_come v (act.Call user (batch_call batch)) (acted.Call reply) w → ReplyFits batch reply

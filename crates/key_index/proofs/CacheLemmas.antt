@@ -9,13 +9,13 @@ use Rattle.hk_base.specs.declared.names.Dek.{Dek}
 use Rattle.hk_base.specs.declared.names.VersionName.{VersionName}
 use Rattle.key_rows.specs.declared.rows.KeyCommand.{KeyCommand}
 use Rattle.key_rows.specs.declared.rows.KeyCommand.TheVariants.{Opened, Create, Roll, Delete}
-use Rattle.key_rows.specs.Sound.{Rising}
+use Rattle.key_rows.specs.Sound.{AreRowsRising}
 use Rattle.key_rows.proofs.Births.{each_filter, each_more, found_has}
 use Rattle.key_index.specs.declared.cache.MaterialKey.{MaterialKey}
 use Rattle.key_index.specs.declared.rows.PlacedRow.{PlacedRow}
 use Rattle.key_index.specs.Index.{Index, Materials, after_at, applies_at, first_version, is_born, is_named, materials_after, may_roll_at, newest, older_place, place_of, rolled_at, rows_of, with_version}
-use Rattle.key_index.specs.Cache.{AreCached, IsOf, IsOlder}
-use Rattle.key_index.specs.Sound.{IsSound}
+use Rattle.key_index.specs.Cache.{AreCached, IsMaterialOf, IsOlder}
+use Rattle.key_index.specs.Sound.{IsSoundIndex}
 use Rattle.key_index.proofs.Commands.{not_born, roll_says}
 use Rattle.key_index.proofs.Searches.{by_birth, nothing, rest_of}
 use Rattle.key_index.proofs.Sounds.{create_says}
@@ -44,9 +44,9 @@ module _ (birth number : ℕ) (material : Dek) (place : ℕ) (key : MaterialKey)
       grown true same = omega (arith, older.0 same)
       grown false same = older.0 same
 
-module _ (m : Materials) (x : Index) (place : ℕ) (is : IsSound x) where
-  cached_roll : (birth number : ℕ) (material : Dek) → may_roll_at (find (is_born birth) x.rows) number material ≡ true → (entry : MaterialKey × Dek) → IsOf m entry × IsOlder x entry.0
-      → IsOf (next m birth number material (newest birth x.rows) place) entry × IsOlder (record x { rows = map (rolled_at birth material place) x.rows }) entry.0
+module _ (m : Materials) (x : Index) (place : ℕ) (is : IsSoundIndex x) where
+  cached_roll : (birth number : ℕ) (material : Dek) → may_roll_at (find (is_born birth) x.rows) number material ≡ true → (entry : MaterialKey × Dek) → IsMaterialOf m entry × IsOlder x entry.0
+      → IsMaterialOf (next m birth number material (newest birth x.rows) place) entry × IsOlder (record x { rows = map (rolled_at birth material place) x.rows }) entry.0
   cached_roll birth number material may entry cached =
       let key : MaterialKey = entry.0 in
       let same : next m birth number material (newest birth x.rows) place key.birth key.number ≡ m key.birth key.number = elim (cases_eq key.birth birth) [
@@ -57,7 +57,7 @@ module _ (m : Materials) (x : Index) (place : ℕ) (is : IsSound x) where
       (cached.0 ∙ sym same, record { older = versions_grow birth number material place key x.rows cached.1.older; born = cached.1.born })
 
   -- a command that applies keeps what is in the cache
-  one_after : (command : KeyCommand) → applies_at x command ≡ true → (entry : MaterialKey × Dek) → IsOf m entry × IsOlder x entry.0 → IsOf (materials_after m x command) entry × IsOlder (after_at x command place) entry.0
+  one_after : (command : KeyCommand) → applies_at x command ≡ true → (entry : MaterialKey × Dek) → IsMaterialOf m entry × IsOlder x entry.0 → IsMaterialOf (materials_after m x command) entry × IsOlder (after_at x command place) entry.0
   unfolding next
   one_after (Opened opening) may entry cached = (cached.0, record { older = cached.1.older; born = cached.1.born })
   one_after (Create birth name bits description created material) may entry cached =
@@ -81,11 +81,11 @@ module _ (m : Materials) (x : Index) (place : ℕ) (is : IsSound x) where
 
 -- a version that has a place is an older one
 
-low_top : (m : Materials) (low : ℕ) (rows : List PlacedRow) (top : ℕ) → Rising low (rows_of m rows) top → low ≤ top
+low_top : (m : Materials) (low : ℕ) (rows : List PlacedRow) (top : ℕ) → AreRowsRising low (rows_of m rows) top → low ≤ top
 low_top m low [] top rising = rising
 low_top m low (placed ∷ rows) top rising = omega (arith, rising.0, low_top m placed.row.birth rows top rising.1)
 
-below_top : (m : Materials) (low : ℕ) (rows : List PlacedRow) (top : ℕ) → Rising low (rows_of m rows) top → AllByRecursion (λ (placed : PlacedRow). placed.row.birth ≤ top) rows
+below_top : (m : Materials) (low : ℕ) (rows : List PlacedRow) (top : ℕ) → AreRowsRising low (rows_of m rows) top → AllByRecursion (λ (placed : PlacedRow). placed.row.birth ≤ top) rows
 below_top m low [] top rising = tt
 below_top m low (placed ∷ rows) top rising = (low_top m placed.row.birth rows top rising.1, below_top m placed.row.birth rows top rising.1)
 
@@ -97,7 +97,7 @@ module _ (key : MaterialKey) where
   others_older [] none = tt
   others_older (placed ∷ rows) none = (λ same. absurd (not_born key.birth placed none.0 same), others_older rows none.1)
 
-  all_older : (low : ℕ) (rows : List PlacedRow) (top : ℕ) (row : PlacedRow) → Rising low (rows_of nothing rows) top → find (is_born key.birth) rows ≡ Some row → key.number + 1 < row.row.versions → AllByRecursion Older rows
+  all_older : (low : ℕ) (rows : List PlacedRow) (top : ℕ) (row : PlacedRow) → AreRowsRising low (rows_of nothing rows) top → find (is_born key.birth) rows ≡ Some row → key.number + 1 < row.row.versions → AllByRecursion Older rows
   all_older low [] top row rising found more = tt
   all_older low (placed ∷ rows) top row rising found more =
       let Q : Bool → Type 0 = λ b. is_born key.birth placed ≡ b → cond b (Some placed) (find (is_born key.birth) rows) ≡ Some row → AllByRecursion Older (placed ∷ rows) in
@@ -118,7 +118,7 @@ has_more number placed place found = ltb-true (number + 1) placed.row.versions (
     tested true e = refl
     tested false e = absurd cc
 
-pub placed_older : (x : Index) (version : VersionName) (row : PlacedRow) (place : ℕ) → IsSound x → find (is_named version.key) x.rows ≡ Some row → place_of x.rows version ≡ Some place
+pub placed_older : (x : Index) (version : VersionName) (row : PlacedRow) (place : ℕ) → IsSoundIndex x → find (is_named version.key) x.rows ≡ Some row → place_of x.rows version ≡ Some place
     → IsOlder x (record { birth = row.row.birth; number = version.number })
 placed_older x version row place is found placed =
     let at : older_place version.number row ≡ Some place = ap (λ (o : Option PlacedRow). option_and_then (older_place version.number) o) (sym found) ∙ placed in

@@ -9,11 +9,11 @@ use Rattle.key_rows.specs.declared.rows.KeyRow.{KeyRow}
 use Rattle.key_rows.specs.declared.rows.KeyCommand.{KeyCommand}
 use Rattle.key_rows.specs.declared.rows.KeyCommand.TheVariants.{Opened, Create, Roll, Delete}
 use Rattle.key_rows.specs.Table.{applies, find_name, is_born as is_born_row, is_length, may_roll, opening_of}
-use Rattle.key_rows.specs.Sound.{Rising}
+use Rattle.key_rows.specs.Sound.{AreRowsRising}
 use Rattle.key_rows.proofs.Births.{found_has, none_born}
 use Rattle.key_index.specs.declared.rows.PlacedRow.{PlacedRow}
 use Rattle.key_index.specs.Index.{Index, Materials, applies_at, is_born, is_named, may_roll_at, newest, row_of, rows_of, table_of}
-use Rattle.key_index.specs.Sound.{IsPlacedRow, IsSound}
+use Rattle.key_index.specs.Sound.{IsPlacedRow, IsSoundIndex}
 use Rattle.key_index.proofs.Searches.{born_in, named_in, nothing}
 use Rattle.key_index.proofs.Standing.{Fits, Rolls, versions_of}
 
@@ -34,7 +34,7 @@ roll_mapped m (Some placed) number material is =
     ap (λ (n : ℕ). number == n && nat_lt number 65535 && length material == placed.row.bits / 8) (versions_of m placed.row (omega (arith, is.row.some)))
 
 -- a command applies to the table whatever the materials
-pub applies_is : (m : Materials) (x : Index) (command : KeyCommand) → IsSound x → applies (table_of m x) command ≡ applies_at x command
+pub applies_is : (m : Materials) (x : Index) (command : KeyCommand) → IsSoundIndex x → applies (table_of m x) command ≡ applies_at x command
 applies_is m x (Opened opening) is = refl
 applies_is m x (Create birth name bits description created material) is = λ i.
     nat_lt 0 x.opening && no_name m x.rows name i && opening_of birth == x.opening && nat_lt x.greatest birth && nat_lt (length-map x.rows (λ (placed : PlacedRow). row_of m placed.row) i) 10000 && is_length bits && length material == bits / 8
@@ -67,7 +67,7 @@ others_roll m birth number material current (placed ∷ rows) are none = (
 )
 
 module _ (m : Materials) where
-  fits_rows : (low birth number : ℕ) (material : List ℕ) (rows : List PlacedRow) (top : ℕ) → Rising low (rows_of m rows) top → AllByRecursion IsPlacedRow rows → may_roll_at (find (is_born birth) rows) number material ≡ true
+  fits_rows : (low birth number : ℕ) (material : List ℕ) (rows : List PlacedRow) (top : ℕ) → AreRowsRising low (rows_of m rows) top → AllByRecursion IsPlacedRow rows → may_roll_at (find (is_born birth) rows) number material ≡ true
       → AllByRecursion (Rolls birth number material (newest birth rows)) rows
   fits_rows low birth number material [] top rising are may = tt
   fits_rows low birth number material (placed ∷ rest) top rising are may =
@@ -85,7 +85,7 @@ module _ (m : Materials) where
       cases refl may
 
 -- a command that applies fits the rows
-pub fits_applying : (x : Index) (command : KeyCommand) → IsSound x → applies_at x command ≡ true → Fits x command
+pub fits_applying : (x : Index) (command : KeyCommand) → IsSoundIndex x → applies_at x command ≡ true → Fits x command
 fits_applying x (Opened opening) is may = tt
 fits_applying x (Create birth name bits description created material) is may = tt
 fits_applying x (Roll birth number material) is may =

@@ -10,7 +10,7 @@ use Rattle.hk_base.specs.declared.names.Dek.{Dek}
 use Rattle.lru.specs.LruCache.{LruCache, lru_cache, promoted, put_entries}
 use Rattle.lru.proofs.CallerLemmas.{Contains-put_entries}
 use Rattle.key_index.specs.declared.cache.MaterialKey.{MaterialKey}
-use Rattle.key_index.specs.Cache.{AreCached, IsOf, IsOlder, is_key}
+use Rattle.key_index.specs.Cache.{AreCached, IsMaterialOf, IsOlder, is_key}
 use Rattle.key_index.specs.Index.{Index, Materials}
 
 abbrev Entry : Type 0
@@ -74,9 +74,9 @@ put_only cache key material entry has = elim (Contains-put_entries is_key cache 
 -- a material that is found, and what is kept
 
 pub found_material : (m : Materials) (x : Index) (key : MaterialKey) (es : List Entry) → AreCached m x es → IfSome (lookup (is_key key) es) (λ material. material ≡ m key.birth key.number)
-found_material m x key es cached = found_value (λ entry. IsOf m entry) key es (materials es cached)
+found_material m x key es cached = found_value (λ entry. IsMaterialOf m entry) key es (materials es cached)
   where
-    materials : (es : List Entry) → AreCached m x es → AllByRecursion (λ (entry : Entry). IsOf m entry) es
+    materials : (es : List Entry) → AreCached m x es → AllByRecursion (λ (entry : Entry). IsMaterialOf m entry) es
     materials [] cached = tt
     materials (e ∷ es) cached = (cached.0.0, materials es cached.1)
 
@@ -92,7 +92,7 @@ kept_only old new key material kept entry has = elim kept [
 pub kept_cached : (m : Materials) (x : Index) (old new : LruCache MaterialKey Dek) (key : MaterialKey) (material : Dek) → IsKept old new key material → AreCached m x old.entries
     → material ≡ m key.birth key.number → IsOlder x key → AreCached m x new.entries
 kept_cached m x old new key material kept cached its older = elim kept [
-  | inl is ↦ subst (λ (s : LruCache MaterialKey Dek). AreCached m x s.entries) (sym is) (put_all (λ entry. IsOf m entry × IsOlder x entry.0) key old material cached (its, older))
+  | inl is ↦ subst (λ (s : LruCache MaterialKey Dek). AreCached m x s.entries) (sym is) (put_all (λ entry. IsMaterialOf m entry × IsOlder x entry.0) key old material cached (its, older))
   | inr is ↦ subst (λ (s : LruCache MaterialKey Dek). AreCached m x s.entries) (sym is) cached
 ]
 

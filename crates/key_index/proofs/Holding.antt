@@ -12,7 +12,7 @@ use Rattle.key_rows.proofs.Births.{each_filter, each_more}
 use Rattle.key_index.specs.declared.rows.PlacedRow.{PlacedRow}
 use Rattle.key_index.specs.Index.{Index, Materials, after_at, applies_at, first_version, is_born, materials_after, newest, rolled_at, row_of, with_version}
 use Rattle.key_index.specs.Held.{AreHeld, HoldsMaterial, IsHeld}
-use Rattle.key_index.specs.Sound.{AreSized, IsSound}
+use Rattle.key_index.specs.Sound.{AreSized, IsSoundIndex}
 use Rattle.key_index.proofs.Commands.{fits_applying}
 use Rattle.key_index.proofs.Sounds.{create_says}
 use Rattle.key_index.proofs.Standing.{Rolls, elsewhere, kept_row, materials_grow, next, rolled_row, same_older}
@@ -83,7 +83,7 @@ module _ (m : Materials) (birth number : ℕ) (material current : Dek) (place : 
   rows_rolled (placed ∷ rows) rolls held = (held_rolled placed rolls.0 held.0, rows_rolled rows rolls.1 held.1)
 
 -- a command that applies, whose material is in the file at the place
-pub held_after : (m : Materials) (file : List ℕ) (x : Index) (command : KeyCommand) (place : ℕ) → IsSound x → applies_at x command ≡ true → AreHeld m file x → HoldsMaterial file command place
+pub held_after : (m : Materials) (file : List ℕ) (x : Index) (command : KeyCommand) (place : ℕ) → IsSoundIndex x → applies_at x command ≡ true → AreHeld m file x → HoldsMaterial file command place
     → AreHeld (materials_after m x command) file (after_at x command place)
 unfolding next
 held_after m file x (Opened opening) place is may held there = held

@@ -12,7 +12,7 @@ use Rattle.key_rows.specs.declared.rows.KeyCommand.TheVariants.{Opened, Create, 
 use Rattle.key_rows.specs.Records.{name_field, spelling, text_field}
 use Rattle.key_index.specs.Index.{Index, Materials, after_at, applies_at, materials_after}
 use Rattle.key_index.specs.Held.{AreHeld, HoldsMaterial, InLog, log_front, material_at, material_in}
-use Rattle.key_index.specs.Sound.{IsSound}
+use Rattle.key_index.specs.Sound.{IsSoundIndex}
 use Rattle.key_index.proofs.Holding.{held_after, rows_longer}
 
 -- a record, taken apart before its material
@@ -66,7 +66,7 @@ front_more commands command =
     ∙ sym (append-nil (front 0 (map spelling commands ++ spelling command ∷ [])))
     ∙ front_push 0 (map spelling commands) (spelling command) []
 
-pub in_log_after : (m : Materials) (commands : List KeyCommand) (x : Index) (command : KeyCommand) → IsSound x → applies_at x command ≡ true → InLog m commands x
+pub in_log_after : (m : Materials) (commands : List KeyCommand) (x : Index) (command : KeyCommand) → IsSoundIndex x → applies_at x command ≡ true → InLog m commands x
     → InLog (materials_after m x command) (commands ++ command ∷ []) (after_at x command (material_at (length (log_front commands) + 5) command))
 in_log_after m commands x command is may held =
     let place : ℕ = material_at (length (log_front commands) + 5) command in

@@ -13,7 +13,7 @@ use Rattle.key_index.specs.declared.rows.IndexRow.{IndexRow}
 use Rattle.key_index.specs.declared.rows.PlacedRow.{PlacedRow}
 use Rattle.key_index.specs.Index.{Index, Materials, is_born, is_named, older_place, place_of, row_of, rows_of}
 use Rattle.key_index.specs.Held.{IsHeld, IsMaterialAt, has_older}
-use Rattle.key_index.specs.Sound.{IsIndexRow, IsPlacedRow, IsSound}
+use Rattle.key_index.specs.Sound.{IsIndexRow, IsPlacedRow, IsSoundIndex}
 use Rattle.key_index.proofs.Searches.{born_in, by_birth, named_in, nothing}
 use Rattle.key_index.proofs.Standing.{versions_of}
 
@@ -67,7 +67,7 @@ pub found_sound : (p : PlacedRow → Bool) (rows : List PlacedRow) (placed : Pla
 found_sound p rows placed are found = (subst (λ (o : Option PlacedRow). IfSome o IsPlacedRow) (sym found) (found_has IsPlacedRow p rows are)).row
 
 -- and has its birth alone
-pub found_alone : (m : Materials) (x : Index) (name : List ℕ) (placed : PlacedRow) → IsSound x → Some placed ≡ find (is_named name) x.rows → find_birth (rows_of m x.rows) placed.row.birth ≡ Some (row_of m placed.row)
+pub found_alone : (m : Materials) (x : Index) (name : List ℕ) (placed : PlacedRow) → IsSoundIndex x → Some placed ≡ find (is_named name) x.rows → find_birth (rows_of m x.rows) placed.row.birth ≡ Some (row_of m placed.row)
 found_alone m x name placed is found =
     born_in m x.rows placed.row.birth
     ∙ ap (option_map (λ p. row_of m p.row)) (subst (λ (o : Option PlacedRow). IfSome o (λ p. find (is_born p.row.birth) x.rows ≡ Some p)) (sym found) (by_birth nothing 0 (is_named name) x.rows x.greatest (is.births nothing)))

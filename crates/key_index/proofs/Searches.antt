@@ -13,7 +13,7 @@ use Rattle.key_rows.specs.declared.rows.KeyRow.{KeyRow}
 use Rattle.key_rows.specs.declared.by_name.NamedBirth.{NamedBirth}
 use Rattle.key_rows.specs.Table.{find_birth, find_name, is_born as is_born_row, is_named as is_named_row}
 use Rattle.key_rows.specs.Names.{IsIndex, birth_in}
-use Rattle.key_rows.specs.Sound.{Rising}
+use Rattle.key_rows.specs.Sound.{AreRowsRising}
 use Rattle.key_rows.proofs.Births.{none_born, other_number}
 use Rattle.key_index.specs.declared.rows.PlacedRow.{PlacedRow}
 use Rattle.key_index.specs.Index.{Materials, is_born, is_named, rolled_at, row_of, rows_of, with_version}
@@ -68,11 +68,11 @@ module _ (m : Materials) where
   others_born birth (placed ∷ rows) none = (none.0, others_born birth rows none.1)
 
   -- the rows after a row do not have its birth
-  pub rest_of : (low birth : ℕ) (rows : List PlacedRow) (top : ℕ) → birth ≤ low → Rising low (rows_of m rows) top → AllByRecursion (λ (placed : PlacedRow). is_born birth placed ≡ false) rows
+  pub rest_of : (low birth : ℕ) (rows : List PlacedRow) (top : ℕ) → birth ≤ low → AreRowsRising low (rows_of m rows) top → AllByRecursion (λ (placed : PlacedRow). is_born birth placed ≡ false) rows
   rest_of low birth rows top below rising = others_born birth rows (none_born low birth (rows_of m rows) top below rising)
 
   -- a roll is one write, at the place of the birth
-  rolled_set : (low birth : ℕ) (material : List ℕ) (place : ℕ) (rows : List PlacedRow) (top i : ℕ) (d : PlacedRow) → Rising low (rows_of m rows) top → i < length rows
+  rolled_set : (low birth : ℕ) (material : List ℕ) (place : ℕ) (rows : List PlacedRow) (top i : ℕ) (d : PlacedRow) → AreRowsRising low (rows_of m rows) top → i < length rows
       → is_born birth (get_or rows i d) ≡ true → ((k : ℕ) → k < i → is_born birth (get_or rows k d) ≡ false)
       → set rows i (with_version material place (get_or rows i d)) ≡ map (rolled_at birth material place) rows
   rolled_set low birth material place [] top i d rising within here before = absurd (omega arith)
@@ -84,7 +84,7 @@ module _ (m : Materials) where
       ap (λ rest. placed ∷ rest) (rolled_set placed.row.birth birth material place rows top i d rising.1 (omega arith) here (λ k below. before (suc k) (omega arith)))
       ∙ sym (ap (λ (b : Bool). cond b (with_version material place placed) placed ∷ map (rolled_at birth material place) rows) (before 0 (omega arith)))
 
-  pub rolled_with : (birth : ℕ) (material : List ℕ) (place : ℕ) (rows : List PlacedRow) (top i : ℕ) (placed : PlacedRow) (more : List ℕ) → Rising 0 (rows_of m rows) top → i < length rows → placed ≡ get_or rows i placed
+  pub rolled_with : (birth : ℕ) (material : List ℕ) (place : ℕ) (rows : List PlacedRow) (top i : ℕ) (placed : PlacedRow) (more : List ℕ) → AreRowsRising 0 (rows_of m rows) top → i < length rows → placed ≡ get_or rows i placed
       → is_born birth (get_or rows i placed) ≡ true → ((k : ℕ) → k < i → is_born birth (get_or rows k placed) ≡ false) → more ≡ placed.places ++ place ∷ []
       → set rows i (record { row = record placed.row { current = material; versions = placed.row.versions + 1 }; places = more }) ≡ map (rolled_at birth material place) rows
   rolled_with birth material place rows top i placed more rising within is here before pushed =
@@ -92,21 +92,21 @@ module _ (m : Materials) where
       ∙ ap (λ (p : PlacedRow). set rows i (with_version material place p)) is
       ∙ rolled_set 0 birth material place rows top i placed rising within here before
 
-  above_at : (low : ℕ) (rows : List PlacedRow) (top i : ℕ) (d : PlacedRow) → Rising low (rows_of m rows) top → i < length rows → low < (get_or rows i d).row.birth
+  above_at : (low : ℕ) (rows : List PlacedRow) (top i : ℕ) (d : PlacedRow) → AreRowsRising low (rows_of m rows) top → i < length rows → low < (get_or rows i d).row.birth
   above_at low [] top i d rising within = absurd (omega arith)
   above_at low (row ∷ rows) top zero d rising within = rising.0
   above_at low (row ∷ rows) top (suc i) d rising within = omega (arith, rising.0, above_at row.row.birth rows top i d rising.1 (omega arith))
 
-  rising_at : (low : ℕ) (rows : List PlacedRow) (top k i : ℕ) (d : PlacedRow) → Rising low (rows_of m rows) top → k < i → i < length rows → (get_or rows k d).row.birth < (get_or rows i d).row.birth
+  rising_at : (low : ℕ) (rows : List PlacedRow) (top k i : ℕ) (d : PlacedRow) → AreRowsRising low (rows_of m rows) top → k < i → i < length rows → (get_or rows k d).row.birth < (get_or rows i d).row.birth
   rising_at low [] top k i d rising below within = absurd (omega arith)
   rising_at low (row ∷ rows) top k zero d rising below within = absurd (omega arith)
   rising_at low (row ∷ rows) top zero (suc i) d rising below within = above_at row.row.birth rows top i d rising.1 (omega arith)
   rising_at low (row ∷ rows) top (suc k) (suc i) d rising below within = rising_at row.row.birth rows top k i d rising.1 (omega arith) (omega arith)
 
-  births_sorted : (low : ℕ) (rows : List PlacedRow) (top : ℕ) → Rising low (rows_of m rows) top → IsSortedBy (λ (a b : PlacedRow). is_lt (nat_cmp a.row.birth b.row.birth)) rows
+  births_sorted : (low : ℕ) (rows : List PlacedRow) (top : ℕ) → AreRowsRising low (rows_of m rows) top → IsSortedBy (λ (a b : PlacedRow). is_lt (nat_cmp a.row.birth b.row.birth)) rows
   births_sorted low rows top rising k d above within = not_below _ _ (rising_at low rows top k (k + 1) d rising (omega arith) within)
 
-  pub birth_searched : (low : ℕ) (rows : List PlacedRow) (top birth : ℕ) (r : Result ℕ ℕ) → Rising low (rows_of m rows) top → IsBinarySearchResult (λ (placed : PlacedRow). nat_cmp placed.row.birth birth) rows r
+  pub birth_searched : (low : ℕ) (rows : List PlacedRow) (top birth : ℕ) (r : Result ℕ ℕ) → AreRowsRising low (rows_of m rows) top → IsBinarySearchResult (λ (placed : PlacedRow). nat_cmp placed.row.birth birth) rows r
       → MatchResult r (HoldsAt (λ placed. placed.row.birth ≡ birth) rows) (λ _. All (λ placed. is_born birth placed ≡ false) rows)
   birth_searched low rows top birth (Ok place) rising equal = λ d. ranked _ birth _ (sym (equal d))
   birth_searched low rows top birth (Err place) rising parted =
@@ -117,13 +117,13 @@ module _ (m : Materials) where
       ]
 
   -- the row at the place of a birth is the first with it
-  pub first_at : (low : ℕ) (rows : List PlacedRow) (top birth i : ℕ) (d : PlacedRow) → Rising low (rows_of m rows) top → i < length rows → (get_or rows i d).row.birth ≡ birth → (k : ℕ) → k < i → is_born birth (get_or rows k d) ≡ false
+  pub first_at : (low : ℕ) (rows : List PlacedRow) (top birth i : ℕ) (d : PlacedRow) → AreRowsRising low (rows_of m rows) top → i < length rows → (get_or rows i d).row.birth ≡ birth → (k : ℕ) → k < i → is_born birth (get_or rows k d) ≡ false
   first_at low rows top birth i d rising within here k below = other_number (get_or rows k d).row.birth birth (λ same. absurd (omega (arith, rising_at low rows top k i d rising below within, here, same)))
 
-  pub row_found : (low : ℕ) (rows : List PlacedRow) (top birth i : ℕ) (d : PlacedRow) → Rising low (rows_of m rows) top → i < length rows → (get_or rows i d).row.birth ≡ birth → find (is_born birth) rows ≡ Some (get_or rows i d)
+  pub row_found : (low : ℕ) (rows : List PlacedRow) (top birth i : ℕ) (d : PlacedRow) → AreRowsRising low (rows_of m rows) top → i < length rows → (get_or rows i d).row.birth ≡ birth → find (is_born birth) rows ≡ Some (get_or rows i d)
   row_found low rows top birth i d rising within here = find_at (is_born birth) rows i d within ((Decides-eqb (get_or rows i d).row.birth birth).1 here) (first_at low rows top birth i d rising within here)
 
-  above_low : (low : ℕ) (p : PlacedRow → Bool) (rows : List PlacedRow) (top : ℕ) → Rising low (rows_of m rows) top → IfSome (find p rows) (λ placed. low < placed.row.birth)
+  above_low : (low : ℕ) (p : PlacedRow → Bool) (rows : List PlacedRow) (top : ℕ) → AreRowsRising low (rows_of m rows) top → IfSome (find p rows) (λ placed. low < placed.row.birth)
   above_low low p [] top rising = tt
   above_low low p (r ∷ rows) top rising =
       let Q : Bool → Type 0 = λ b. IfSome (cond b (Some r) (find p rows)) (λ placed. low < placed.row.birth) in
@@ -132,7 +132,7 @@ module _ (m : Materials) where
       elim (p r) as Q [ true ↦ rising.0 | false ↦ later (above_low r.row.birth p rows top rising.1) ]
 
   -- a row that is found is also found by its birth
-  pub by_birth : (low : ℕ) (p : PlacedRow → Bool) (rows : List PlacedRow) (top : ℕ) → Rising low (rows_of m rows) top → IfSome (find p rows) (λ placed. find (is_born placed.row.birth) rows ≡ Some placed)
+  pub by_birth : (low : ℕ) (p : PlacedRow → Bool) (rows : List PlacedRow) (top : ℕ) → AreRowsRising low (rows_of m rows) top → IfSome (find p rows) (λ placed. find (is_born placed.row.birth) rows ≡ Some placed)
   by_birth low p [] top rising = tt
   by_birth low p (r ∷ rows) top rising =
       let Q : Bool → Type 0 = λ b. IfSome (cond b (Some r) (find p rows)) (λ placed. find (is_born placed.row.birth) (r ∷ rows) ≡ Some placed) in
@@ -147,7 +147,7 @@ module _ (m : Materials) where
       ]
 
   -- a name whose birth is known
-  pub named_there : (rows : List PlacedRow) (entries : List NamedBirth) (name : List ℕ) (birth top : ℕ) → Rising 0 (rows_of m rows) top → IsIndex (rows_of m rows) entries → birth_in entries name ≡ Some birth
+  pub named_there : (rows : List PlacedRow) (entries : List NamedBirth) (name : List ℕ) (birth top : ℕ) → AreRowsRising 0 (rows_of m rows) top → IsIndex (rows_of m rows) entries → birth_in entries name ≡ Some birth
       → find (is_born birth) rows ≡ find (is_named name) rows
   named_there rows entries name birth top rising index some =
       there (find (is_named name) rows) (sym (index.births name ∙ birth_of_name m rows name) ∙ some) (by_birth 0 (is_named name) rows top rising)

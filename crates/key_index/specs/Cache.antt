@@ -11,8 +11,8 @@ abbrev pub is_key : MaterialKey → MaterialKey → Bool
 is_key key other = key.birth == other.birth && key.number == other.number
 
 -- the entry has the material of its version
-abbrev pub IsOf : Materials → MaterialKey × Dek → Type 0
-IsOf m entry = entry.1 ≡ m entry.0.birth entry.0.number
+abbrev pub IsMaterialOf : Materials → MaterialKey × Dek → Type 0
+IsMaterialOf m entry = entry.1 ≡ m entry.0.birth entry.0.number
 
 -- The entry is of a version that is not the current one of a key in the index, nor will be: its key has more
 -- versions, or was deleted, and births are not used again.
@@ -22,4 +22,4 @@ pub record IsOlder (x : Index) (key : MaterialKey) : Type 0 where
 
 -- each entry has the material of its version, which is an older one
 abbrev pub AreCached : Materials → Index → List (MaterialKey × Dek) → Type 0
-AreCached m x entries = AllByRecursion (λ (entry : MaterialKey × Dek). IsOf m entry × IsOlder x entry.0) entries
+AreCached m x entries = AllByRecursion (λ (entry : MaterialKey × Dek). IsMaterialOf m entry × IsOlder x entry.0) entries

@@ -4,7 +4,7 @@ use Rattle.std.specs.List.{AllByRecursion}
 use Rattle.key_rows.specs.declared.by_name.NamedBirth.{NamedBirth}
 use Rattle.key_rows.specs.Names.{IsIndex}
 use Rattle.key_rows.specs.Table.{is_length}
-use Rattle.key_rows.specs.Sound.{NamesOnce, Rising}
+use Rattle.key_rows.specs.Sound.{AreRowsRising, NamesOnce}
 use Rattle.key_index.specs.declared.rows.IndexRow.{IndexRow}
 use Rattle.key_index.specs.declared.rows.PlacedRow.{PlacedRow}
 use Rattle.key_index.specs.Index.{Index, Materials, row_of, rows_of}
@@ -25,16 +25,16 @@ pub record IsPlacedRow (placed : PlacedRow) : Type 0 where
 -- Births increase, and the names of the keys in order are those of the table. Neither depends on the materials.
 
 abbrev pub AreRising : List PlacedRow → Type 0
-AreRising rows = (top : ℕ) × ((m : Materials) → Rising 0 (rows_of m rows) top)
+AreRising rows = (top : ℕ) × ((m : Materials) → AreRowsRising 0 (rows_of m rows) top)
 
 abbrev pub AreNamed : List PlacedRow → List NamedBirth → Type 0
 AreNamed rows entries = (m : Materials) → IsIndex (rows_of m rows) entries
 
 -- Births increase, and no two keys have the same name. Neither depends on the materials.
-pub record IsSound (x : Index) : Type 0 where
+pub record IsSoundIndex (x : Index) : Type 0 where
   pub opening : x.opening < 2 ^ 32
   pub few : length x.rows ≤ 10000
-  pub births : (m : Materials) → Rising 0 (rows_of m x.rows) x.greatest
+  pub births : (m : Materials) → AreRowsRising 0 (rows_of m x.rows) x.greatest
   pub names : (m : Materials) → NamesOnce (rows_of m x.rows)
   pub rows : AllByRecursion IsPlacedRow x.rows
 

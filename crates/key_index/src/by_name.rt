@@ -4,7 +4,7 @@ ghost use Rattle.std.specs.List.{HoldsAt};
 ghost use Rattle.std.specs.List.Sorted.{IsPartitionPoint};
 ghost use Rattle.std.specs.Vec.{vec_capacity, vec_len};
 ghost use Rattle.std.specs.declared.cmp.Ordering.TheVariants.{Less, Greater};
-ghost use Rattle.key_rows.specs.Names.{InOrder, birth_in, name_cmp, names_of};
+ghost use Rattle.key_rows.specs.Names.{AreInNameOrder, birth_in, name_cmp, names_of};
 
 use hk_base::{KeyName, NoMemory};
 use kms_calls::NameList;
@@ -51,7 +51,7 @@ fn compare(entry: &NamedBirth, name: &KeyName) -> Ordering
 
 /// Returns the position of a name, or as an error the position to insert it at.
 fn search(entries: &Vec<NamedBirth>, name: &KeyName) -> Result<usize, usize>
-    requires { InOrder (names_of entries.now.items) }
+    requires { AreInNameOrder (names_of entries.now.items) }
     ensures bound { MatchResult result (λ place. place < length entries.now.items)
         (λ place. place ≤ length entries.now.items) }
     ensures place { MatchResult result (HoldsAt (λ entry. entry.name ≡ name.now) entries.now.items)
@@ -63,7 +63,7 @@ fn search(entries: &Vec<NamedBirth>, name: &KeyName) -> Result<usize, usize>
 
 /// Returns the birth of a name.
 pub(crate) fn birth_of(entries: &Vec<NamedBirth>, name: &KeyName) -> Option<u64>
-    requires { InOrder (names_of entries.now.items) }
+    requires { AreInNameOrder (names_of entries.now.items) }
     ensures { result ≡ birth_in entries.now.items name.now }
 {
     match search(entries, name) {
@@ -74,9 +74,9 @@ pub(crate) fn birth_of(entries: &Vec<NamedBirth>, name: &KeyName) -> Option<u64>
 
 /// Inserts a name that is not in the list. Returns `Ok` if there is capacity left.
 pub(crate) fn put(entries: &mut Vec<NamedBirth>, name: KeyName, birth: u64) -> Result<(), NoMemory>
-    requires order { InOrder (names_of entries.old.items) }
+    requires order { AreInNameOrder (names_of entries.old.items) }
     requires absent { birth_in entries.old.items name ≡ None }
-    ensures order { InOrder (names_of entries.new.items) }
+    ensures order { AreInNameOrder (names_of entries.new.items) }
     ensures ok { OnOk result
         ((other : KeyName) →
         birth_in entries.new.items other ≡

@@ -3,7 +3,7 @@ ghost use Rattle.std.specs.Prelude.{◌≡◌, ◌<◌, [], ◌∷◌, ◌++◌,
 ghost use Rattle.std.specs.List.{AllByRecursion, HoldsAt};
 ghost use Rattle.std.specs.Option.{option_copied};
 ghost use Rattle.std.specs.Vec.{vec_capacity, vec_len};
-ghost use Rattle.key_rows.specs.Names.{InOrder, birth_in, names_of};
+ghost use Rattle.key_rows.specs.Names.{AreInNameOrder, birth_in, names_of};
 ghost use Rattle.key_index.specs.Index.{is_born, is_named, rolled_at};
 ghost use Rattle.key_index.specs.Sound.{AreNamed, AreRising, IsPlacedRow};
 
@@ -73,11 +73,11 @@ fn insert_name(
     names: &mut Vec<NamedBirth>,
     row: &IndexRow,
 ) -> Result<(), NoMemory>
-    requires order { InOrder (names_of names.old.items) }
+    requires order { AreInNameOrder (names_of names.old.items) }
     requires absent { birth_in names.old.items row.now.name ≡ None }
     ensures rows { rows.new.items ≡ rows.old.items }
     ensures free { OnOk result (vec_len rows.new < vec_capacity rows.new) }
-    ensures order { InOrder (names_of names.new.items) }
+    ensures order { AreInNameOrder (names_of names.new.items) }
     ensures ok { OnOk result
         ((other : KeyName) →
         birth_in names.new.items other ≡
@@ -97,10 +97,10 @@ pub(crate) fn insert(
     names: &mut Vec<NamedBirth>,
     placed: PlacedRow,
 ) -> Result<(), NoMemory>
-    requires order { InOrder (names_of names.old.items) }
+    requires order { AreInNameOrder (names_of names.old.items) }
     requires absent { birth_in names.old.items placed.row.name ≡ None }
     ensures rows { OnOk result (rows.new.items ≡ rows.old.items ++ placed ∷ []) }
-    ensures order { InOrder (names_of names.new.items) }
+    ensures order { AreInNameOrder (names_of names.new.items) }
     ensures ok { OnOk result
         ((other : KeyName) →
         birth_in names.new.items other ≡

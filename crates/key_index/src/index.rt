@@ -3,11 +3,11 @@ ghost use Rattle.std.specs.Prelude.{◌≡◌, ◌+◌, ◌≤◌, ℕ, List, Is
 ghost use Rattle.std.specs.Option.{option_copied};
 ghost use Rattle.key_rows.specs.declared.rows.KeyCommand.TheVariants.{Delete, Roll};
 ghost use Rattle.key_rows.specs.Names.{AreNames};
-ghost use Rattle.key_rows.specs.Sound.{IsTable};
+ghost use Rattle.key_rows.specs.Sound.{IsKeyTable};
 ghost use Rattle.key_rows.specs.Table.{after, applies, current_of, find_birth, find_name, need};
 ghost use Rattle.key_index.specs.Held.{AreHeld, HoldsMaterial, IsMaterialAt, has_older};
 ghost use Rattle.key_index.specs.Index.{Materials, after_at, applies_at, is_born, is_named, materials_after, may_create_at, no_index, place_of, row_of, table_of, with_row};
-ghost use Rattle.key_index.specs.Sound.{AllSized, IsIndexRow, IsSound};
+ghost use Rattle.key_index.specs.Sound.{AllSized, IsIndexRow, IsSoundIndex};
 
 use crate::applying::applies_to;
 use crate::by_name::{NamedBirth, copy_names, remove_birth};
@@ -40,7 +40,7 @@ impl Model for KeyIndex {
     ghost use Rattle.std.specs.Prelude.{◌≡◌, ◌&&◌, [], nat_lt, if◌then◌else◌};
     ghost use Rattle.std.specs.Vec.{vec_len, vec_capacity};
     ghost use Rattle.key_index.specs.Index.{KeptIndex};
-    ghost use Rattle.key_index.specs.Sound.{AreNamed, IsSound};
+    ghost use Rattle.key_index.specs.Sound.{AreNamed, IsSoundIndex};
 
     ghost Value = { KeptIndex };
 
@@ -52,7 +52,7 @@ impl Model for KeyIndex {
         } };
 
     ghost invariant = { λ t.
-        IsSound (record { opening = t.opening; greatest = t.greatest; rows = t.rows.items }) ×
+        IsSoundIndex (record { opening = t.opening; greatest = t.greatest; rows = t.rows.items }) ×
         AreNamed t.rows.items t.names.items × (t.ready.items ≡ []) };
 }
 
@@ -87,9 +87,9 @@ impl KeyIndex {
     /// Returns the last opening, or 0 if there was none.
     pub fn opening(&self) -> u32
         ensures opening { result ≡ self.now.index.opening }
-        ensures sound { IsSound self.now.index }
+        ensures sound { IsSoundIndex self.now.index }
         ensures table { (m : Materials) → AllSized m self.now.index →
-            IsTable (table_of m self.now.index) }
+            IsKeyTable (table_of m self.now.index) }
     {
         self.opening
     }
@@ -103,14 +103,14 @@ impl KeyIndex {
 
     fn named(&self, name: &KeyName) -> Option<&PlacedRow>
         ensures found { option_copied result ≡ find (is_named name.now) self.now.index.rows }
-        ensures sound { IsSound self.now.index }
+        ensures sound { IsSoundIndex self.now.index }
     {
         row_of(&self.rows, &self.names, name)
     }
 
     fn born(&self, birth: u64) -> Option<&PlacedRow>
         ensures found { option_copied result ≡ find (is_born birth) self.now.index.rows }
-        ensures sound { IsSound self.now.index }
+        ensures sound { IsSoundIndex self.now.index }
     {
         row_at(&self.rows, birth)
     }
@@ -127,7 +127,7 @@ impl KeyIndex {
             (λ row. find_birth (table_of m self.now.index).rows row.now.birth ≡
             Some (row_of m row.now)) }
         ensures table { (m : Materials) → AllSized m self.now.index →
-            IsTable (table_of m self.now.index) }
+            IsKeyTable (table_of m self.now.index) }
     {
         match self.named(name) {
             None => None,
@@ -201,7 +201,7 @@ impl KeyIndex {
 
     fn older_place(&self, version: &VersionName) -> Option<u64>
         ensures place { result ≡ place_of self.now.index.rows version.now }
-        ensures sound { IsSound self.now.index }
+        ensures sound { IsSoundIndex self.now.index }
     {
         match self.named(&version.key) {
             None => None,

@@ -12,5 +12,5 @@ mod rows;
 
 pub use cache::{MaterialCache, MaterialKey};
 pub use index::KeyIndex;
-pub use places::{log_holds_materials, material_place};
+pub use places::{log_holds_materials, material_len};
 pub use rows::IndexRow;

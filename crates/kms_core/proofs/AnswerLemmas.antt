@@ -1,12 +1,8 @@
 -- Calls that only answer.
-use Rattle.std.proofs.Common.{◌≡◌, ◌⊎◌, inl, inr, ℕ, zero, suc, ◌+◌, ◌<◌, List, [], ◌∷◌, ◌++◌, length, map, take, Bool, true, false, cond, nat_le, Option, None, Some, is_none, MatchBool, MatchOption, refl, ap, sym, ◌∙◌, subst, arith, get_or}
+use Rattle.std.proofs.Common.{◌≡◌, ◌⊎◌, inl, inr, ℕ, ◌+◌, ◌<◌, List, [], ◌∷◌, ◌++◌, length, take, Bool, true, false, cond, Option, None, Some, is_none, MatchBool, MatchOption, refl, ap, sym, ◌∙◌, subst, arith, get_or}
 use Rattle.std.specs.List.{list_any, slice_get}
-use Rattle.std.specs.Option.{option_and_then, unwrap_or}
-use Rattle.std.proofs.lemmas.Bool.Decides.{nat_tests}
 use Rattle.std.proofs.lemmas.List.{length-take-le, take_more}
-use Rattle.std.proofs.lemmas.Option.{slice_get-get_or, slice_get_within}
-use Rattle.hk_base.specs.declared.names.Edek.{Edek}
-use Rattle.hk_base.specs.declared.names.VersionName.{VersionName}
+use Rattle.std.proofs.lemmas.Option.{slice_get-get_or}
 use Rattle.key_rows.specs.declared.rows.KeyRow.{KeyRow}
 use Rattle.kms_calls.specs.declared.calls.KeyMeta.{KeyMeta}
 use Rattle.kms_calls.specs.declared.calls.KmsCall.{KmsCall}
@@ -15,14 +11,12 @@ use Rattle.kms_calls.specs.declared.calls.KmsReply.{KmsReply}
 use Rattle.kms_calls.specs.declared.calls.KmsReply.TheVariants as reply
 use Rattle.kms_calls.specs.declared.calls.KmsRefusal.{KmsRefusal}
 use Rattle.kms_calls.specs.declared.calls.KmsRefusal.TheVariants as refusal
-use Rattle.kms_calls.specs.declared.calls.RawEdek.{RawEdek}
 use Rattle.kms_calls.specs.Shown.{Shown}
-use Rattle.key_rows.specs.Table.{material_of}
 use Rattle.kms_core.specs.State.{KmsState}
-use Rattle.kms_core.specs.Calls.{all_versions, batch_causes, causes, current_material, current_version, first_cause, is_absent, meta_of, metas_of, unsealed_dek, resealed, row_of, sent_causes, takes_memory, version_causes, versions_from}
-use Rattle.kms_core.specs.Steps.{Answers, OpensIn, RefusesBatch, Reseals, ResealsAll, resealed_in}
+use Rattle.kms_core.specs.Calls.{causes, first_cause, is_absent, meta_of, metas_of, row_of, takes_memory, versions_from}
+use Rattle.kms_core.specs.Steps.{Answers}
 use Rattle.kms_core.proofs.KeyLemmas.{named}
-use Rattle.kms_core.proofs.SentLemmas.{each_allowed, each_none, map_more, opened_is, resealed_is, same_cause, same_causes}
+use Rattle.kms_core.proofs.SentLemmas.{each_none, map_more}
 
 -- the three outcomes of such a call
 
@@ -110,81 +104,3 @@ one_more_version name materials i versions versions' within are more =
   where
     front : (xs : List (List ℕ)) (i : ℕ) → i < length xs → 0 + length (take i xs) ≡ i
     front xs i within = omega (arith, length-take-le i xs (omega (arith, within)))
-
-pub tells_versions : (s : KmsState) (name : List ℕ) (row : KeyRow) (versions : List Shown) → row_of s name ≡ Some row → versions ≡ versions_from row.name 0 row.materials
-    → Answers s (call.Versions name) (reply.Versions (all_versions (row_of s name))) (reply.Versions versions)
-tells_versions s name row versions found are =
-    answered s (call.Versions name) _ _ (present (row_of s name) (ap is_none found)) (ap reply.Versions (are ∙ ap all_versions (sym found)))
-
-pub tells_version : (s : KmsState) (version : VersionName) (row : KeyRow) (material : List ℕ) → row_of s version.key ≡ Some row → slice_get row.materials version.number ≡ Some material
-    → Answers s (call.Version version) (reply.Version version (material_of s.table.rows version)) (reply.Version version (Some material))
-tells_version s version row material found got =
-    let within : version.number < length row.materials = slice_get_within row.materials version.number material got in
-    let has : nat_le (length row.materials) version.number ≡ false = grind (arith, within) in
-    answered s (call.Version version) _ _ (ap (λ o. first_cause (version_causes o version.number)) found ∙ ap (λ b. cond b (Some refusal.NoSuchVersion) None) has)
-    (ap (reply.Version version) (sym (ap (λ o. by o) found ∙ got)))
-  where
-    by : Option KeyRow → Option (List ℕ)
-    by o = option_and_then (λ (r : KeyRow). slice_get r.materials version.number) o
-
-pub tells_no_version : (s : KmsState) (version : VersionName) (row : KeyRow) → row_of s version.key ≡ Some row → slice_get row.materials version.number ≡ None
-    → Answers s (call.Version version) (reply.Version version (material_of s.table.rows version)) (reply.Refused refusal.NoSuchVersion)
-tells_no_version s version row found got =
-    let lacks : nat_le (length row.materials) version.number ≡ true = beyond row.materials version.number got in
-    not_answered s (call.Version version) _ refusal.NoSuchVersion (ap (λ o. first_cause (version_causes o version.number)) found ∙ ap (λ b. cond b (Some refusal.NoSuchVersion) None) lacks)
-  where
-    beyond : (xs : List (List ℕ)) (i : ℕ) → slice_get xs i ≡ None → nat_le (length xs) i ≡ true
-    beyond [] i none = grind arith
-    beyond (x ∷ xs) zero none = absurd cc
-    beyond (x ∷ xs) (suc i) none = let rest = beyond xs i none in grind (arith, nat_tests, rest)
-
-pub tells_current : (s : KmsState) (name : List ℕ) (version : VersionName) (material : List ℕ) → is_none (row_of s name) ≡ false → version ≡ current_version (row_of s name)
-    → material_of s.table.rows version ≡ Some material
-    → Answers s (call.Current name) (reply.Version (current_version (row_of s name)) (Some (current_material s name))) (reply.Version version (Some material))
-tells_current s name version material stands version_is has =
-    let same : material ≡ current_material s name = sym (ap (λ v. unwrap_or (material_of s.table.rows v) []) (sym version_is) ∙ ap (λ o. unwrap_or o []) has) in
-    answered s (call.Current name) _ _ (present (row_of s name) stands) (λ i. reply.Version (version_is i) (Some (same i)))
-
--- the keys sent
-
-pub decrypts : (s : KmsState) (name : List ℕ) (sent : RawEdek) (row : KeyRow) (key : List ℕ) → row_of s name ≡ Some row → OpensIn row sent key
-    → Answers s (call.Decrypt name sent) (reply.Key (unsealed_dek s sent)) (reply.Key key)
-decrypts s name sent row key found is =
-    answered s (call.Decrypt name sent) _ _ (sym (same_cause s name row sent found) ∙ is.allowed)
-    (ap reply.Key (is.is ∙ ap (λ o. unwrap_or o []) (sym (opened_is s name row sent found is.allowed))))
-
-pub decrypts_not : (s : KmsState) (name : List ℕ) (sent : RawEdek) (row : KeyRow) (why : KmsRefusal) → row_of s name ≡ Some row → first_cause (sent_causes (Some row) row.name sent) ≡ Some why
-    → Answers s (call.Decrypt name sent) (reply.Key (unsealed_dek s sent)) (reply.Refused why)
-decrypts_not s name sent row why found stands = not_answered s (call.Decrypt name sent) _ why (sym (same_cause s name row sent found) ∙ stands)
-
-pub reencrypts : (s : KmsState) (name : List ℕ) (sent : RawEdek) (row : KeyRow) (key : Edek) → row_of s name ≡ Some row → Reseals row sent key
-    → Answers s (call.Reencrypt name sent) (reply.Resealed (resealed s name sent)) (reply.Resealed key)
-reencrypts s name sent row key found is =
-    answered s (call.Reencrypt name sent) _ _ (sym (same_cause s name row sent found) ∙ is.allowed)
-    (ap reply.Resealed (is.is ∙ resealed_is s name row sent found is.allowed))
-
-pub reencrypts_not : (s : KmsState) (name : List ℕ) (sent : RawEdek) (row : KeyRow) (why : KmsRefusal) → row_of s name ≡ Some row → first_cause (sent_causes (Some row) row.name sent) ≡ Some why
-    → Answers s (call.Reencrypt name sent) (reply.Resealed (resealed s name sent)) (reply.Refused why)
-reencrypts_not s name sent row why found stands = not_answered s (call.Reencrypt name sent) _ why (sym (same_cause s name row sent found) ∙ stands)
-
-same_map : {X Y : Type 0} (f g : X → Y) (xs : List X) (d : X) → ((i : ℕ) → i < length xs → f (get_or xs i d) ≡ g (get_or xs i d)) → map f xs ≡ map g xs
-same_map f g [] d same = refl
-same_map f g (x ∷ xs) d same = λ j. same 0 (omega arith) j ∷ same_map f g xs d (λ i within. same (suc i) (omega arith)) j
-
-pub reencrypts_all : (s : KmsState) (name : List ℕ) (sent : List RawEdek) (row : KeyRow) (keys : List Edek) → row_of s name ≡ Some row → ResealsAll row sent keys
-    → Answers s (call.Batch name sent) (reply.Ready (map (resealed s name) sent)) (reply.Ready keys)
-reencrypts_all s name sent row keys found is =
-    let none : RawEdek = record { version = record { key = []; number = 0 }; iv = []; sealed = [] } in
-    answered s (call.Batch name sent) _ _ (sym (same_causes s name row sent found) ∙ is.allowed)
-    (ap reply.Ready (is.are ∙ same_map (resealed_in row) (resealed s name) sent none
-    (λ i within. resealed_is s name row (get_or sent i none) found (each_allowed row sent i none is.allowed within))))
-
-pub reencrypts_none : (s : KmsState) (name : List ℕ) (sent : List RawEdek) (row : KeyRow) (why : KmsRefusal) → row_of s name ≡ Some row → RefusesBatch row sent why
-    → Answers s (call.Batch name sent) (reply.Ready (map (resealed s name) sent)) (reply.Refused why)
-reencrypts_none s name sent row why found is = by_cause (first_cause (batch_causes (Some row) row.name sent)) refl is
-  where
-    by_cause : (cause : Option KmsRefusal) → first_cause (batch_causes (Some row) row.name sent) ≡ cause → MatchOption cause (why ≡ refusal.NoMemory) (λ cause. cause ≡ why)
-        → Answers s (call.Batch name sent) (reply.Ready (map (resealed s name) sent)) (reply.Refused why)
-    by_cause None none is = subst (λ (w : KmsRefusal). Answers s (call.Batch name sent) (reply.Ready (map (resealed s name) sent)) (reply.Refused w)) (sym is)
-        (no_room s (call.Batch name sent) _ refl (sym (same_causes s name row sent found) ∙ none))
-    by_cause (Some cause) stands is = not_answered s (call.Batch name sent) _ why (sym (same_causes s name row sent found) ∙ stands ∙ ap Some is)

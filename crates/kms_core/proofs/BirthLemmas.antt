@@ -14,7 +14,7 @@ use Rattle.kms_calls.specs.declared.calls.KmsRefusal.TheVariants as refusal
 use Rattle.key_rows.specs.declared.rows.KeyCommand.{KeyCommand}
 use Rattle.key_rows.specs.declared.rows.KeyCommand.TheVariants.{Opened, Create, Roll, Delete}
 use Rattle.key_rows.specs.Table.{Table, after, applies, find_birth, find_name, is_born, is_length, is_named, opening_of, rolled, with_material}
-use Rattle.key_rows.specs.Sound.{Rising}
+use Rattle.key_rows.specs.Sound.{AreRowsRising}
 use Rattle.key_rows.proofs.Births.{other_number}
 use Rattle.key_rows.proofs.TableLemmas.{sound_create, sound_roll, sound_delete}
 use Rattle.kms_store.specs.Store.{settled_commands, settled_table}
@@ -197,14 +197,14 @@ works_only s words now c answer drawn logged s' works w =
     let same : SameKeys s.keys w.changed = after_call (SameKeys s.keys) s.keys words now c answer drawn w.changed w.acts refl (deed_works s.keys words now c works) in
     subst (λ (t : ServiceState). OnlyQueues s t) (sym w.left) (λ i. record s { keys = same i })
 
-pub gone_stays : (s : ServiceState) (words : ℕ → ℕ) (now : ℕ) (c : KmsCall) (before later : ℕ) (answer : KmsReply) (drawn : ℕ) (logged : List KeyCommand) (s' : ServiceState)
-    → IsService s → KmsServes s words now c (Rose before later) answer drawn logged s' → (birth : ℕ) → Gone s.keys.table birth → Gone s'.keys.table birth
-gone_stays s words now c before later answer drawn logged s' is serves birth gone = go (kind c) refl serves
+pub gone_stays : (s : ServiceState) (words : ℕ → ℕ) (now : ℕ) (c : KmsCall) (before later : ℕ) (tells : Type 0) (answer : KmsReply) (drawn : ℕ) (logged : List KeyCommand) (s' : ServiceState)
+    → IsService s → KmsServes s words now c (Rose before later) tells answer drawn logged s' → (birth : ℕ) → Gone s.keys.table birth → Gone s'.keys.table birth
+gone_stays s words now c before later tells answer drawn logged s' is serves birth gone = go (kind c) refl serves
   where
     base_gone : (kept : Bool) → Gone (settled kept s).table birth
     base_gone kept = gone_settled kept s.pending s.keys birth is.waits gone
 
-    go : (k : Kind) → kind c ≡ k → ServesBy k s words now c (Rose before later) answer drawn logged s' → Gone s'.keys.table birth
+    go : (k : Kind) → kind c ≡ k → ServesBy k s words now c (Rose before later) tells answer drawn logged s' → Gone s'.keys.table birth
     go Reading is r = subst (λ (t : ServiceState). Gone t.keys.table birth) (sym r.same) gone
     go Working is r = subst (λ (t : ServiceState). Gone t.keys.table birth) (sym (works_only s words now c answer drawn logged s' is r)) gone
     go Committing is (inl u) = subst (λ (t : ServiceState). Gone t.keys.table birth) (sym u.same) gone
@@ -331,14 +331,14 @@ changes_give s logged_before words now c fault answer drawn logged s' birth belo
     subst (λ (t : ServiceState). is_none (find_birth t.keys.table.rows birth) ≡ true) (sym u.left)
     (subst (λ (t : Table). is_none (find_birth t.rows birth) ≡ true) (sym (deed_keeps s words now c)) none)
 
-pub used_up_stays : (s : ServiceState) (words : ℕ → ℕ) (now : ℕ) (c : KmsCall) (before later : ℕ) (answer : KmsReply) (drawn : ℕ) (logged : List KeyCommand) (s' : ServiceState)
-    → IsService s → KmsServes s words now c (Rose before later) answer drawn logged s' → (birth : ℕ) → IsUsedUp s birth → IsUsedUp s' birth
-used_up_stays s words now c before later answer drawn logged s' is serves birth used = go (kind c) refl serves
+pub used_up_stays : (s : ServiceState) (words : ℕ → ℕ) (now : ℕ) (c : KmsCall) (before later : ℕ) (tells : Type 0) (answer : KmsReply) (drawn : ℕ) (logged : List KeyCommand) (s' : ServiceState)
+    → IsService s → KmsServes s words now c (Rose before later) tells answer drawn logged s' → (birth : ℕ) → IsUsedUp s birth → IsUsedUp s' birth
+used_up_stays s words now c before later tells answer drawn logged s' is serves birth used = go (kind c) refl serves
   where
     below : (kept : Bool) → birth < next_birth (settled kept s)
     below kept = subst (λ (n : ℕ). birth < n) (sym (next_settled kept s is)) used.below
 
-    go : (k : Kind) → kind c ≡ k → ServesBy k s words now c (Rose before later) answer drawn logged s' → IsUsedUp s' birth
+    go : (k : Kind) → kind c ≡ k → ServesBy k s words now c (Rose before later) tells answer drawn logged s' → IsUsedUp s' birth
     go Reading reads r = subst (λ (t : ServiceState). IsUsedUp t birth) (sym r.same) used
     go Working works r = subst (λ (t : ServiceState). IsUsedUp t birth) (sym (works_only s words now c answer drawn logged s' works r)) (record { below = used.below; absent = used.absent })
     go Committing commits (inl u) = subst (λ (t : ServiceState). IsUsedUp t birth) (sym u.same) used
@@ -346,11 +346,11 @@ used_up_stays s words now c before later answer drawn logged s' is serves birth 
         changes_use_up (settled kept s) (settled_commands kept s.pending) words now c (Rose before later) answer drawn logged s' birth (below kept) changes
         (changes_give (settled kept s) (settled_commands kept s.pending) words now c (Rose before later) answer drawn logged s' birth (below kept) changes (used.absent kept))
 
-pub lost_is_used_up : (s : ServiceState) (words : ℕ → ℕ) (now : ℕ) (c : KmsCall) (before later : ℕ) (answer : KmsReply) (drawn : ℕ) (logged : List KeyCommand) (s' : ServiceState)
-    → IsService s → KmsServes s words now c (Rose before later) answer drawn logged s' → (birth : ℕ) → birth < next_birth s.keys → is_none (find_birth s'.keys.table.rows birth) ≡ true → IsUsedUp s' birth ⊎ OnlyQueues s s'
-lost_is_used_up s words now c before later answer drawn logged s' is serves birth below none = go (kind c) refl serves
+pub lost_is_used_up : (s : ServiceState) (words : ℕ → ℕ) (now : ℕ) (c : KmsCall) (before later : ℕ) (tells : Type 0) (answer : KmsReply) (drawn : ℕ) (logged : List KeyCommand) (s' : ServiceState)
+    → IsService s → KmsServes s words now c (Rose before later) tells answer drawn logged s' → (birth : ℕ) → birth < next_birth s.keys → is_none (find_birth s'.keys.table.rows birth) ≡ true → IsUsedUp s' birth ⊎ OnlyQueues s s'
+lost_is_used_up s words now c before later tells answer drawn logged s' is serves birth below none = go (kind c) refl serves
   where
-    go : (k : Kind) → kind c ≡ k → ServesBy k s words now c (Rose before later) answer drawn logged s' → IsUsedUp s' birth ⊎ OnlyQueues s s'
+    go : (k : Kind) → kind c ≡ k → ServesBy k s words now c (Rose before later) tells answer drawn logged s' → IsUsedUp s' birth ⊎ OnlyQueues s s'
     go Reading reads r = inr (only_queues s s' r.same)
     go Working works r = inr (works_only s words now c answer drawn logged s' works r)
     go Committing commits (inl u) = inr (only_queues s s' u.same)
@@ -363,11 +363,11 @@ used_up_at_start s kept sizes is birth below none = record { below = omega (arit
 
 -- a key that exists has a birth
 
-rising_top : (low : ℕ) (rows : List KeyRow) (top : ℕ) → Rising low rows top → low ≤ top
+rising_top : (low : ℕ) (rows : List KeyRow) (top : ℕ) → AreRowsRising low rows top → low ≤ top
 rising_top low [] top rising = rising
 rising_top low (row ∷ rows) top rising = omega (arith, rising.0, rising_top row.birth rows top rising.1)
 
-born : (low : ℕ) (p : KeyRow → Bool) (rows : List KeyRow) (top : ℕ) → Rising low rows top → IfSome (find p rows) (λ row. row.birth ≤ top)
+born : (low : ℕ) (p : KeyRow → Bool) (rows : List KeyRow) (top : ℕ) → AreRowsRising low rows top → IfSome (find p rows) (λ row. row.birth ≤ top)
 born low p [] top rising = tt
 born low p (row ∷ rows) top rising =
     let Q : Bool → Type 0 = λ b. IfSome (cond b (Some row) (find p rows)) (λ row. row.birth ≤ top) in
@@ -396,21 +396,21 @@ was_deleted s words now name drawn s' (e, may, is) = by_end e is
     by_end (NoRoom some) is = let no : reply.Done ≡ reply.Refused refusal.NoMemory = ap (λ o. o.reply) is in absurd cc
 
 -- births increase even after the pending command was settled
-rising_settled : (kept : Bool) (s : ServiceState) → IsService s → Rising 0 (settled kept s).table.rows (settled kept s).table.greatest
+rising_settled : (kept : Bool) (s : ServiceState) → IsService s → AreRowsRising 0 (settled kept s).table.rows (settled kept s).table.greatest
 rising_settled kept s is = go kept s.pending is.waits
   where
-    behind : (command : KeyCommand) → applies s.keys.table command ≡ true → Rising 0 (after s.keys.table command).rows (after s.keys.table command).greatest
+    behind : (command : KeyCommand) → applies s.keys.table command ≡ true → AreRowsRising 0 (after s.keys.table command).rows (after s.keys.table command).greatest
     behind (Opened opening) may = is.table.births
     behind (Create birth name bits description created material) may = (sound_create s.keys.table birth name bits description created material is.table may).births
     behind (Roll birth number material) may = (sound_roll s.keys.table birth number material is.table may).births
     behind (Delete birth) may = (sound_delete s.keys.table birth is.table).births
 
-    go : (kept : Bool) (o : Option KeyCommand) → IfSome o (IsPending s.keys) → Rising 0 (settled_table kept o s.keys.table).rows (settled_table kept o s.keys.table).greatest
+    go : (kept : Bool) (o : Option KeyCommand) → IfSome o (IsPending s.keys) → AreRowsRising 0 (settled_table kept o s.keys.table).rows (settled_table kept o s.keys.table).greatest
     go kept None waits = is.table.births
     go true (Some command) waits = behind command waits.fits
     go false (Some command) waits = is.table.births
 
-deleted_in : (s : KmsState) (words : ℕ → ℕ) (now : ℕ) (name : List ℕ) (drawn : ℕ) (s' : KmsState) → Rising 0 s.table.rows s.table.greatest
+deleted_in : (s : KmsState) (words : ℕ → ℕ) (now : ℕ) (name : List ℕ) (drawn : ℕ) (s' : KmsState) → AreRowsRising 0 s.table.rows s.table.greatest
     → KmsActs s words now (call.Delete name) reply.Done drawn s' → Gone s'.table (birth_of (row_of s name))
 deleted_in s words now name drawn s' rising acts =
     let done = was_deleted s words now name drawn s' acts in
@@ -418,12 +418,12 @@ deleted_in s words now name drawn s' rising acts =
     let used : birth ≤ s.table.greatest = birth_below (row_of s name) s.table.greatest done.stands (born 0 (is_named name) s.table.rows s.table.greatest rising) in
     subst (λ (t : KmsState). Gone t.table birth) (sym done.state) (record { used = used; absent = none_left birth s.table.rows })
 
-pub deleted_is_gone : (s : ServiceState) (words : ℕ → ℕ) (now : ℕ) (name : List ℕ) (before later : ℕ) (drawn : ℕ) (logged : List KeyCommand) (s' : ServiceState)
-    → IsService s → KmsServes s words now (call.Delete name) (Rose before later) reply.Done drawn logged s'
+pub deleted_is_gone : (s : ServiceState) (words : ℕ → ℕ) (now : ℕ) (name : List ℕ) (before later : ℕ) (tells : Type 0) (drawn : ℕ) (logged : List KeyCommand) (s' : ServiceState)
+    → IsService s → KmsServes s words now (call.Delete name) (Rose before later) tells reply.Done drawn logged s'
     → (kept : Bool) × Gone s'.keys.table (birth_of (row_of (settled kept s) name))
-deleted_is_gone s words now name before later drawn logged s' is serves = go serves
+deleted_is_gone s words now name before later tells drawn logged s' is serves = go serves
   where
-    go : ServesBy Committing s words now (call.Delete name) (Rose before later) reply.Done drawn logged s' → (kept : Bool) × Gone s'.keys.table (birth_of (row_of (settled kept s) name))
+    go : ServesBy Committing s words now (call.Delete name) (Rose before later) tells reply.Done drawn logged s' → (kept : Bool) × Gone s'.keys.table (birth_of (row_of (settled kept s) name))
     go (inl u) = let no : reply.Done ≡ reply.Refused refusal.StoreFault = u.reply_is in absurd cc
     go (inr (kept, inl w)) =
         (kept, subst (λ (t : ServiceState). Gone t.keys.table (birth_of (row_of (settled kept s) name))) (sym w.left) (deleted_in (settled kept s) words now name drawn w.changed (rising_settled kept s is) w.acts))

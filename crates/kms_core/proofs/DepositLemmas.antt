@@ -9,7 +9,7 @@ use Rattle.eek_queues.specs.Queues.{AllQueues, Queue, has_queue, ready_in}
 use Rattle.eek_queues.proofs.Births.{other-is}
 use Rattle.key_rows.specs.declared.rows.KeyRow.{KeyRow}
 use Rattle.key_rows.specs.Table.{current_of, find_birth, is_named}
-use Rattle.key_rows.specs.Sound.{IsTable, Rising}
+use Rattle.key_rows.specs.Sound.{AreRowsRising, IsKeyTable}
 use Rattle.key_rows.proofs.Births.{by_birth, each_more}
 use Rattle.kms_core.specs.declared.drawing.CurrentVersion.{CurrentVersion}
 use Rattle.eek_seal.specs.declared.deposit.Deposit.TheVariants.{Full, Kept}
@@ -70,7 +70,7 @@ present_key s x row found born present =
     let number : x.version.number ≡ length row.materials - 1 = eqb-true x.version.number (length row.materials - 1) parts.1 in
     record { row = row; found = ap (find_birth s.table.rows) (eqb-true x.birth row.birth parts.0) ∙ born; version = λ i. record { key = key i; number = number i } }
 
-pub newest_of : (s : KmsState) (x : SealedKey) → Rising 0 s.table.rows s.table.greatest → is_present s x ≡ true → IsOfNewest s x
+pub newest_of : (s : KmsState) (x : SealedKey) → AreRowsRising 0 s.table.rows s.table.greatest → is_present s x ≡ true → IsOfNewest s x
 newest_of s x rising present = go (row_of s x.version.key) refl (by_birth 0 (is_named x.version.key) s.table.rows s.table.greatest rising)
   where
     go : (o : Option KeyRow) → row_of s x.version.key ≡ o → IfSome o (λ row. find_birth s.table.rows row.birth ≡ Some row) → IsOfNewest s x
@@ -79,7 +79,7 @@ newest_of s x rising present = go (row_of s x.version.key) refl (by_birth 0 (is_
         absurd cc
     go (Some row) found born = present_key s x row found born present
 
-pub present_newest : (s : KmsState) (x : SealedKey) → IsTable s.table → is_present s x ≡ true → IsOfNewest s x
+pub present_newest : (s : KmsState) (x : SealedKey) → IsKeyTable s.table → is_present s x ≡ true → IsOfNewest s x
 present_newest s x table present = newest_of s x table.births present
 
 pub all_deposited : (s : KmsState) (x : SealedKey) → IsOfNewest s x → AllReady s.table.rows s.ready.queues → AllReady s.table.rows (with_sealed s.ready x).queues

@@ -18,7 +18,7 @@ use Rattle.kms_calls.specs.declared.calls.KmsReply.TheVariants as reply
 use Rattle.kms_calls.specs.declared.calls.KmsRefusal.{KmsRefusal}
 use Rattle.kms_calls.specs.declared.calls.KmsRefusal.TheVariants as refusal
 use Rattle.key_rows.specs.Table.{current_of, find_birth, find_name, is_named, is_length, material_of}
-use Rattle.key_rows.specs.Sound.{IsRow, IsTable}
+use Rattle.key_rows.specs.Sound.{IsKeyTable, IsRow}
 use Rattle.key_rows.proofs.TableLemmas.{found_birth, found_row}
 use Rattle.kms_core.specs.State.{KmsState}
 use Rattle.kms_core.specs.Draws.{drawn, drawn_iv, drawn_dek, drawn_edek, drawn_edeks, place_of_draw, words_of_draw}
@@ -109,7 +109,7 @@ pub record Standing_key (s : KmsState) (name : List ℕ) (row : KeyRow) : Type 0
   pub got : slice_get row.materials (length row.materials - 1) ≡ Some (current_material s name)
   pub has : material_of s.table.rows (current_version (row_of s name)) ≡ Some (current_material s name)
 
-pub standing_key : (s : KmsState) (name : List ℕ) → IsTable s.table → is_none (row_of s name) ≡ false → (row : KeyRow) × Standing_key s name row
+pub standing_key : (s : KmsState) (name : List ℕ) → IsKeyTable s.table → is_none (row_of s name) ≡ false → (row : KeyRow) × Standing_key s name row
 standing_key s name is stands = by_row (row_of s name) refl stands (found_row s.table name is)
   where
     by_row : (o : Option KeyRow) → row_of s name ≡ o → is_none o ≡ false → IfSome o IsRow → (row : KeyRow) × Standing_key s name row

@@ -4,9 +4,13 @@ pub mod DepositLemmas
 pub mod DrawLemmas
 pub mod KeepLemmas
 pub mod KeyLemmas
+pub mod KnownLemmas
 pub mod LawLemmas
+pub mod MemoryReads
 pub mod NameLemmas
 pub mod QueueLemmas
+pub mod ReadLemmas
+pub mod ReadLoops
 pub mod ReadyLaws
 pub mod ReadyLemmas
 pub mod ResealLemmas

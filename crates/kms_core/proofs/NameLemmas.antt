@@ -10,7 +10,7 @@ use Rattle.std.proofs.lemmas.Map.Lookups.{exact_bytes}
 use Rattle.std.proofs.lemmas.Slice.Eq.{bytes_eq-Decides}
 use Rattle.key_rows.specs.declared.rows.KeyRow.{KeyRow}
 use Rattle.key_rows.specs.Table.{find_name}
-use Rattle.key_rows.specs.Names.{AreNames, InOrder, is_among, name_cmp}
+use Rattle.key_rows.specs.Names.{AreInNameOrder, AreNames, is_among, name_cmp}
 use Rattle.kms_calls.specs.declared.calls.KmsCall.TheVariants as call
 use Rattle.kms_calls.specs.declared.calls.KmsReply.TheVariants as reply
 use Rattle.kms_core.specs.State.{KmsState}
@@ -58,10 +58,10 @@ each_put P name (other ∷ others) here each =
       | Greater ↦ (each.0, each_put P name others here each.1)
     ]
 
-order_put : (name : List ℕ) (names : List (List ℕ)) → InOrder names → InOrder (put_name name names)
+order_put : (name : List ℕ) (names : List (List ℕ)) → AreInNameOrder names → AreInNameOrder (put_name name names)
 order_put name [] order = (tt, tt)
 order_put name (other ∷ others) order =
-    let Q : Ordering → Type 0 = λ o. name_cmp name other ≡ o → InOrder (put_by o name other others (put_name name others)) in
+    let Q : Ordering → Type 0 = λ o. name_cmp name other ≡ o → AreInNameOrder (put_by o name other others (put_name name others)) in
     let cases : Q (name_cmp name other) = elim (name_cmp name other) as Q [
       | Less ↦ λ e. ((e, further name other others e order.0), order)
       | Equal ↦ λ e. order
@@ -89,7 +89,7 @@ among_put n name (other ∷ others) =
     ] in
     cases refl
 
-order_of : (names : List (List ℕ)) → InOrder (in_order names)
+order_of : (names : List (List ℕ)) → AreInNameOrder (in_order names)
 order_of [] = tt
 order_of (name ∷ names) = order_put name (in_order names) (order_of names)
 
@@ -120,7 +120,7 @@ missing x xs ys before same =
     let no : true ≡ false = sym (ap (λ b. b || is_among x xs) (itself x)) ∙ same ∙ not_among x ys before in
     absurd cc
 
-one_order : (xs ys : List (List ℕ)) → InOrder xs → InOrder ys → ((n : List ℕ) → is_among n xs ≡ is_among n ys) → xs ≡ ys
+one_order : (xs ys : List (List ℕ)) → AreInNameOrder xs → AreInNameOrder ys → ((n : List ℕ) → is_among n xs ≡ is_among n ys) → xs ≡ ys
 one_order [] [] first second same = refl
 one_order [] (y ∷ ys) first second same = absurd (missing y ys [] tt (sym (same y)))
 one_order (x ∷ xs) [] first second same = absurd (missing x xs [] tt (same x))

@@ -10,7 +10,7 @@ use Rattle.eek_queues.specs.Queues.{AllQueues}
 use Rattle.key_rows.specs.declared.rows.KeyCommand.{KeyCommand}
 use Rattle.key_rows.specs.declared.rows.KeyCommand.TheVariants.{Opened, Create, Roll, Delete}
 use Rattle.key_rows.specs.declared.rows.KeyRow.{KeyRow}
-use Rattle.key_rows.specs.Sound.{Rising}
+use Rattle.key_rows.specs.Sound.{AreRowsRising}
 use Rattle.key_rows.specs.Table.{Table, after, current_of, find_birth, is_born, is_length, is_named}
 use Rattle.key_rows.proofs.Births.{by_birth, rising_filter, rising_more}
 use Rattle.key_rows.proofs.Rolls.{rising_rolled}
@@ -42,7 +42,7 @@ pub record MayWait (t : Table) (next : ℕ) (command : KeyCommand) : Type 0 wher
 
 -- Births rise and are below the next one, and each ready key is of the current version of its key. Openings may have any number.
 pub record KeepsReady (s : ServiceState) : Type 0 where
-  pub rising : Rising 0 s.keys.table.rows s.keys.table.greatest
+  pub rising : AreRowsRising 0 s.keys.table.rows s.keys.table.greatest
   pub births : s.keys.table.greatest < next_birth s.keys
   pub counter : s.keys.next ≤ 2 ^ 32
   pub waits : IfSome s.pending (MayWait s.keys.table (next_birth s.keys))
@@ -56,7 +56,7 @@ service_keeps_ready s is = record { rising = is.table.births; births = is.births
     go (Some command) waits = record { new = new_birth s.keys.table command waits.fits; same_opening = waits.same_opening; births = waits.births }
 
 -- the row of a key that exists is found by its birth
-pub standing_row : (s : KmsState) (name : List ℕ) → Rising 0 s.table.rows s.table.greatest → is_none (row_of s name) ≡ false
+pub standing_row : (s : KmsState) (name : List ℕ) → AreRowsRising 0 s.table.rows s.table.greatest → is_none (row_of s name) ≡ false
     → (row : KeyRow) × (row_of s name ≡ Some row) × (find_birth s.table.rows (birth_of (row_of s name)) ≡ Some row)
 standing_row s name rising stands = go (row_of s name) refl (by_birth 0 (is_named name) s.table.rows s.table.greatest rising) stands
   where
@@ -73,7 +73,7 @@ first_ready s name row e more k named found is =
 
 -- a command takes effect
 
-rising_after : (t : Table) (command : KeyCommand) → IsNew t command → Rising 0 t.rows t.greatest → Rising 0 (after t command).rows (after t command).greatest
+rising_after : (t : Table) (command : KeyCommand) → IsNew t command → AreRowsRising 0 t.rows t.greatest → AreRowsRising 0 (after t command).rows (after t command).greatest
 rising_after t (Opened opening) new rising = rising
 rising_after t (Create birth name bits description created material) new rising =
     rising_more 0 t.rows t.greatest (record { name = name; birth = birth; bits = bits; materials = material ∷ []; description = description; created = created }) rising new
@@ -158,11 +158,11 @@ acts_keep_ready s words now c answer drawn s' (Plain, may, is) k = subst (λ (t 
     go (Some why) free = k
     go None free = done_keeps_ready (deed s words now c).logs (deed s words now c).state (deed_keeps_ready s words now c free k)
 
-pub serves_keeps_ready : (s : ServiceState) (words : ℕ → ℕ) (now : ℕ) (c : KmsCall) (fault : Type 0) (answer : KmsReply) (drawn : ℕ) (logged : List KeyCommand) (s' : ServiceState)
-    → KmsServes s words now c fault answer drawn logged s' → KeepsReady s → KeepsReady s'
-serves_keeps_ready s words now c fault answer drawn logged s' serves k = go (kind c) refl serves
+pub serves_keeps_ready : (s : ServiceState) (words : ℕ → ℕ) (now : ℕ) (c : KmsCall) (fault tells : Type 0) (answer : KmsReply) (drawn : ℕ) (logged : List KeyCommand) (s' : ServiceState)
+    → KmsServes s words now c fault tells answer drawn logged s' → KeepsReady s → KeepsReady s'
+serves_keeps_ready s words now c fault tells answer drawn logged s' serves k = go (kind c) refl serves
   where
-    go : (x : Kind) → kind c ≡ x → ServesBy x s words now c fault answer drawn logged s' → KeepsReady s'
+    go : (x : Kind) → kind c ≡ x → ServesBy x s words now c fault tells answer drawn logged s' → KeepsReady s'
     go Reading is r = subst KeepsReady (sym r.same) k
     go Working is r =
         let only = works_only s words now c answer drawn logged s' is r in
@@ -173,12 +173,12 @@ serves_keeps_ready s words now c fault answer drawn logged s' serves k = go (kin
     go Committing is (inr (kept, inl w)) = subst KeepsReady (sym w.left) (acts_keep_ready (settled kept s) words now c answer drawn w.changed w.acts (settling_keeps_ready kept s k))
     go Committing is (inr (kept, inr u)) = subst KeepsReady (sym u.left) (deed_keeps_ready (settled kept s) words now c u.free (settling_keeps_ready kept s k))
 
-pub user_keeps_ready : (lines : List PropLine) (user : Text) (s : ServiceState) (words : ℕ → ℕ) (now : ℕ) (c : KmsCall) (fault : Type 0) (answer : KmsReply) (drawn : ℕ) (logged : List KeyCommand) (s' : ServiceState)
-    → ServesUser lines user s words now c fault answer drawn logged s' → KeepsReady s → KeepsReady s'
-user_keeps_ready lines user s words now c fault answer drawn logged s' serves k = by_verdict (verdict lines user c) serves
+pub user_keeps_ready : (lines : List PropLine) (user : Text) (s : ServiceState) (words : ℕ → ℕ) (now : ℕ) (c : KmsCall) (fault tells : Type 0) (answer : KmsReply) (drawn : ℕ) (logged : List KeyCommand) (s' : ServiceState)
+    → ServesUser lines user s words now c fault tells answer drawn logged s' → KeepsReady s → KeepsReady s'
+user_keeps_ready lines user s words now c fault tells answer drawn logged s' serves k = by_verdict (verdict lines user c) serves
   where
-    by_verdict : (v : Result Shown Denied) → ServesUnder v s words now c fault answer drawn logged s' → KeepsReady s'
-    by_verdict (Ok shown) p = serves_keeps_ready s words now c fault p.reply drawn logged s' p.serves k
+    by_verdict : (v : Result Shown Denied) → ServesUnder v s words now c fault tells answer drawn logged s' → KeepsReady s'
+    by_verdict (Ok shown) p = serves_keeps_ready s words now c fault tells p.reply drawn logged s' p.serves k
     by_verdict (Err denied) d = subst KeepsReady (sym d.same) k
 
 -- a start that finds the settled table

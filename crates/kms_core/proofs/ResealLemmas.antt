@@ -18,7 +18,7 @@ use Rattle.kms_calls.specs.declared.calls.KmsReply.TheVariants as reply
 use Rattle.kms_calls.specs.declared.calls.KmsRefusal.{KmsRefusal}
 use Rattle.kms_calls.specs.declared.calls.KmsRefusal.TheVariants as refusal
 use Rattle.key_rows.specs.declared.rows.KeyRow.{KeyRow}
-use Rattle.key_rows.specs.Sound.{IsTable}
+use Rattle.key_rows.specs.Sound.{IsKeyTable}
 use Rattle.kms_core.specs.State.{KmsState}
 use Rattle.kms_core.specs.Opening.{unseals}
 use Rattle.kms_core.specs.Calls.{CallActs, Plain, NoRoom, Ending, outcome, accepted, deed, causes, first_cause, unless_refused, only_answer, sent_causes, batch_causes, lacks_version, is_of_other_key, is_malformed, row_of, bits_of, edek_of, current_version, current_material, same_version, unsealed_dek, resealed}
@@ -55,7 +55,7 @@ same_version_is version other same =
     λ i. record { key = key i; number = number i }
 
 -- a sent key without a cause of a refusal, sealed under the current version
-same_key : (s : KmsState) (name : List ℕ) (sent : RawEdek) → IsTable s.table → first_cause (sent_causes (row_of s name) name sent) ≡ None
+same_key : (s : KmsState) (name : List ℕ) (sent : RawEdek) → IsKeyTable s.table → first_cause (sent_causes (row_of s name) name sent) ≡ None
     → SameKey s name sent s (resealed s name sent)
 same_key s name sent is none = cases refl
   where

@@ -1,10 +1,9 @@
 -- Sent keys, at their key and in the service.
-use Rattle.std.proofs.Common.{◌≡◌, ℕ, zero, suc, ◌+◌, ◌-◌, ◌<◌, List, [], ◌∷◌, ◌++◌, length, map, take, Bool, true, false, cond, nat_lt, nat_le, Option, None, Some, is_none, refl, ap, sym, ◌∙◌, subst, arith, get_or}
+use Rattle.std.proofs.Common.{◌≡◌, ℕ, zero, suc, ◌-◌, ◌<◌, List, [], ◌∷◌, ◌++◌, length, map, Bool, true, false, cond, nat_lt, nat_le, Option, None, Some, is_none, refl, ap, sym, ◌∙◌, subst, arith, get_or}
 use Rattle.std.specs.List.{list_any, slice_get}
 use Rattle.std.specs.Option.{option_and_then, option_map, unwrap_or}
 use Rattle.std.specs.Str.{bytes_eq}
 use Rattle.std.proofs.lemmas.Bool.Decides.{nat_tests}
-use Rattle.std.proofs.lemmas.List.{take_more}
 use Rattle.std.proofs.lemmas.Option.{slice_get-get_or}
 use Rattle.std.proofs.lemmas.Bool.{not-false, or_parts}
 use Rattle.hk_base.specs.declared.names.Edek.{Edek}
@@ -125,10 +124,3 @@ each_allowed row sent i d none within =
 pub map_more : {X Y : Type 0} (f : X → Y) (xs : List X) (x : X) → map f (xs ++ x ∷ []) ≡ map f xs ++ f x ∷ []
 map_more f [] x = refl
 map_more f (y ∷ ys) x = ap (λ rest. f y ∷ rest) (map_more f ys x)
-
--- one more key after those sealed
-pub one_more_sealed : (row : KeyRow) (sent : List RawEdek) (i : ℕ) (edek : RawEdek) (keys keys' : List Edek) (key : Edek) → i < length sent → get_or sent i edek ≡ edek
-    → keys ≡ map (resealed_in row) (take i sent) → key ≡ resealed_in row edek → keys' ≡ keys ++ key ∷ [] → keys' ≡ map (resealed_in row) (take (i + 1) sent)
-one_more_sealed row sent i edek keys keys' key within at are is more =
-    more ∙ (λ j. are j ++ is j ∷ []) ∙ ap (λ e. map (resealed_in row) (take i sent) ++ resealed_in row e ∷ []) (sym at)
-    ∙ sym (map_more (resealed_in row) (take i sent) (get_or sent i edek)) ∙ ap (map (resealed_in row)) (sym (take_more sent i edek within))

@@ -20,8 +20,8 @@ use Rattle.eek_queues.specs.Queues.{AllQueues}
 use Rattle.kms_store.specs.Store.{Applies, IsKeyLog, IsLeftOf, next_opening, IsLogOf, IsWithOrWithout, IsWritten, NoCommand, SettlesKeys, IsKeyStoreOf, StoreState, settled_commands, settled_table}
 use Rattle.kms_core.specs.State.{KmsState, Running, ServiceState, keys_of, queues_after, service_of, settled, settled_queues}
 use Rattle.kms_core.specs.Calls.{CallActs, Deed, KmsActs, NoRoom, Plain, birth_of, bits_of, causes, deed, deleted, done_with, first_cause, is_misfit, rolled, row_of, version_with_material, takes_memory, unless_refused, versions_of}
-use Rattle.kms_core.specs.Service.{KmsActsOnDisk, Changes, IsGrowing, Logs, OwnOf, ServesBy, Committing, Kind, Reading, Starts, Working, acknowledged, kind, commands_of}
-use Rattle.kms_core.specs.Steps.{ActsSettled, Commits, EndsSo, IsUnsettled, OwnChange, OwnDeed, Settling, StandsSo, WorksOn}
+use Rattle.kms_core.specs.Service.{KmsActsOnDisk, Changes, IsGrowing, Logs, OwnOf, ServesBy, Committing, Kind, Starts, Working, acknowledged, kind, commands_of}
+use Rattle.kms_core.specs.Steps.{ActsSettled, Commits, EndsSo, IsUnsettled, OwnChange, OwnDeed, Settling, StandsSo, WorksOnQueues}
 use Rattle.kms_core.specs.declared.service.Standing.{Standing}
 use Rattle.kms_core.specs.Draws.{material_for, words_for}
 use Rattle.kms_core.proofs.StepLemmas.{may_be_rolled}
@@ -141,7 +141,7 @@ pub acts_settled : (old mid new : DiskState) (r s t : Running) (words : ℕ → 
 acts_settled old mid new r s t words now c answered words' change a b = record {
   drawn = b.drawn;
   logged = settled_commands a.kept r.store.pending ++ b.logged;
-  serves = subst (λ (x : Kind). ServesBy x (service_of r) words now c (Rose old.faults new.faults) answered b.drawn (settled_commands a.kept r.store.pending ++ b.logged) (service_of t)) (sym change)
+  serves = subst (λ (x : Kind). ServesBy x (service_of r) words now c (Rose old.faults new.faults) (Tells old) answered b.drawn (settled_commands a.kept r.store.pending ++ b.logged) (service_of t)) (sym change)
       (inr (a.kept, behind b.changes));
   rest = b.rest;
   disk = behind_settling old mid new r s t a.kept (OwnOf (service_of r) words now c answered (service_of t)) (OwnChange (keys_of s) words now c answered (service_of t)) b.logged
@@ -184,31 +184,19 @@ pub acts_unsettled : (old new : DiskState) (r t : Running) (words : ℕ → ℕ)
 acts_unsettled old new r t words now c change u = record {
   drawn = 0;
   logged = [];
-  serves = subst (λ (x : Kind). ServesBy x (service_of r) words now c (Rose old.faults new.faults) (Refused StoreFault) 0 [] (service_of t)) (sym change)
+  serves = subst (λ (x : Kind). ServesBy x (service_of r) words now c (Rose old.faults new.faults) (Tells old) (Refused StoreFault) 0 [] (service_of t)) (sym change)
       (inl (record { waits = u.waits; failed = u.failed; reply_is = refl; none_drawn = refl; none_logged = refl; same = ap service_of u.same }));
   rest = λ k. ap words (omega arith);
   disk = logs_leaving old new r.store t.store NoCommand (OwnOf (service_of r) words now c (Refused StoreFault) (service_of t)) [] (λ kept command never. absurd never) u.disk;
 }
 
--- a call that changes nothing
-pub acts_reading : (d : DiskState) (r : Running) (words : ℕ → ℕ) (now : ℕ) (c : KmsCall) (answered : KmsReply) (words' : ℕ → ℕ) → kind c ≡ Reading
-    → CallActs (keys_of r) words now c answered (keys_of r) words' → KmsActsOnDisk d d r words now c answered r words'
-acts_reading d r words now c answered words' change a = record {
-  drawn = a.drawn;
-  logged = [];
-  serves = subst (λ (x : Kind). ServesBy x (service_of r) words now c (Rose d.faults d.faults) answered a.drawn [] (service_of r)) (sym change)
-      (record { acts = a.acts; none_logged = refl; same = refl });
-  rest = a.rest;
-  disk = unchanged d r.store (IsLeftOf r.store.table.keys r.store.pending (OwnOf (service_of r) words now c answered (service_of r)));
-}
-
 -- a call on the queues
 pub acts_working : (d : DiskState) (r t : Running) (words : ℕ → ℕ) (now : ℕ) (c : KmsCall) (answered : KmsReply) (words' : ℕ → ℕ) → kind c ≡ Working
-    → WorksOn r words now c answered t words' → KmsActsOnDisk d d r words now c answered t words'
+    → WorksOnQueues r words now c answered t words' → KmsActsOnDisk d d r words now c answered t words'
 acts_working d r t words now c answered words' works w = record {
   drawn = w.acts.drawn;
   logged = [];
-  serves = subst (λ (x : Kind). ServesBy x (service_of r) words now c (Rose d.faults d.faults) answered w.acts.drawn [] (service_of t)) (sym works)
+  serves = subst (λ (x : Kind). ServesBy x (service_of r) words now c (Rose d.faults d.faults) (Tells d) answered w.acts.drawn [] (service_of t)) (sym works)
       (record { changed = keys_of t; acts = w.acts.acts; none_logged = refl; left = λ i. record { keys = keys_of t; pending = (w.store i).pending } });
   rest = w.acts.rest;
   disk = subst (λ (store : StoreState). Logs d d r.store store P []) (sym w.store) (unchanged d r.store P);

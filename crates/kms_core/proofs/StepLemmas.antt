@@ -17,7 +17,7 @@ use Rattle.kms_calls.specs.declared.calls.KmsCall.TheVariants as call
 use Rattle.kms_calls.specs.declared.calls.KmsRefusal.TheVariants.{NoSuchKey, BadMaterial, TooManyVersions, TooManyAsked, NoMemory}
 use Rattle.kms_calls.specs.declared.calls.KmsRefusal.{KmsRefusal}
 use Rattle.kms_core.specs.State.{KmsState, emptied}
-use Rattle.kms_core.specs.Calls.{CallActs, Plain, NoRoom, takes_memory, causes, deed, first_cause, unless_refused, birth_of, handed_out, invalidated, ready_of, row_of, bits_of, versions_of, is_misfit, roll_causes, only_answer, generate_causes, current_material}
+use Rattle.kms_core.specs.Calls.{CallActs, KmsActs, Plain, NoRoom, takes_memory, causes, deed, first_cause, unless_refused, birth_of, handed_out, invalidated, ready_of, row_of, bits_of, versions_of, is_misfit, roll_causes, only_answer, generate_causes, current_material}
 use Rattle.kms_core.specs.Draws.{drawn_edeks, place_of_draw}
 use Rattle.kms_core.specs.Steps.{Answers, Drew, DrewSome, Enacts, HandsOut, IsCurrent, StandsSo}
 
@@ -130,24 +130,16 @@ invalidates s words now name birth stands is = record {
   rest = λ k. ap words (omega arith);
 }
 
--- a call that only answers
-pub answers : (s : KmsState) (words : ℕ → ℕ) (now : ℕ) (c : KmsCall) (answer result : KmsReply)
-    → deed s words now c ≡ only_answer s answer → Answers s c answer result → CallActs s words now c result s words
-answers s words now c answer result deed_is says = by_cause (first_cause (causes s c)) refl says
+-- a call that only answers draws no word
+pub answering : (s : KmsState) (words : ℕ → ℕ) (now : ℕ) (c : KmsCall) (answer result : KmsReply)
+    → deed s words now c ≡ only_answer s answer → Answers s c answer result → KmsActs s words now c result 0 s
+answering s words now c answer result deed_is says = by_cause (first_cause (causes s c)) refl says
   where
     by_cause : (cause : Option KmsRefusal) → first_cause (causes s c) ≡ cause
-        → MatchOption cause ((result ≡ answer) ⊎ ((takes_memory c ≡ true) × (result ≡ Refused NoMemory))) (λ why. result ≡ Refused why) → CallActs s words now c result s words
-    by_cause (Some why) stands is = refuses s words now c why result s words stands is refl (λ k. refl)
-    by_cause None none (inl is) = record {
-      drawn = 0;
-      acts = (Plain, tt, (λ i. record { reply = is i; drawn = 0; state = s }) ∙ (λ i. unless_refused (sym none i) s (sym deed_is i)));
-      rest = λ k. ap words (omega arith);
-    }
-    by_cause None none (inr wanting) = record {
-      drawn = 0;
-      acts = (NoRoom 0, (wanting.0, none, omega arith), λ i. record { reply = wanting.1 i; drawn = 0; state = s });
-      rest = λ k. ap words (omega arith);
-    }
+        → MatchOption cause ((result ≡ answer) ⊎ ((takes_memory c ≡ true) × (result ≡ Refused NoMemory))) (λ why. result ≡ Refused why) → KmsActs s words now c result 0 s
+    by_cause (Some why) stands is = (Plain, tt, (λ i. record { reply = is i; drawn = 0; state = s }) ∙ (λ i. unless_refused (sym stands i) s (deed s words now c)))
+    by_cause None none (inl is) = (Plain, tt, (λ i. record { reply = is i; drawn = 0; state = s }) ∙ (λ i. unless_refused (sym none i) s (sym deed_is i)))
+    by_cause None none (inr wanting) = (NoRoom 0, (wanting.0, none, omega arith), λ i. record { reply = wanting.1 i; drawn = 0; state = s })
 
 pub stands_born : (s : KmsState) (name : List ℕ) (key : Standing) → StandsSo s name key → is_some (find_birth s.table.rows key.birth) ≡ true
 stands_born s name key so = ap is_some so.found ∙ some (row_of s name) so.stands

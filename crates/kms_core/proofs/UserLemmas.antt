@@ -1,7 +1,7 @@
 -- The calls of users: denied, or permitted and served.
 use Rattle.std.proofs.Common.{◌≡◌, ◌⊎◌, inl, inr, ℕ, ◌+◌, List, [], Bool, true, false, cond, Option, Some, refl, ap, sym, ◌∙◌, subst, arith}
-use Rattle.std.specs.Prelude.{Result, Ok, Err}
-use Rattle.hk_base.specs.Disk.{DiskState}
+use Rattle.std.specs.Prelude.{Result, Ok, Err, IsTrue}
+use Rattle.hk_base.specs.Disk.{DiskState, Tells}
 use Rattle.hk_base.specs.Faults.{Rose}
 use Rattle.key_rows.specs.declared.rows.KeyCommand.{KeyCommand}
 use Rattle.kms_calls.specs.declared.calls.KmsCall.{KmsCall}
@@ -15,9 +15,9 @@ use Rattle.kms_acls.specs.declared.answers.Denied.{Denied}
 use Rattle.kms_acls.specs.Verdict.{verdict}
 use Rattle.kms_store.specs.Store.{IsLeftOf}
 use Rattle.kms_core.specs.State.{ServiceState, service_of, settled}
-use Rattle.kms_core.specs.Service.{KmsActsOnDisk, OwnOf, KmsServes, WasWritten, acknowledged}
+use Rattle.kms_core.specs.Service.{KmsActsOnDisk, OwnOf, KmsServes, ReadFails, WasWritten, acknowledged}
 use Rattle.kms_core.specs.Users.{ActsFor, Permits, RunningKms, ServesUnder, hides, running, reply_to, without_material}
-use Rattle.kms_core.specs.Calls.{birth_of, edek_of, row_of}
+use Rattle.kms_core.specs.Calls.{KmsActs, birth_of, edek_of, row_of}
 use Rattle.kms_core.specs.Opening.{unseals}
 use Rattle.hk_base.specs.declared.names.Dek.{Dek}
 use Rattle.kms_core.proofs.LawLemmas.{decrypt_opens}
@@ -31,7 +31,7 @@ pub is_denied : (d : DiskState) (k : RunningKms) (lines : List PropLine) (user :
 is_denied d k lines user words now c denied result is reply_is = record {
   drawn = 0;
   logged = [];
-  serves = subst (λ (v : Result Shown Denied). ServesUnder v (service_of (running k)) words now c (Rose d.faults d.faults) result 0 [] (service_of (running k))) (sym is)
+  serves = subst (λ (v : Result Shown Denied). ServesUnder v (service_of (running k)) words now c (Rose d.faults d.faults) (Tells d) result 0 [] (service_of (running k))) (sym is)
       (record { reply_is = reply_is; none_drawn = refl; none_logged = refl; same = refl });
   rest = λ n. ap words (omega arith);
   disk = unchanged d k.store (IsLeftOf k.store.table.keys k.store.pending (OwnOf (service_of (running k)) words now c result (service_of (running k))));
@@ -72,7 +72,7 @@ pub is_permitted : (old new : DiskState) (k k' : RunningKms) (lines : List PropL
 is_permitted old new k k' lines user words now c shown served result words' is reply_is lists a = record {
   drawn = a.drawn;
   logged = a.logged;
-  serves = subst (λ (v : Result Shown Denied). ServesUnder v (service_of (running k)) words now c (Rose old.faults new.faults) result a.drawn a.logged (service_of (running k'))) (sym is)
+  serves = subst (λ (v : Result Shown Denied). ServesUnder v (service_of (running k)) words now c (Rose old.faults new.faults) (Tells old) result a.drawn a.logged (service_of (running k'))) (sym is)
       (record { reply = served; serves = a.serves; reply_is = reply_is });
   rest = a.rest;
   disk = logs_leaving old new k.store k'.store (OwnOf (service_of (running k)) words now c served (service_of (running k'))) (OwnOf (service_of (running k)) words now c result (service_of (running k')))
@@ -91,44 +91,48 @@ is_permitted old new k k' lines user words now c shown served result words' is r
 -- births that are gone
 
 pub gone_for_user : GoneStays
-gone_for_user lines user s words now c before later result drawn logged s' is serves birth gone = by_verdict (verdict lines user c) serves
+gone_for_user lines user s words now c before later tells result drawn logged s' is serves birth gone = by_verdict (verdict lines user c) serves
   where
-    by_verdict : (v : Result Shown Denied) → ServesUnder v s words now c (Rose before later) result drawn logged s' → Gone s'.keys.table birth
-    by_verdict (Ok shown) p = gone_stays s words now c before later p.reply drawn logged s' is p.serves birth gone
+    by_verdict : (v : Result Shown Denied) → ServesUnder v s words now c (Rose before later) (IsTrue tells) result drawn logged s' → Gone s'.keys.table birth
+    by_verdict (Ok shown) p = gone_stays s words now c before later (IsTrue tells) p.reply drawn logged s' is p.serves birth gone
     by_verdict (Err denied) p = subst (λ (t : ServiceState). Gone t.keys.table birth) (sym p.same) gone
 
 pub used_up_for_user : UsedUpStays
-used_up_for_user lines user s words now c before later result drawn logged s' is serves birth used = by_verdict (verdict lines user c) serves
+used_up_for_user lines user s words now c before later tells result drawn logged s' is serves birth used = by_verdict (verdict lines user c) serves
   where
-    by_verdict : (v : Result Shown Denied) → ServesUnder v s words now c (Rose before later) result drawn logged s' → IsUsedUp s' birth
-    by_verdict (Ok shown) p = used_up_stays s words now c before later p.reply drawn logged s' is p.serves birth used
+    by_verdict : (v : Result Shown Denied) → ServesUnder v s words now c (Rose before later) (IsTrue tells) result drawn logged s' → IsUsedUp s' birth
+    by_verdict (Ok shown) p = used_up_stays s words now c before later (IsTrue tells) p.reply drawn logged s' is p.serves birth used
     by_verdict (Err denied) p = subst (λ (t : ServiceState). IsUsedUp t birth) (sym p.same) used
 
 pub lost_for_user : LostIsUsedUp
-lost_for_user lines user s words now c before later result drawn logged s' is serves birth below none = by_verdict (verdict lines user c) serves
+lost_for_user lines user s words now c before later tells result drawn logged s' is serves birth below none = by_verdict (verdict lines user c) serves
   where
-    by_verdict : (v : Result Shown Denied) → ServesUnder v s words now c (Rose before later) result drawn logged s' → IsUsedUp s' birth ⊎ OnlyQueues s s'
-    by_verdict (Ok shown) p = lost_is_used_up s words now c before later p.reply drawn logged s' is p.serves birth below none
+    by_verdict : (v : Result Shown Denied) → ServesUnder v s words now c (Rose before later) (IsTrue tells) result drawn logged s' → IsUsedUp s' birth ⊎ OnlyQueues s s'
+    by_verdict (Ok shown) p = lost_is_used_up s words now c before later (IsTrue tells) p.reply drawn logged s' is p.serves birth below none
     by_verdict (Err denied) p = inr (only_queues s s' p.same)
 
 pub deleted_for_user : DeletedIsGone
-deleted_for_user lines user s words now name before later drawn logged s' is serves = by_verdict (verdict lines user (call.Delete name)) serves
+deleted_for_user lines user s words now name before later tells drawn logged s' is serves = by_verdict (verdict lines user (call.Delete name)) serves
   where
-    by_verdict : (v : Result Shown Denied) → ServesUnder v s words now (call.Delete name) (Rose before later) reply.Done drawn logged s'
+    by_verdict : (v : Result Shown Denied) → ServesUnder v s words now (call.Delete name) (Rose before later) (IsTrue tells) reply.Done drawn logged s'
         → (kept : Bool) × Gone s'.keys.table (birth_of (row_of (settled kept s) name))
     by_verdict (Ok shown) p =
-        deleted_is_gone s words now name before later drawn logged s' is
-        (subst (λ (r : KmsReply). KmsServes s words now (call.Delete name) (Rose before later) r drawn logged s') (sym p.reply_is) p.serves)
+        deleted_is_gone s words now name before later (IsTrue tells) drawn logged s' is
+        (subst (λ (r : KmsReply). KmsServes s words now (call.Delete name) (Rose before later) (IsTrue tells) r drawn logged s') (sym p.reply_is) p.serves)
     by_verdict (Err denied) p = let no : reply.Done ≡ reply.Refused (refusal.Denied denied.table denied.op) = p.reply_is in absurd cc
 
 -- a decryption that is permitted
 
 pub permitted_decrypt_opens : PermittedDecryptOpens
-permitted_decrypt_opens lines user s words now name sent before later result drawn logged s' shown permitted none serves =
-    by_permit (subst (λ (v : Result Shown Denied). ServesUnder v s words now (call.Decrypt name sent) (Rose before later) result drawn logged s') permitted serves)
+permitted_decrypt_opens lines user s words now name sent before later tells result drawn logged s' shown permitted none serves telling =
+    by_permit (subst (λ (v : Result Shown Denied). ServesUnder v s words now (call.Decrypt name sent) (Rose before later) (IsTrue tells) result drawn logged s') permitted serves)
   where
-    by_permit : Permits shown s words now (call.Decrypt name sent) (Rose before later) result drawn logged s'
-        → ((key : Dek) × (unseals s.keys.table.rows (edek_of sent) ≡ Some key) × (result ≡ reply.Key key)) × (s' ≡ s)
-    by_permit p =
-        let opens = decrypt_opens s.keys words now name sent p.reply s.keys (λ k. words (drawn + k)) none (record { drawn = drawn; acts = p.serves.acts; rest = λ k. refl }) in
-        ((opens.0, opens.1, p.reply_is ∙ opens.2), p.serves.same)
+    Opens : KmsReply → Type 0
+    Opens r = ((key : Dek) × (unseals s.keys.table.rows (edek_of sent) ≡ Some key) × (r ≡ reply.Key key)) ⊎ ReadFails s.keys (call.Decrypt name sent) (Rose before later) r
+
+    by_reply : (served : KmsReply) → KmsActs s.keys words now (call.Decrypt name sent) served drawn s.keys ⊎ ReadFails s.keys (call.Decrypt name sent) (Rose before later) served → Opens served
+    by_reply served (inl acts) = inl (decrypt_opens s.keys words now name sent served s.keys (λ k. words (drawn + k)) none (record { drawn = drawn; acts = acts; rest = λ k. refl }))
+    by_reply served (inr fails) = inr fails
+
+    by_permit : Permits shown s words now (call.Decrypt name sent) (Rose before later) (IsTrue tells) result drawn logged s' → Opens result × (s' ≡ s)
+    by_permit p = (subst Opens (sym p.reply_is) (by_reply p.reply (p.serves.acts (λ reads. telling reads.older))), p.serves.same)

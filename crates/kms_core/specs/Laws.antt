@@ -1,5 +1,5 @@
 -- Properties of data encryption keys that are generated, decrypted and re-encrypted, and of births.
-use Rattle.std.specs.Prelude.{◌≡◌, ◌⊎◌, ℕ, ◌+◌, ◌<◌, ◌≤◌, Bool, List, [], ◌∷◌, ◌++◌, length, true, false, None, Ok, Some, is_none, slice_get}
+use Rattle.std.specs.Prelude.{◌≡◌, ◌⊎◌, ℕ, ◌+◌, ◌<◌, ◌≤◌, Bool, List, [], ◌∷◌, ◌++◌, length, true, false, None, Ok, Some, is_none, slice_get, IsTrue}
 use Rattle.hk_base.specs.Faults.{Rose}
 use Rattle.hk_base.specs.declared.names.Dek.{Dek}
 use Rattle.hk_base.specs.declared.names.Edek.{Edek}
@@ -15,7 +15,7 @@ use Rattle.kms_calls.specs.declared.calls.KmsReply.{KmsReply}
 use Rattle.kms_calls.specs.declared.calls.KmsReply.TheVariants as reply
 use Rattle.kms_calls.specs.declared.calls.RawEdek.{RawEdek}
 use Rattle.key_rows.specs.Table.{Table, find_birth, material_of}
-use Rattle.key_rows.specs.Sound.{IsTable}
+use Rattle.key_rows.specs.Sound.{IsKeyTable}
 use Rattle.eek_seal.specs.Seal.{seal, unseal}
 use Rattle.eek_seal.specs.Tickets.{SealedKey}
 use Rattle.eek_seal.specs.declared.tickets.Ticket.{Ticket}
@@ -26,6 +26,8 @@ use Rattle.kms_core.specs.Draws.{drawn_dek, drawn_edek, place_of_draw, words_of_
 use Rattle.kms_core.specs.Opening.{unseals}
 use Rattle.key_rows.specs.declared.rows.KeyCommand.{KeyCommand}
 use Rattle.kms_core.specs.State.{IsService, KmsState, ServiceState, next_birth, service_after_opening, settled}
+use Rattle.kms_store.specs.Store.{is_older}
+use Rattle.kms_core.specs.Service.{ReadFails}
 use Rattle.kms_core.specs.Users.{ServesUser}
 use Rattle.kms_core.specs.Calls.{CallActs, birth_of, current_version, first_cause, sent_causes, row_of, edek_of, current_material, ready_of}
 
@@ -36,14 +38,15 @@ DecryptOpens =
     → first_cause (sent_causes (row_of s name) name sent) ≡ None → CallActs s words now (call.Decrypt name sent) result s' words'
     → (key : Dek) × (unseals s.table.rows (edek_of sent) ≡ Some key) × (result ≡ reply.Key key)
 
--- So the decryption of a permitted user opens the key, and nothing changes.
+-- So the decryption of a permitted user opens the key, unless the disk fails while it is asked for an older material. Nothing changes.
 abbrev pub PermittedDecryptOpens : Type 0
 PermittedDecryptOpens =
-    (lines : List PropLine) (user : Text) (s : ServiceState) (words : ℕ → ℕ) (now : ℕ) (name : KeyName) (sent : RawEdek) (before later : ℕ) (result : KmsReply) (drawn : ℕ)
-    (logged : List KeyCommand) (s' : ServiceState) (shown : Shown)
+    (lines : List PropLine) (user : Text) (s : ServiceState) (words : ℕ → ℕ) (now : ℕ) (name : KeyName) (sent : RawEdek) (before later : ℕ) (tells : Bool)
+    (result : KmsReply) (drawn : ℕ) (logged : List KeyCommand) (s' : ServiceState) (shown : Shown)
     → verdict lines user (call.Decrypt name sent) ≡ Ok shown → first_cause (sent_causes (row_of s.keys name) name sent) ≡ None
-    → ServesUser lines user s words now (call.Decrypt name sent) (Rose before later) result drawn logged s'
-    → ((key : Dek) × (unseals s.keys.table.rows (edek_of sent) ≡ Some key) × (result ≡ reply.Key key)) × (s' ≡ s)
+    → ServesUser lines user s words now (call.Decrypt name sent) (Rose before later) (IsTrue tells) result drawn logged s' → (IsTrue (is_older s.keys.table sent.version) → IsTrue tells)
+    → (((key : Dek) × (unseals s.keys.table.rows (edek_of sent) ≡ Some key) × (result ≡ reply.Key key)) ⊎ ReadFails s.keys (call.Decrypt name sent) (Rose before later) result)
+    × (s' ≡ s)
 
 -- the data key of the draw of this number in a generate, from 0
 abbrev pub dek_of_draw : KmsState → (ℕ → ℕ) → KeyName → ℕ → Dek
@@ -86,7 +89,7 @@ DepositOpens =
 abbrev pub GeneratedOpens : Type 0
 GeneratedOpens =
     (s : KmsState) (words : ℕ → ℕ) (now : ℕ) (name : KeyName) (count : ℕ) (keys : List Edek) (s' : KmsState) (words' : ℕ → ℕ)
-    → IsTable s.table → CallActs s words now (call.Generate name count) (reply.Ready keys) s' words'
+    → IsKeyTable s.table → CallActs s words now (call.Generate name count) (reply.Ready keys) s' words'
     → (number : ℕ) (key : Edek) → slice_get keys (length (ready_of s name) + number) ≡ Some key → unseals s'.table.rows key ≡ Some (dek_of_draw s words name number)
 
 -- the encrypted key, as it is sent back
@@ -97,7 +100,7 @@ sent_of key = record { version = key.version; iv = key.iv; sealed = key.sealed }
 abbrev pub GeneratedDecrypts : Type 0
 GeneratedDecrypts =
     (s : KmsState) (words : ℕ → ℕ) (now : ℕ) (name : KeyName) (count : ℕ) (keys : List Edek) (s' : KmsState) (words' : ℕ → ℕ)
-    → IsTable s.table → CallActs s words now (call.Generate name count) (reply.Ready keys) s' words'
+    → IsKeyTable s.table → CallActs s words now (call.Generate name count) (reply.Ready keys) s' words'
     → (number : ℕ) (key : Edek) → slice_get keys (length (ready_of s name) + number) ≡ Some key
     → (later : ℕ → ℕ) (then : ℕ) (result : KmsReply) (s'' : KmsState) (later' : ℕ → ℕ)
     → CallActs s' later then (call.Decrypt name (sent_of key)) result s'' later' → result ≡ reply.Key (dek_of_draw s words name number)
@@ -115,13 +118,13 @@ pub record SameKey (s : KmsState) (name : KeyName) (sent : RawEdek) (s' : KmsSta
 abbrev pub ReencryptedOpens : Type 0
 ReencryptedOpens =
     (s : KmsState) (words : ℕ → ℕ) (now : ℕ) (name : KeyName) (sent : RawEdek) (key : Edek) (s' : KmsState) (words' : ℕ → ℕ)
-    → IsTable s.table → CallActs s words now (call.Reencrypt name sent) (reply.Resealed key) s' words' → SameKey s name sent s' key
+    → IsKeyTable s.table → CallActs s words now (call.Reencrypt name sent) (reply.Resealed key) s' words' → SameKey s name sent s' key
 
 -- so does each key of a batch; as many are returned as were sent
 abbrev pub BatchOpens : Type 0
 BatchOpens =
     (s : KmsState) (words : ℕ → ℕ) (now : ℕ) (name : KeyName) (sent : List RawEdek) (keys : List Edek) (s' : KmsState) (words' : ℕ → ℕ)
-    → IsTable s.table → CallActs s words now (call.Batch name sent) (reply.Ready keys) s' words'
+    → IsKeyTable s.table → CallActs s words now (call.Batch name sent) (reply.Ready keys) s' words'
     → (length keys ≡ length sent)
     × ((place : ℕ) (one : RawEdek) (key : Edek) → slice_get sent place ≡ Some one → slice_get keys place ≡ Some key → SameKey s name one s' key)
 
@@ -133,9 +136,9 @@ pub record Gone (t : Table) (birth : ℕ) : Type 0 where
 -- no call of a user gives a used birth to a key again
 abbrev pub GoneStays : Type 0
 GoneStays =
-    (lines : List PropLine) (user : Text) (s : ServiceState) (words : ℕ → ℕ) (now : ℕ) (c : KmsCall) (before later : ℕ) (result : KmsReply) (drawn : ℕ) (logged : List KeyCommand)
+    (lines : List PropLine) (user : Text) (s : ServiceState) (words : ℕ → ℕ) (now : ℕ) (c : KmsCall) (before later : ℕ) (tells : Bool) (result : KmsReply) (drawn : ℕ) (logged : List KeyCommand)
     (s' : ServiceState)
-    → IsService s → ServesUser lines user s words now c (Rose before later) result drawn logged s' → (birth : ℕ) → Gone s.keys.table birth → Gone s'.keys.table birth
+    → IsService s → ServesUser lines user s words now c (Rose before later) (IsTrue tells) result drawn logged s' → (birth : ℕ) → Gone s.keys.table birth → Gone s'.keys.table birth
 
 -- nor does a start, whether it finds the pending command or not
 abbrev pub GoneStaysAtStart : Type 0
@@ -145,8 +148,8 @@ GoneStaysAtStart =
 -- the birth of a deleted key is used and gone
 abbrev pub DeletedIsGone : Type 0
 DeletedIsGone =
-    (lines : List PropLine) (user : Text) (s : ServiceState) (words : ℕ → ℕ) (now : ℕ) (name : KeyName) (before later : ℕ) (drawn : ℕ) (logged : List KeyCommand) (s' : ServiceState)
-    → IsService s → ServesUser lines user s words now (call.Delete name) (Rose before later) reply.Done drawn logged s'
+    (lines : List PropLine) (user : Text) (s : ServiceState) (words : ℕ → ℕ) (now : ℕ) (name : KeyName) (before later : ℕ) (tells : Bool) (drawn : ℕ) (logged : List KeyCommand) (s' : ServiceState)
+    → IsService s → ServesUser lines user s words now (call.Delete name) (Rose before later) (IsTrue tells) reply.Done drawn logged s'
     → (kept : Bool) × Gone s'.keys.table (birth_of (row_of (settled kept s) name))
 
 -- A birth below the next one that no key has, whether or not the pending command was kept. Its key was deleted, or it was
@@ -158,9 +161,9 @@ pub record IsUsedUp (s : ServiceState) (birth : ℕ) : Type 0 where
 -- no call of a user gives a used-up birth to a key
 abbrev pub UsedUpStays : Type 0
 UsedUpStays =
-    (lines : List PropLine) (user : Text) (s : ServiceState) (words : ℕ → ℕ) (now : ℕ) (c : KmsCall) (before later : ℕ) (result : KmsReply) (drawn : ℕ) (logged : List KeyCommand)
+    (lines : List PropLine) (user : Text) (s : ServiceState) (words : ℕ → ℕ) (now : ℕ) (c : KmsCall) (before later : ℕ) (tells : Bool) (result : KmsReply) (drawn : ℕ) (logged : List KeyCommand)
     (s' : ServiceState)
-    → IsService s → ServesUser lines user s words now c (Rose before later) result drawn logged s' → (birth : ℕ) → IsUsedUp s birth → IsUsedUp s' birth
+    → IsService s → ServesUser lines user s words now c (Rose before later) (IsTrue tells) result drawn logged s' → (birth : ℕ) → IsUsedUp s birth → IsUsedUp s' birth
 
 -- the queues of ready keys may differ, and nothing else
 abbrev pub OnlyQueues : ServiceState → ServiceState → Type 0
@@ -170,9 +173,9 @@ OnlyQueues s s' = s' ≡ record s { keys = record s.keys { ready = s'.keys.ready
 -- then the pending command, which may create a key with it, is still pending.
 abbrev pub LostIsUsedUp : Type 0
 LostIsUsedUp =
-    (lines : List PropLine) (user : Text) (s : ServiceState) (words : ℕ → ℕ) (now : ℕ) (c : KmsCall) (before later : ℕ) (result : KmsReply) (drawn : ℕ) (logged : List KeyCommand)
+    (lines : List PropLine) (user : Text) (s : ServiceState) (words : ℕ → ℕ) (now : ℕ) (c : KmsCall) (before later : ℕ) (tells : Bool) (result : KmsReply) (drawn : ℕ) (logged : List KeyCommand)
     (s' : ServiceState)
-    → IsService s → ServesUser lines user s words now c (Rose before later) result drawn logged s'
+    → IsService s → ServesUser lines user s words now c (Rose before later) (IsTrue tells) result drawn logged s'
     → (birth : ℕ) → birth < next_birth s.keys → is_none (find_birth s'.keys.table.rows birth) ≡ true → IsUsedUp s' birth ⊎ OnlyQueues s s'
 
 -- so is each birth below the next one that no key has in the table that a start finds

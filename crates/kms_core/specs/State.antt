@@ -5,7 +5,7 @@ use Rattle.hk_base.specs.declared.names.Edek.{Edek}
 use Rattle.key_rows.specs.declared.rows.KeyRow.{KeyRow}
 use Rattle.key_rows.specs.declared.rows.KeyCommand.{KeyCommand}
 use Rattle.key_rows.specs.declared.rows.KeyCommand.TheVariants.{Opened, Create, Roll, Delete}
-use Rattle.key_rows.specs.Sound.{IsTable}
+use Rattle.key_rows.specs.Sound.{IsKeyTable}
 use Rattle.key_rows.specs.Table.{Table, after, applies, current_of, find_birth}
 use Rattle.prop_text.specs.SizeValues.{SizeValues}
 use Rattle.kms_store.specs.Store.{StoreState, next_opening, settled_table}
@@ -84,7 +84,7 @@ pub record IsPending (s : KmsState) (command : KeyCommand) : Type 0 where
 -- What is true of each service: births in use are below the next one, which is at most the first of the next opening. Each queue is of an
 -- existing key, and holds ready keys of its current version.
 pub record IsService (s : ServiceState) : Type 0 where
-  pub table : IsTable s.keys.table
+  pub table : IsKeyTable s.keys.table
   pub births : s.keys.table.greatest < next_birth s.keys
   pub counter : s.keys.next ≤ 2 ^ 32
   pub waits : IfSome s.pending (IsPending s.keys)

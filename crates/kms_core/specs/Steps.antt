@@ -1,11 +1,12 @@
 -- The steps that the service takes in a call.
-use Rattle.std.specs.Prelude.{◌≡◌, ◌≤◌, ℕ, Bool, ◌+◌, ◌-◌, ◌/◌, ◌⊎◌, true, false, is_none, is_some, List, [], ◌++◌, None, Some, length, map, take, slice_get, unwrap_or, bytes_eq, MatchOption, if◌then◌else◌}
+use Rattle.std.specs.Prelude.{◌≡◌, ◌≤◌, ◌<◌, ℕ, Bool, ◌+◌, ◌-◌, ◌/◌, ◌⊎◌, true, false, is_none, is_some, IsTrue, List, [], ◌++◌, None, Some, Result, Ok, Err, length, take, slice_get, unwrap_or, bytes_eq, MatchOption, if◌then◌else◌}
 use Rattle.hk_base.specs.declared.names.KeyName.{KeyName}
 use Rattle.hk_base.specs.declared.names.Dek.{Dek}
 use Rattle.hk_base.specs.declared.names.Edek.{Edek}
 use Rattle.eek_seal.specs.Seal.{seal, unseal}
 use Rattle.eek_seal.specs.Tickets.{SealedKey}
 use Rattle.key_rows.specs.declared.rows.KeyRow.{KeyRow}
+use Rattle.key_rows.specs.Sound.{IsRow}
 use Rattle.key_rows.specs.Table.{find_birth, material_of, current_of}
 use Rattle.kms_calls.specs.declared.calls.RawEdek.{RawEdek}
 use Rattle.kms_calls.specs.declared.calls.KmsCall.{KmsCall}
@@ -14,18 +15,19 @@ use Rattle.kms_calls.specs.declared.calls.KmsReply.TheVariants.{Refused}
 use Rattle.kms_calls.specs.declared.calls.KmsRefusal.{KmsRefusal}
 use Rattle.kms_calls.specs.declared.calls.KmsRefusal.TheVariants.{NoMemory, StoreFault}
 use Rattle.key_rows.specs.declared.rows.KeyCommand.{KeyCommand}
-use Rattle.hk_base.specs.Disk.{DiskState}
+use Rattle.hk_base.specs.Disk.{DiskState, Tells}
 use Rattle.hk_base.specs.Faults.{Rose}
-use Rattle.kms_store.specs.Store.{IsLeftOf, NoCommand, settled_commands}
+use Rattle.kms_store.specs.Store.{Applies, IsLeftOf, NoCommand, ReadsMaterials, settled_commands}
 use Rattle.eek_queues.specs.Queues.{AllQueues, ready_in}
 use Rattle.kms_core.specs.State.{KmsState, Running, ServiceState, emptied, keys_of, service_of, settled, without}
 use Rattle.kms_core.specs.declared.queued.QueueChange.{QueueChange}
 use Rattle.kms_core.specs.declared.queued.QueueChange.TheVariants.{Empty, Keep, Remove}
-use Rattle.kms_core.specs.Service.{Changes, IsGrowing, Logs, WasWritten, commands_of}
-use Rattle.kms_core.specs.Calls.{CallActs, Deed, handed_out, done_with, causes, deed, takes_memory, birth_of, bits_of, versions_of, row_of, current_version, first_cause, sent_causes, batch_causes, is_malformed, edek_of, same_version}
+use Rattle.kms_core.specs.Service.{Changes, IsGrowing, Logs, WasWritten, commands_of, reads_older}
+use Rattle.kms_core.specs.Calls.{CallActs, Deed, handed_out, done_with, causes, deed, takes_memory, birth_of, bits_of, versions_of, row_of, current_version, first_cause, sent_causes, is_malformed, edek_of, same_version}
 use Rattle.kms_core.specs.Draws.{drawn_edeks, place_of_draw}
 use Rattle.kms_core.specs.declared.drawing.CurrentVersion.{CurrentVersion}
-use Rattle.kms_core.specs.declared.sent.Checked.{Checked}
+use Rattle.kms_core.specs.declared.known.Known.{Known}
+use Rattle.kms_core.specs.declared.known.SentParts.{SentParts}
 use Rattle.kms_core.specs.declared.service.Standing.{Standing}
 
 -- the deed is done, or memory ran out and nothing changes
@@ -76,7 +78,7 @@ pub record IsNewest (row : KeyRow) (current : CurrentVersion) : Type 0 where
   pub long : length current.material ≡ row.bits / 8
 
 -- the sent key is well formed, with these parts
-pub record HasParts (bits : ℕ) (sent : RawEdek) (vector key : List ℕ) : Type 0 where
+pub record HasSentParts (bits : ℕ) (sent : RawEdek) (vector key : List ℕ) : Type 0 where
   pub formed : is_malformed bits sent ≡ false
   pub iv : vector ≡ sent.iv
   pub sealed : key ≡ sent.sealed
@@ -86,23 +88,18 @@ pub record HasParts (bits : ℕ) (sent : RawEdek) (vector key : List ℕ) : Type
 abbrev pub Allowed : KeyRow → RawEdek → Type 0
 Allowed row sent = first_cause (sent_causes (Some row) row.name sent) ≡ None
 
--- the sent key has no cause of a refusal at its key; these are the material of its version, and its parts
-pub record Checks (row : KeyRow) (sent : RawEdek) (checked : Checked) : Type 0 where
+-- the sent key has no cause of a refusal at its key; these are its parts
+pub record ChecksSent (row : KeyRow) (sent : RawEdek) (parts : SentParts) : Type 0 where
   pub allowed : Allowed row sent
   pub same : bytes_eq sent.version.key row.name ≡ true
-  pub material : slice_get row.materials sent.version.number ≡ Some checked.material
-  pub iv : checked.iv ≡ sent.iv
-  pub sealed : checked.sealed ≡ sent.sealed
-  pub long : length checked.material ≡ row.bits / 8
-  pub as_long : length checked.sealed ≡ row.bits / 8
+  pub below : sent.version.number < length row.materials
+  pub iv : parts.iv ≡ sent.iv
+  pub sealed : parts.sealed ≡ sent.sealed
+  pub as_long : length parts.sealed ≡ row.bits / 8
 
 -- the sent key, opened under the material of its version
 abbrev pub opened_in : KeyRow → RawEdek → Dek
 opened_in row sent = unseal (unwrap_or (slice_get row.materials sent.version.number) []) sent.iv sent.sealed
-
-pub record OpensIn (row : KeyRow) (sent : RawEdek) (key : Dek) : Type 0 where
-  pub allowed : Allowed row sent
-  pub is : key ≡ opened_in row sent
 
 -- the sent key, under the current version
 abbrev pub resealed_in : KeyRow → RawEdek → Edek
@@ -114,18 +111,35 @@ resealed_in row sent =
       sealed = seal (unwrap_or (slice_get row.materials (length row.materials - 1)) []) sent.iv (opened_in row sent);
     }
 
-pub record Reseals (row : KeyRow) (sent : RawEdek) (key : Edek) : Type 0 where
-  pub allowed : Allowed row sent
-  pub is : key ≡ resealed_in row sent
+-- what a call that reads materials knows of a key
+pub record IsKnown (key : KeyRow) (known : Known) : Type 0 where
+  pub name : known.name ≡ key.name
+  pub birth : known.birth ≡ key.birth
+  pub bits : known.bits ≡ key.bits
+  pub versions : known.versions ≡ length key.materials
+  pub current : slice_get key.materials (known.versions - 1) ≡ Some known.current
 
--- keys sent together have no cause of a refusal, and these are the same keys under the current version
-pub record ResealsAll (row : KeyRow) (sent : List RawEdek) (keys : List Edek) : Type 0 where
-  pub allowed : first_cause (batch_causes (Some row) row.name sent) ≡ None
-  pub are : keys ≡ map (resealed_in row) sent
+-- that is known of the key with the name
+pub record HasKey (s : KmsState) (name : KeyName) (known : Known) : Type 0 where
+  pub key : KeyRow
+  pub found : row_of s name ≡ Some key
+  pub knows : IsKnown key known
+  pub rules : IsRow key
+  pub born : find_birth s.table.rows key.birth ≡ Some key
 
--- they are refused for a cause, or memory ran out if there is none
-abbrev pub RefusesBatch : KeyRow → List RawEdek → KmsRefusal → Type 0
-RefusesBatch row sent why = MatchOption (first_cause (batch_causes (Some row) row.name sent)) (why ≡ NoMemory) (λ cause. cause ≡ why)
+-- Materials were read, and only what is kept of them in memory may have changed. The pending command still applies.
+pub record ReadsOnly (old new : DiskState) (r r' : Running) : Type 0 where
+  pub store : ReadsMaterials old new r.store r'.store
+  pub rest : r' ≡ record r { store = r'.store }
+  pub fits : Applies r.store.table.keys r.store.pending
+
+-- What a call that reads materials gives: its answer, which is known unless it rests on an older material and the disk does not
+-- tell its content; or the first cause of its refusal; or, if it has none, there was no memory or the disk failed.
+abbrev pub GivesAnswer : {X : Type 0} → DiskState → DiskState → KmsState → KmsCall → X → Result X KmsRefusal → Type 0
+GivesAnswer old new s c answer (Ok x) = (first_cause (causes s c) ≡ None) × ((IsTrue (reads_older s c) → Tells old) → x ≡ answer)
+GivesAnswer old new s c answer (Err why) =
+    (first_cause (causes s c) ≡ Some why)
+    ⊎ ((first_cause (causes s c) ≡ None) × (((takes_memory c ≡ true) × (why ≡ NoMemory)) ⊎ (IsTrue (reads_older s c) × Rose old.faults new.faults × (why ≡ StoreFault))))
 
 -- A generate took the oldest ready keys of the current version, and drew the rest.
 pub record HandsOut (all all' : AllQueues) (current : CurrentVersion) (words words' : ℕ → ℕ) (count : ℕ) (keys : List Edek) : Type 0 where
@@ -133,7 +147,7 @@ pub record HandsOut (all all' : AllQueues) (current : CurrentVersion) (words wor
   pub queues : all' ≡ handed_out all current.birth count
 
 -- a call on the queues of ready keys
-pub record WorksOn (r : Running) (words : ℕ → ℕ) (now : ℕ) (c : KmsCall) (reply : KmsReply) (r' : Running) (words' : ℕ → ℕ) : Type 0 where
+pub record WorksOnQueues (r : Running) (words : ℕ → ℕ) (now : ℕ) (c : KmsCall) (reply : KmsReply) (r' : Running) (words' : ℕ → ℕ) : Type 0 where
   pub store : r'.store ≡ r.store
   pub acts : CallActs (keys_of r) words now c reply (keys_of r') words'
 

@@ -1,6 +1,6 @@
 -- The calls of users: the verdict of the access control lists comes first.
 use Rattle.std.specs.Prelude.{◌≡◌, ℕ, ◌+◌, Bool, false, not, List, [], None, Result, Ok, Err, if◌then◌else◌}
-use Rattle.hk_base.specs.Disk.{DiskState, Image}
+use Rattle.hk_base.specs.Disk.{DiskState, Image, Tells}
 use Rattle.hk_base.specs.Faults.{Rose}
 use Rattle.hk_base.specs.declared.texts.Text.{Text}
 use Rattle.key_rows.specs.declared.rows.KeyCommand.{KeyCommand}
@@ -53,18 +53,18 @@ pub record Denies (denied : Denied) (s : ServiceState) (result : KmsReply) (draw
   pub same : s' ≡ s
 
 -- A call that is permitted is served.
-pub record Permits (shown : Shown) (s : ServiceState) (words : ℕ → ℕ) (now : ℕ) (c : KmsCall) (fault : Type 0) (result : KmsReply) (drawn : ℕ) (logged : List KeyCommand) (s' : ServiceState) : Type 0 where
+pub record Permits (shown : Shown) (s : ServiceState) (words : ℕ → ℕ) (now : ℕ) (c : KmsCall) (fault tells : Type 0) (result : KmsReply) (drawn : ℕ) (logged : List KeyCommand) (s' : ServiceState) : Type 0 where
   pub reply : KmsReply
-  pub serves : KmsServes s words now c fault reply drawn logged s'
+  pub serves : KmsServes s words now c fault tells reply drawn logged s'
   pub reply_is : result ≡ reply_to shown c reply
 
-abbrev pub ServesUnder : Result Shown Denied → ServiceState → (ℕ → ℕ) → ℕ → KmsCall → Type 0 → KmsReply → ℕ → List KeyCommand → ServiceState → Type 0
-ServesUnder (Ok shown) s words now c fault result drawn logged s' = Permits shown s words now c fault result drawn logged s'
-ServesUnder (Err denied) s words now c fault result drawn logged s' = Denies denied s result drawn logged s'
+abbrev pub ServesUnder : Result Shown Denied → ServiceState → (ℕ → ℕ) → ℕ → KmsCall → Type 0 → Type 0 → KmsReply → ℕ → List KeyCommand → ServiceState → Type 0
+ServesUnder (Ok shown) s words now c fault tells result drawn logged s' = Permits shown s words now c fault tells result drawn logged s'
+ServesUnder (Err denied) s words now c fault tells result drawn logged s' = Denies denied s result drawn logged s'
 
 -- A call of a user under the properties of these lines: the verdict comes first, before anything is settled.
-abbrev pub ServesUser : List PropLine → Text → ServiceState → (ℕ → ℕ) → ℕ → KmsCall → Type 0 → KmsReply → ℕ → List KeyCommand → ServiceState → Type 0
-ServesUser lines user s words now c fault result drawn logged s' = ServesUnder (verdict lines user c) s words now c fault result drawn logged s'
+abbrev pub ServesUser : List PropLine → Text → ServiceState → (ℕ → ℕ) → ℕ → KmsCall → Type 0 → Type 0 → KmsReply → ℕ → List KeyCommand → ServiceState → Type 0
+ServesUser lines user s words now c fault tells result drawn logged s' = ServesUnder (verdict lines user c) s words now c fault tells result drawn logged s'
 
 -- The disk is unchanged: it reads the same, and a crash leaves nothing that it might not have left before.
 pub record IsUntouched (old new : DiskState) : Type 0 where
@@ -78,7 +78,7 @@ pub record IsUntouched (old new : DiskState) : Type 0 where
 pub record ActsFor (lines : List PropLine) (user : Text) (old new : DiskState) (k : RunningKms) (words : ℕ → ℕ) (now : ℕ) (c : KmsCall) (result : KmsReply) (k' : RunningKms) (words' : ℕ → ℕ) : Type 0 where
   pub drawn : ℕ
   pub logged : List KeyCommand
-  pub serves : ServesUser lines user (service_of (running k)) words now c (Rose old.faults new.faults) result drawn logged (service_of (running k'))
+  pub serves : ServesUser lines user (service_of (running k)) words now c (Rose old.faults new.faults) (Tells old) result drawn logged (service_of (running k'))
   pub rest : (n : ℕ) → words' n ≡ words (drawn + n)
   pub disk : Logs old new k.store k'.store (IsLeftOf k.store.table.keys k.store.pending (OwnOf (service_of (running k)) words now c result (service_of (running k')))) logged
   -- a denied call leaves the disk unchanged

@@ -93,7 +93,7 @@ impl Kms {
         ensures opens { OpensKeys (D.state disk.old) (D.state disk.new)
             (λ fault. IsErrOf result fault) }
     {
-        match Service::start(alloc, disk, sizes.queue, sizes.watermark) {
+        match Service::start(alloc, disk, sizes.queue, sizes.watermark, sizes.cache) {
             Err(fault) => {
                 drop(acls);
                 Err(fault)
@@ -115,7 +115,8 @@ impl Kms {
     {
         let size = self.service.size();
         let watermark = self.service.watermark();
-        match Service::start(alloc, disk, size, watermark) {
+        let cache = self.service.cache();
+        match Service::start(alloc, disk, size, watermark, cache) {
             Err(fault) => Err(fault),
             Ok(service) => {
                 put(&mut self.service, service);

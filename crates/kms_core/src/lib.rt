@@ -3,10 +3,11 @@
 
 mod drawing;
 mod kms;
+mod known;
 mod laws;
 mod queued;
+mod reading;
 mod replies;
-mod sent;
 mod service;
 
 pub use drawing::draw_sealed;

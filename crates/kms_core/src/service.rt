@@ -3,27 +3,27 @@ ghost use Rattle.std.specs.Prelude.{◌≡◌, ◌*◌, ◌/◌, ◌≤◌, ◌<
 ghost use Rattle.std.specs.List.{list_any};
 ghost use Rattle.std.specs.Option.{option_copied};
 ghost use Rattle.hk_base.specs.Disk.{Tells};
-ghost use Rattle.key_rows.specs.Sound.{IsRow};
 ghost use Rattle.key_rows.specs.declared.rows.KeyCommand.{KeyCommand};
 ghost use Rattle.key_rows.specs.Table.{find_birth, is_length, material_of};
-ghost use Rattle.kms_store.specs.Store.{OpensKeys, IsKeyStoreOf};
+ghost use Rattle.kms_store.specs.Store.{IsKeyStoreOf, IsRowOf, OpensKeys};
 ghost use Rattle.kms_core.specs.State.{IsService, keys_of, service_of};
 ghost use Rattle.kms_core.specs.Calls.{all_versions, create_causes, created, current_material, current_version, deleted, first_cause, is_absent, is_full, is_misfit, meta_of, metas_of, unsealed_dek, resealed, rolled, row_of, version_with_material};
 ghost use Rattle.kms_core.specs.Order.{names_in_order};
 ghost use Rattle.kms_core.specs.Service.{KmsActsOnDisk, Starts};
-ghost use Rattle.kms_core.specs.Steps.{ActsSettled, Answers, Commits, IsCurrent, StandsSo, Settling, IsOfNewest, IsUnsettled, WorksOn};
+ghost use Rattle.kms_core.specs.Steps.{ActsSettled, Answers, Commits, IsCurrent, StandsSo, Settling, IsOfNewest, IsUnsettled, WorksOnQueues};
 ghost use Rattle.eek_queues.specs.Queues.{has_queue};
 ghost use Rattle.kms_core.specs.Ready.{deposit_answer, is_present, queues_with, stale_for, ticket_of};
 
 use crate::drawing::{CurrentVersion, material_for};
+use crate::known::{MOST_ASKED, newest};
 use crate::queued::{change, change_by, hand_out};
-use crate::replies::{meta, versions};
-use crate::sent::{MOST_ASKED, newest, open, reseal, reseal_all};
+use crate::replies::meta;
 use eek_queues::Queues;
 use eek_seal::{Deposit, Sealed, Ticket};
 use frame_log::{StartFault, StoreRefusal};
 use hk_base::{ByteList, Dek, Disk, KeyName, NoMemory, VersionName, Words};
-use key_rows::{KeyCommand, KeyRow};
+use key_index::IndexRow;
+use key_rows::KeyCommand;
 use kms_calls::{
     Description, KeyMeta, KmsCall, KmsRefusal, KmsReply, MetaList, NameList, RawEdek, RawEdekList,
 };
@@ -51,10 +51,11 @@ struct Standing {
 /// The running service without its access control lists: every call is permitted.
 #[derive(Drop)]
 pub struct Service {
-    alloc: Global,
-    store: Store,
+    pub(crate) alloc: Global,
+    pub(crate) store: Store,
     next: u64,
     queues: Queues,
+    cache: u16,
 }
 
 impl Model for Service {
@@ -89,6 +90,7 @@ impl Service {
         disk: &mut D,
         size: u16,
         watermark: u16,
+        cache: u16,
     ) -> Result<Service, StartFault>
         ensures started { IfOk result (Starts (D.state disk.old) (D.state disk.new)) }
         ensures queues { IfOk result
@@ -97,13 +99,14 @@ impl Service {
         ensures opens { OpensKeys (D.state disk.old) (D.state disk.new)
             (λ fault. IsErrOf result fault) }
     {
-        let store = Store::start(alloc, disk)?;
+        let store = Store::start(alloc, disk, cache)?;
         let _ = store.opening();
         Ok(Service {
             alloc,
             store,
             next: 1,
             queues: Queues::new(alloc, size, watermark),
+            cache,
         })
     }
 
@@ -115,9 +118,7 @@ impl Service {
         ensures file { self.now.store.log.file ≡ 0 }
     {
         let _ = self.store.opening();
-        let table = self.store.table();
-        let _ = table.opening();
-        table.count()
+        self.store.count()
     }
 
     /// Returns the number of this opening.
@@ -139,6 +140,11 @@ impl Service {
         ensures { result ≡ self.now.ready.watermark }
     {
         self.queues.watermark()
+    }
+
+    /// Returns the number of older materials that are kept in memory.
+    pub fn cache(&self) -> u16 {
+        self.cache
     }
 
     /// Answers a call.
@@ -169,12 +175,12 @@ impl Service {
             KmsCall::Metadatas { names } => self.metadatas(names),
             KmsCall::Names => self.names(),
             KmsCall::Current { name } => self.current_version(name),
-            KmsCall::Versions { name } => self.versions(name),
-            KmsCall::Version { version } => self.version(version),
+            KmsCall::Versions { name } => self.versions(disk, name),
+            KmsCall::Version { version } => self.version(disk, version),
             KmsCall::Generate { name, count } => self.generate(words, name, count),
-            KmsCall::Decrypt { name, sent } => self.decrypt(name, sent),
-            KmsCall::Reencrypt { name, sent } => self.reencrypt(name, sent),
-            KmsCall::Batch { name, sent } => self.batch(name, sent),
+            KmsCall::Decrypt { name, sent } => self.decrypt(disk, name, sent),
+            KmsCall::Reencrypt { name, sent } => self.reencrypt(disk, name, sent),
+            KmsCall::Batch { name, sent } => self.batch(disk, name, sent),
         }
     }
 
@@ -278,7 +284,7 @@ impl Service {
     fn is_full(&self) -> bool
         ensures { result ≡ is_full (keys_of self.now) }
     {
-        self.store.table().count() >= MOST_KEYS || self.next >= BIRTHS
+        self.store.count() >= MOST_KEYS || self.next >= BIRTHS
     }
 
     /// Adds a key after all checks. Its birth is used up even if the disk fails.
@@ -382,11 +388,11 @@ impl Service {
             (StandsSo (keys_of self.now) name.now) }
         ensures length { IfSome result (λ key. IsTrue (is_length key.bits)) }
     {
-        let row = self.store.table().find(name)?;
+        let row = self.store.find(name)?;
         Some(Standing {
             birth: row.birth,
             bits: row.bits,
-            versions: row.materials.len() as u16,
+            versions: row.versions as u16,
         })
     }
 
@@ -476,19 +482,17 @@ impl Service {
     }
 
     /// Returns the key with this name, if there is one.
-    fn key(&self, name: &KeyName) -> Option<&KeyRow>
-        ensures found { option_copied result ≡ row_of (keys_of self.now) name.now }
-        ensures row { IfSome result (λ row. IsRow row.now) }
-        ensures birth { IfSome result
-            (λ row. find_birth self.now.store.table.keys.rows row.now.birth ≡ Some row.now) }
+    fn key(&self, name: &KeyName) -> Option<&IndexRow>
+        ensures { MatchOption result (row_of (keys_of self.now) name.now ≡ None)
+            (λ row. IsRowOf self.now.store.table.keys (row_of (keys_of self.now) name.now) row.now) }
     {
-        self.store.table().find(name)
+        self.store.find(name)
     }
 
     /// Drops the ready keys of a key.
     fn invalidate(&mut self, name: KeyName) -> KmsReply
         ensures { (words : ℕ → ℕ) (now : ℕ) →
-            WorksOn self.old words now (KmsCall.Invalidate name) result self.new words }
+            WorksOnQueues self.old words now (KmsCall.Invalidate name) result self.new words }
     {
         let Some(row) = self.key(&name) else {
             return KmsReply::Refused(KmsRefusal::NoSuchKey);
@@ -561,7 +565,7 @@ impl Service {
         ensures { Answers (keys_of self.now) KmsCall.Names
             (KmsReply.Names (names_in_order (keys_of self.now).table.rows)) result }
     {
-        match self.store.table().names() {
+        match self.store.names() {
             Err(NoMemory) => KmsReply::Refused(KmsRefusal::NoMemory),
             Ok(names) => KmsReply::Names(names),
         }
@@ -581,38 +585,37 @@ impl Service {
         }
     }
 
-    fn versions(&self, name: KeyName) -> KmsReply
-        ensures { Answers (keys_of self.now) (KmsCall.Versions name)
-            (KmsReply.Versions (all_versions (row_of (keys_of self.now) name))) result }
+    fn versions<D: Disk>(&mut self, disk: &mut D, name: KeyName) -> KmsReply
+        requires stands { Tells (D.state disk.old) →
+            ((commands : List KeyCommand) ×
+            IsKeyStoreOf (D.state disk.old) self.old.store commands) }
+        ensures { (words : ℕ → ℕ) (now : ℕ) →
+            KmsActsOnDisk (D.state disk.old) (D.state disk.new) self.old words now
+            (KmsCall.Versions name) result self.new words }
     {
-        let Some(row) = self.key(&name) else {
-            return KmsReply::Refused(KmsRefusal::NoSuchKey);
-        };
-        match versions(self.alloc, row) {
-            Err(NoMemory) => KmsReply::Refused(KmsRefusal::NoMemory),
+        match self.all_versions(disk, &name) {
+            Err(why) => KmsReply::Refused(why),
             Ok(all) => KmsReply::Versions(all),
         }
     }
 
-    fn version(&self, version: VersionName) -> KmsReply
-        ensures { Answers (keys_of self.now) (KmsCall.Version version)
-            (KmsReply.Version version (material_of (keys_of self.now).table.rows version)) result }
+    fn version<D: Disk>(&mut self, disk: &mut D, version: VersionName) -> KmsReply
+        requires stands { Tells (D.state disk.old) →
+            ((commands : List KeyCommand) ×
+            IsKeyStoreOf (D.state disk.old) self.old.store commands) }
+        ensures { (words : ℕ → ℕ) (now : ℕ) →
+            KmsActsOnDisk (D.state disk.old) (D.state disk.new) self.old words now
+            (KmsCall.Version version) result self.new words }
     {
-        let Some(row) = self.key(&version.key) else {
-            return KmsReply::Refused(KmsRefusal::NoSuchKey);
-        };
-        let Some(material) = row.materials.get(version.number) else {
-            return KmsReply::Refused(KmsRefusal::NoSuchVersion);
-        };
-        KmsReply::Version {
-            version,
-            material: Some(material),
+        match self.version_material(disk, &version) {
+            Err(why) => KmsReply::Refused(why),
+            Ok(material) => KmsReply::Version { version, material },
         }
     }
 
     fn generate<W: Words>(&mut self, words: &mut W, name: KeyName, count: u32) -> KmsReply
         ensures { (now : ℕ) →
-            WorksOn self.old (W.to_come words.old) now (KmsCall.Generate name count) result self.new
+            WorksOnQueues self.old (W.to_come words.old) now (KmsCall.Generate name count) result self.new
             (W.to_come words.new) }
     {
         let Some(current) = self.current(&name) else {
@@ -632,13 +635,14 @@ impl Service {
         ensures { result ≡ ticket_of (keys_of self.now) }
     {
         let birth = self.queues.low()?;
-        let row = self.store.table().with_birth(birth)?;
-        let current = newest(row)?;
+        let row = self.store.with_birth(birth)?;
+        let key = row.name;
+        let number = (row.versions.saturating_sub(1)) as u16;
         Some(Ticket {
             opening: self.store.opening(),
             birth,
-            version: current.version,
-            material: current.material,
+            version: VersionName { key, number },
+            material: row.current,
             wanted: self.queues.room(birth),
         })
     }
@@ -690,7 +694,7 @@ impl Service {
             return false;
         };
         let same_birth = sealed.birth == row.birth;
-        let newest = sealed.version.number as usize == row.materials.len() - 1;
+        let newest = sealed.version.number as u32 == row.versions.saturating_sub(1);
         let same_opening = sealed.opening == opening;
         same_birth && newest && same_opening
     }
@@ -710,7 +714,7 @@ impl Service {
             Some(row) => Deposit::Stale {
                 opening,
                 birth: row.birth,
-                number: (row.materials.len() - 1) as u16,
+                number: row.versions.saturating_sub(1) as u16,
             },
         }
     }
@@ -720,44 +724,47 @@ impl Service {
         ensures { MatchOption result (is_none (row_of (keys_of self.now) name.now) ≡ true)
             (IsCurrent (keys_of self.now) name.now) }
     {
-        let row = self.key(name)?;
-        newest(row)
+        let key = self.known(name)?;
+        Some(newest(&key))
     }
 
-    fn decrypt(&self, name: KeyName, sent: RawEdek) -> KmsReply
-        ensures { Answers (keys_of self.now) (KmsCall.Decrypt name sent)
-            (KmsReply.Key (unsealed_dek (keys_of self.now) sent)) result }
+    fn decrypt<D: Disk>(&mut self, disk: &mut D, name: KeyName, sent: RawEdek) -> KmsReply
+        requires stands { Tells (D.state disk.old) →
+            ((commands : List KeyCommand) ×
+            IsKeyStoreOf (D.state disk.old) self.old.store commands) }
+        ensures { (words : ℕ → ℕ) (now : ℕ) →
+            KmsActsOnDisk (D.state disk.old) (D.state disk.new) self.old words now
+            (KmsCall.Decrypt name sent) result self.new words }
     {
-        let Some(row) = self.key(&name) else {
-            return KmsReply::Refused(KmsRefusal::NoSuchKey);
-        };
-        match open(row, &sent) {
+        match self.unsealed(disk, &name, &sent) {
             Err(why) => KmsReply::Refused(why),
             Ok(key) => KmsReply::Key(key),
         }
     }
 
-    fn reencrypt(&self, name: KeyName, sent: RawEdek) -> KmsReply
-        ensures { Answers (keys_of self.now) (KmsCall.Reencrypt name sent)
-            (KmsReply.Resealed (resealed (keys_of self.now) name sent)) result }
+    fn reencrypt<D: Disk>(&mut self, disk: &mut D, name: KeyName, sent: RawEdek) -> KmsReply
+        requires stands { Tells (D.state disk.old) →
+            ((commands : List KeyCommand) ×
+            IsKeyStoreOf (D.state disk.old) self.old.store commands) }
+        ensures { (words : ℕ → ℕ) (now : ℕ) →
+            KmsActsOnDisk (D.state disk.old) (D.state disk.new) self.old words now
+            (KmsCall.Reencrypt name sent) result self.new words }
     {
-        let Some(row) = self.key(&name) else {
-            return KmsReply::Refused(KmsRefusal::NoSuchKey);
-        };
-        match reseal(row, &sent) {
+        match self.resealed(disk, &name, &sent) {
             Err(why) => KmsReply::Refused(why),
             Ok(key) => KmsReply::Resealed(key),
         }
     }
 
-    fn batch(&self, name: KeyName, sent: RawEdekList) -> KmsReply
-        ensures { Answers (keys_of self.now) (KmsCall.Batch name sent)
-            (KmsReply.Ready (map (resealed (keys_of self.now) name) sent)) result }
+    fn batch<D: Disk>(&mut self, disk: &mut D, name: KeyName, sent: RawEdekList) -> KmsReply
+        requires stands { Tells (D.state disk.old) →
+            ((commands : List KeyCommand) ×
+            IsKeyStoreOf (D.state disk.old) self.old.store commands) }
+        ensures { (words : ℕ → ℕ) (now : ℕ) →
+            KmsActsOnDisk (D.state disk.old) (D.state disk.new) self.old words now
+            (KmsCall.Batch name sent) result self.new words }
     {
-        let Some(row) = self.key(&name) else {
-            return KmsReply::Refused(KmsRefusal::NoSuchKey);
-        };
-        match reseal_all(self.alloc, row, sent.as_slice()) {
+        match self.reseal_all(disk, &name, sent.as_slice()) {
             Err(why) => KmsReply::Refused(why),
             Ok(keys) => KmsReply::Ready(keys),
         }

@@ -1,18 +1,55 @@
 -- What a commit and a settling leave.
-use Rattle.std.proofs.Common.{◌≡◌, ℕ, Bool, true, List, [], ◌∷◌, ◌++◌, map, Option, Some, None, sym, ap, ◌∙◌, subst}
+use Rattle.std.proofs.Common.{◌≡◌, ℕ, ◌+◌, Bool, true, List, [], ◌∷◌, ◌++◌, length, map, Option, Some, None, sym, ap, ◌∙◌, subst}
 use Rattle.std.specs.Prelude.{if◌then◌else◌, option_map, IfSome}
 use Rattle.hk_base.specs.Disk.{DiskState, LeavesOnly, Tells}
 use Rattle.hk_base.proofs.Runs.{weaker}
 use Rattle.frame_log.specs.Format.{IsBeforeOrAfter}
-use Rattle.frame_log.specs.Stands.{Stands}
+use Rattle.frame_log.specs.Stands.{Stands, front}
 use Rattle.frame_log.specs.declared.log.Log.{Log}
+use Rattle.frame_log.proofs.Reading.{end_push}
 use Rattle.key_rows.proofs.Births.{each_more}
-use Rattle.key_rows.specs.Table.{Table, Kept, no_keys, applies, after}
+use Rattle.key_rows.specs.Table.{Table, no_keys, applies, after}
 use Rattle.key_rows.specs.Records.{HasSpelling, spelling}
 use Rattle.key_rows.specs.declared.rows.KeyCommand.{KeyCommand}
+use Rattle.key_index.specs.Cache.{AreCached}
+use Rattle.key_index.specs.Held.{InLog, log_front}
+use Rattle.key_index.specs.Index.{Index, Materials, after_at, materials_after}
+use Rattle.key_index.specs.Sound.{IsSoundIndex}
+use Rattle.key_index.proofs.CacheLemmas.{cached_after}
+use Rattle.kms_store.specs.Keys.{place_before}
 use Rattle.kms_store.specs.Replay.{key_replay}
-use Rattle.kms_store.specs.Store.{SettlesKeys, StoreState, IsKeyStoreOf, IsWritten, settled_commands, settled_table}
+use Rattle.kms_store.specs.Store.{HoldsMaterials, SettlesKeys, StandsFor, StoreState, IsKeyStoreOf, IsWritten, settled_commands, settled_table}
 use Rattle.kms_store.proofs.Replays.{replay_more, spelled_more}
+use Rattle.kms_store.proofs.Stepping.{held_next, may_here, stands_after}
+
+-- what a command that the log has changes of a store
+pub record Advances (store store' : StoreState) (command : KeyCommand) : Type 0 where
+  pub sound : IsSoundIndex store.index
+  pub may : applies store.table.keys command ≡ true
+  pub table : store'.table.keys ≡ after store.table.keys command
+  pub index : store'.index ≡ after_at store.index command (place_before store'.log.end command)
+  pub cache : store'.cache ≡ store.cache
+  pub none : store'.pending ≡ None
+  pub file : store'.log.file ≡ 0
+
+-- where the log of one more command ends
+ends_at : (log : Log) (commands : List KeyCommand) (command : KeyCommand) → log.file ≡ 0 → log.end ≡ length (front log.file (map spelling commands ++ spelling command ∷ [])) → log.end ≡ length (log_front commands) + 5 + length (spelling command)
+ends_at log commands command file end =
+    end ∙ ap (λ (k : ℕ). length (front k (map spelling commands ++ spelling command ∷ []))) file ∙ end_push 0 (map spelling commands) (spelling command)
+
+holds_after : (store store' : StoreState) (commands : List KeyCommand) (command : KeyCommand) → Advances store store' command → store'.log.end ≡ length (log_front commands) + 5 + length (spelling command)
+    → HoldsMaterials store commands → HoldsMaterials store' (commands ++ command ∷ [])
+holds_after store store' commands command a end h =
+    let m : Materials = materials_after h.older store.index command in
+    let place : ℕ = place_before store'.log.end command in
+    let stands : StandsFor m (after_at store.index command place) (after store.table.keys command) = stands_after h.older store.index store.table.keys command a.sound h.stands a.may place in
+    let cached : AreCached m (after_at store.index command place) store.cache = cached_after h.older store.index place a.sound command (may_here h.older store.index store.table.keys command a.sound h.stands a.may) store.cache h.cached in
+    record {
+      older = m;
+      stands = subst (λ (x : Index). StandsFor m x store'.table.keys) (sym a.index) (subst (StandsFor m (after_at store.index command place)) (sym a.table) stands);
+      held = subst (λ (x : Index). InLog m (commands ++ command ∷ []) x) (sym a.index) (held_next h.older store.index store.table.keys command a.sound h.stands a.may commands store'.log.end end h.held);
+      cached = subst (λ (x : Index). AreCached m x store'.cache) (sym a.index) (subst (AreCached m (after_at store.index command place)) (sym a.cache) cached);
+    }
 
 module _ (old new : DiskState) (store : StoreState) (commands : List KeyCommand) (command : KeyCommand) where
   pub stands_alone : IsKeyStoreOf old store commands → store.pending ≡ None → Stands old store.log (map spelling commands) None
@@ -22,31 +59,29 @@ module _ (old new : DiskState) (store : StoreState) (commands : List KeyCommand)
   stands_beside s some = subst (λ (o : Option KeyCommand). Stands old store.log (map spelling commands) (option_map spelling o)) some s.log
 
   -- one more command
-  one_more : (log : Log) (table : Kept) (pending : Option KeyCommand) → IsKeyStoreOf old store commands → pending ≡ None → HasSpelling command → applies store.table.keys command ≡ true → table.keys ≡ after store.table.keys command
-      → Stands new log (map spelling commands ++ spelling command ∷ []) None → IsKeyStoreOf new (record { log = log; table = table; pending = pending }) (commands ++ command ∷ [])
-  one_more log table pending s none spelled may then_is stands = record {
+  one_more : (store' : StoreState) → IsKeyStoreOf old store commands → HasSpelling command → Advances store store' command → Stands new store'.log (map spelling commands ++ spelling command ∷ []) None
+      → IsKeyStoreOf new store' (commands ++ command ∷ [])
+  one_more store' s spelled a stands = record {
     spelled = each_more HasSpelling commands command s.spelled spelled;
-    makes = subst (λ (x : Table). key_replay no_keys (commands ++ command ∷ []) ≡ Some x) (sym then_is) (replay_more no_keys store.table.keys commands command s.makes may);
-    waits = subst (λ (o : Option KeyCommand). IfSome o HasSpelling) (sym none) tt;
-    log = subst (λ (o : Option KeyCommand). Stands new log (map spelling (commands ++ command ∷ [])) (option_map spelling o)) (sym none) (subst (λ (l : List (List ℕ)). Stands new log l None) (sym (spelled_more commands command)) stands);
+    makes = subst (λ (x : Table). key_replay no_keys (commands ++ command ∷ []) ≡ Some x) (sym a.table) (replay_more no_keys store.table.keys commands command s.makes a.may);
+    waits = subst (λ (o : Option KeyCommand). IfSome o HasSpelling) (sym a.none) tt;
+    log = subst (λ (o : Option KeyCommand). Stands new store'.log (map spelling (commands ++ command ∷ [])) (option_map spelling o)) (sym a.none) (subst (λ (l : List (List ℕ)). Stands new store'.log l None) (sym (spelled_more commands command)) stands);
+    materials = holds_after store store' commands command a (ends_at store'.log commands command a.file stands.end) s.materials;
   }
 
-  pub committed : (log : Log) (table : Kept) (pending : Option KeyCommand) (payload : List ℕ) → IsKeyStoreOf old store commands → store.pending ≡ None → pending ≡ None → HasSpelling command → payload ≡ spelling command
-      → applies store.table.keys command ≡ true → table.keys ≡ after store.table.keys command
-      → ((payloads : List (List ℕ)) → Stands old store.log payloads None → Stands new log (payloads ++ payload ∷ []) None)
-      → IsKeyStoreOf new (record { log = log; table = table; pending = pending }) (commands ++ command ∷ [])
-  committed log table pending payload s alone none spelled is may then_is added =
-      one_more log table pending s none spelled may then_is (subst (λ (p : List ℕ). Stands new log (map spelling commands ++ p ∷ []) None) is (added (map spelling commands) (stands_alone s alone)))
+  pub committed : (store' : StoreState) (payload : List ℕ) → IsKeyStoreOf old store commands → store.pending ≡ None → HasSpelling command → payload ≡ spelling command → Advances store store' command
+      → ((payloads : List (List ℕ)) → Stands old store.log payloads None → Stands new store'.log (payloads ++ payload ∷ []) None) → IsKeyStoreOf new store' (commands ++ command ∷ [])
+  committed store' payload s alone spelled is a added =
+      one_more store' s spelled a (subst (λ (p : List ℕ). Stands new store'.log (map spelling commands ++ p ∷ []) None) is (added (map spelling commands) (stands_alone s alone)))
 
   -- the pending command was kept
-  pub kept : (log : Log) (table : Kept) (pending : Option KeyCommand) (was_kept : Bool) → IsKeyStoreOf old store commands → store.pending ≡ Some command → pending ≡ None → was_kept ≡ true
-      → applies store.table.keys command ≡ true → table.keys ≡ after store.table.keys command
-      → ((payloads : List (List ℕ)) (payload : List ℕ) → Stands old store.log payloads (Some payload) → Stands new log (if was_kept then payloads ++ payload ∷ [] else payloads) None)
-      → IsKeyStoreOf new (record { log = log; table = table; pending = pending }) (commands ++ command ∷ [])
-  kept log table pending was_kept s waits none true_is may then_is settled =
+  pub kept : (store' : StoreState) (was_kept : Bool) → IsKeyStoreOf old store commands → store.pending ≡ Some command → was_kept ≡ true → Advances store store' command
+      → ((payloads : List (List ℕ)) (payload : List ℕ) → Stands old store.log payloads (Some payload) → Stands new store'.log (if was_kept then payloads ++ payload ∷ [] else payloads) None)
+      → IsKeyStoreOf new store' (commands ++ command ∷ [])
+  kept store' was_kept s waits true_is a settled =
       let spelled : HasSpelling command = subst (λ (o : Option KeyCommand). IfSome o HasSpelling) waits s.waits in
       let whole : List (List ℕ) = map spelling commands ++ spelling command ∷ [] in
-      one_more log table pending s none spelled may then_is (subst (λ (b : Bool). Stands new log (if b then whole else map spelling commands) None) true_is (settled (map spelling commands) (spelling command) (stands_beside s waits)))
+      one_more store' s spelled a (subst (λ (b : Bool). Stands new store'.log (if b then whole else map spelling commands) None) true_is (settled (map spelling commands) (spelling command) (stands_beside s waits)))
 
   pub moments : (file : ℕ) (payload : List ℕ) → file ≡ 0 → HasSpelling command → payload ≡ spelling command → LeavesOnly file old new (IsBeforeOrAfter file (map spelling commands) payload) → LeavesOnly 0 old new (IsWritten commands command)
   moments file payload zero_is spelled is left =

@@ -1,7 +1,7 @@
 -- Commands one after another.
-use Rattle.std.proofs.Common.{◌≡◌, ℕ, ◌+◌, ◌-◌, ◌/◌, ◌^◌, ◌<◌, ◌&&◌, ◌==◌, Bool, true, false, List, [], ◌∷◌, ◌++◌, map, Some, None, get_or, take, drop, take-append-drop, refl, sym, ◌∙◌, ap, subst, arith}
+use Rattle.std.proofs.Common.{◌≡◌, ℕ, ◌+◌, ◌/◌, ◌^◌, ◌&&◌, ◌==◌, Bool, true, false, List, [], ◌∷◌, ◌++◌, map, Some, None, refl, sym, ◌∙◌, ap, subst, arith}
 use Rattle.std.specs.Prelude.{if◌then◌else◌, is_none, nat_lt, length}
-use Rattle.std.proofs.lemmas.List.{map-append, take_more, drop_more}
+use Rattle.std.proofs.lemmas.List.{map-append}
 use Rattle.std.proofs.lemmas.Bool.Decides.{Decides-eqb}
 use Rattle.std.proofs.lemmas.Bool.{and_parts}
 use Rattle.key_rows.proofs.Births.{each_more}
@@ -9,9 +9,7 @@ use Rattle.key_rows.specs.Table.{Table, no_keys, applies, after, find_name, is_l
 use Rattle.key_rows.specs.Records.{HasSpelling, spelling}
 use Rattle.key_rows.specs.declared.rows.KeyCommand.{KeyCommand}
 use Rattle.key_rows.specs.declared.rows.KeyCommand.TheVariants.{Opened, Create, Roll, Delete}
-use Rattle.frame_log.specs.Scan.{frame_view}
-use Rattle.frame_log.specs.declared.frames.Frame.{Frame}
-use Rattle.kms_store.specs.Replay.{key_replay, IsNext, IsNoNext, IsReplayed, IsStuck, HasRoomForBirths, payload_of}
+use Rattle.kms_store.specs.Replay.{key_replay, IsNext, IsReplayed, HasRoomForBirths, payload_of}
 
 -- one more command, which applies
 pub replay_more : (t u : Table) (commands : List KeyCommand) (command : KeyCommand) → key_replay t commands ≡ Some u → applies u command ≡ true → key_replay t (commands ++ command ∷ []) ≡ Some (after u command)
@@ -30,7 +28,7 @@ pub replayed_none : IsReplayed [] no_keys
 replayed_none = record { commands = []; spelled = tt; are = refl; makes = refl }
 
 -- one more frame
-pub replayed_more : (frames : List (ℕ × List ℕ)) (frame : ℕ × List ℕ) (t u : Table) → IsReplayed frames t → IsNext t (payload_of frame) u → IsReplayed (frames ++ frame ∷ []) u
+unfoldable pub replayed_more : (frames : List (ℕ × List ℕ)) (frame : ℕ × List ℕ) (t u : Table) → IsReplayed frames t → IsNext t (payload_of frame) u → IsReplayed (frames ++ frame ∷ []) u
 replayed_more frames frame t u r n = record {
   commands = r.commands ++ n.command ∷ [];
   spelled = each_more HasSpelling r.commands n.command r.spelled n.spelled;
@@ -58,33 +56,3 @@ births_after t (Delete birth) may room = room
 
 pub next_births : (t u : Table) (payload : List ℕ) → IsNext t payload u → HasRoomForBirths t → HasRoomForBirths u
 next_births t u payload n room = subst HasRoomForBirths (sym n.then_is) (births_after t n.command n.may room)
-
-module _ (frames : List Frame) (i : ℕ) (frame : Frame) (inside : i < length frames) (is : frame ≡ get_or frames i frame) where
-  around : map frame_view frames ≡ map frame_view (take i frames) ++ frame_view frame ∷ map frame_view (drop (i + 1) frames)
-  around =
-      ap (map frame_view) (sym (take-append-drop i frames))
-      ∙ map-append frame_view (take i frames) (drop i frames)
-      ∙ ap (λ (l : List Frame). map frame_view (take i frames) ++ map frame_view l) (drop_more frames i frame inside ∙ ap (λ (f : Frame). f ∷ drop (i + 1) frames) (sym is))
-
-  so_far : map frame_view (take (i + 1) frames) ≡ map frame_view (take i frames) ++ frame_view frame ∷ []
-  so_far =
-      ap (map frame_view) (take_more frames i frame inside ∙ ap (λ (f : Frame). take i frames ++ f ∷ []) (sym is))
-      ∙ map-append frame_view (take i frames) (frame ∷ [])
-
-  -- the next frame is a command that applies
-  pub taken_here : (payload : List ℕ) (t u : Table) → IsReplayed (map frame_view (take i frames)) t → payload ≡ frame.payload.items → IsNext t payload u → IsReplayed (map frame_view (take (i + 1) frames)) u
-  taken_here payload t u r same n =
-      subst (λ (l : List (ℕ × List ℕ)). IsReplayed l u) (sym so_far) (replayed_more (map frame_view (take i frames)) (frame_view frame) t u r (subst (λ (p : List ℕ). IsNext t p u) same n))
-
-  -- the next frame is not a command that applies
-  pub stuck_here : (payload : List ℕ) (t : Table) (at : ℕ) → IsReplayed (map frame_view (take i frames)) t → payload ≡ frame.payload.items → IsNoNext t payload → at ≡ frame.at - 5 → IsStuck (map frame_view frames) at
-  stuck_here payload t at r same none place = record {
-    before = map frame_view (take i frames);
-    frame = frame_view frame;
-    behind = map frame_view (drop (i + 1) frames);
-    table = t;
-    split = around;
-    replayed = r;
-    not_next = subst (IsNoNext t) same none;
-    place = place;
-  }

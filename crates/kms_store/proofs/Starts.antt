@@ -1,23 +1,26 @@
 -- What a start finds and leaves.
-use Rattle.std.proofs.Common.{◌≡◌, ℕ, ◌+◌, List, [], ◌∷◌, ◌++◌, length, map, None, Result, Ok, Err, refl, sym, ◌∙◌, ap, subst, arith, length-append}
+use Rattle.std.proofs.Common.{◌≡◌, ℕ, ◌+◌, ◌<◌, ◌^◌, List, [], ◌∷◌, ◌++◌, length, map, None, Result, Ok, Err, refl, sym, ◌∙◌, ap, subst, arith, length-append}
 use Rattle.std.specs.Prelude.{IfOk}
 use Rattle.std.specs.Int.{w32, to_be_bytes}
 use Rattle.std.proofs.lemmas.List.{map-append}
-use Rattle.hk_base.specs.Disk.{DiskState, LeavesOnly}
-use Rattle.hk_base.proofs.Runs.{weaker}
-use Rattle.frame_log.specs.Format.{log_of, Found, frames, behind, placed}
-use Rattle.frame_log.specs.Opens.{Recovers}
-use Rattle.frame_log.specs.Stands.{Stands}
-use Rattle.frame_log.specs.Scan.{frame_view}
+use Rattle.hk_base.specs.Disk.{DiskState, Reads, Tells}
+use Rattle.hk_base.specs.declared.names.Dek.{Dek}
+use Rattle.frame_log.specs.Ahead.{Ahead}
+use Rattle.frame_log.specs.Format.{log_of, Found, Log_as_found, end_of, frames, behind, placed}
+use Rattle.frame_log.specs.Opens.{RecoversLog}
+use Rattle.frame_log.specs.Stands.{Stands, front}
 use Rattle.frame_log.specs.declared.fault.StartFault.{StartFault}
-use Rattle.frame_log.specs.declared.frames.Frame.{Frame}
 use Rattle.frame_log.specs.declared.log.Log.{Log}
+use Rattle.frame_log.specs.declared.records.Records.{Records}
+use Rattle.frame_log.proofs.Layers.{left_as_found, still_stands}
 use Rattle.frame_log.proofs.Openings.{opens_as}
-use Rattle.key_rows.specs.Table.{Table, Kept}
+use Rattle.key_rows.specs.Table.{Table}
 use Rattle.key_rows.specs.Records.{spelling}
-use Rattle.key_rows.specs.declared.rows.KeyCommand.TheVariants.{Opened}
-use Rattle.kms_store.specs.Replay.{IsReplayed, IsStuck, payload_of, payloads, place_of}
-use Rattle.kms_store.specs.Store.{IsKeyStoreOf, IsWritten, IsKeyLog, IsNoKeyLog, IsLeftByStart, Not_a_log, Recovered, Opening, IsOpening, OpensKeys}
+use Rattle.key_rows.specs.declared.rows.KeyCommand.{KeyCommand}
+use Rattle.key_index.specs.declared.cache.MaterialKey.{MaterialKey}
+use Rattle.kms_store.specs.Keys.{IsReadFrom, KeysState, store_of}
+use Rattle.kms_store.specs.Replay.{IsReplayed, IsStuck, payload_of, place_of}
+use Rattle.kms_store.specs.Store.{IsKeyStoreOf, IsKeyLog, IsNoKeyLog, IsLeftByStart, Not_a_log, Recovered, OpensKeys}
 
 pub if_ok : {T E : Type 0} {P Q : T → Type 0} (result : Result T E) → ((x : T) → P x → Q x) → IfOk result P → IfOk result Q
 if_ok (Ok x) f held = f x held
@@ -73,21 +76,55 @@ module _ (bytes : List ℕ) (list : List (List ℕ)) (gate : ℕ) (framed : List
         place = omega (arith, s.place, lies, ends);
       }
 
-  pub left_opening : (c : List ℕ) → IsOpening framed c → IsLeftByStart bytes c
-  left_opening c o = Opening o.replayed.commands o.table (key_log o.table o.replayed) o.left
+-- what a start finds in a file: a key log of commands that make these keys, and the store before its opening is recorded
+pub record KeysFound (bytes : List ℕ) (now : DiskState) (log : Log) (keys : KeysState) : Type 0 where
+  pub commands : List KeyCommand
+  pub is_log : IsKeyLog bytes commands keys.table
+  pub store : IsKeyStoreOf now (store_of log keys) commands
 
--- the store before its opening is recorded
-pub began : (disk : DiskState) (log : Log) (table : Kept) (list : List Frame) (r : IsReplayed (map frame_view list) table.keys) → Stands disk log (payloads list) None → IsKeyStoreOf disk (record { log = log; table = table; pending = None }) r.commands
-began disk log table list r stands = record {
-  spelled = r.spelled;
-  makes = r.makes;
-  waits = tt;
-  log = subst (λ (l : List (List ℕ)). Stands disk log l None) r.are stands;
-}
+-- what a recovery finds in a file
+abbrev pub Recovers : List ℕ → DiskState → Log → Records → Type 0
+Recovers bytes mid log records = (payloads : List (List ℕ)) × (gate : ℕ) × (log_of 0 bytes ≡ Found payloads gate) × Ahead mid records payloads × Stands mid log payloads None
 
-pub opening_moments : (old new : DiskState) (framed : List (ℕ × List ℕ)) (table : Table) (n : ℕ) (r : IsReplayed framed table) → n ≡ table.opening → LeavesOnly 0 old new (IsWritten r.commands (Opened (n + 1))) → LeavesOnly 0 old new (IsOpening framed)
-opening_moments old new framed table n r is moments = weaker (λ c left. record { table = table; replayed = r; left = subst (λ (k : ℕ). IsWritten r.commands (Opened (k + 1)) c) is left }) moments
+pub keys_found : (bytes : List ℕ) (mid now : DiskState) (log : Log) (records : Records) (keys : KeysState) → IsReadFrom mid records keys → log.file ≡ 0 → log.end < 2 ^ 64 → records.at ≡ 8 → Reads 0 mid now → Tells mid → Recovers bytes mid log records
+    → KeysFound bytes now log keys
+keys_found bytes mid now log records keys read file fits at same tells found =
+    let list : List (List ℕ) = found.0 in
+    let are : read.frames ≡ placed 8 list = read.all tells list found.3 ∙ ap (λ (k : ℕ). placed k list) at in
+    let payloads : map payload_of read.frames ≡ list = ap (map payload_of) are ∙ placed_payloads 8 list in
+    let stands : Stands now log list None = still_stands 0 mid now log list None same file tells found.4 in
+    let end : log.end ≡ end_of list = stands.end ∙ ap (λ (k : ℕ). length (front k list)) file ∙ omega arith in
+    let b = read.built in
+    record {
+      commands = b.replayed.commands;
+      is_log = key_log bytes list found.1 read.frames found.2 are keys.table b.replayed;
+      store = record {
+        spelled = b.replayed.spelled;
+        makes = b.replayed.makes;
+        waits = tt;
+        log = subst (λ (l : List (List ℕ)). Stands now log l None) (sym payloads ∙ b.replayed.are) stands;
+        materials = record {
+          older = b.older;
+          stands = b.stands;
+          held = b.held (record { places = are ∙ ap (placed 8) (sym payloads); fits = omega (arith, fits, end, ap end_of payloads) });
+          cached = tt;
+        };
+      };
+    }
+
+-- a record that is not a command which applies
+pub damage_found : (bytes : List ℕ) (mid : DiskState) (log : Log) (records : Records) (at : ℕ) → records.at ≡ 8 → (found : Recovers bytes mid log records) → IsStuck (placed records.at found.0) at → IsNoKeyLog bytes at
+damage_found bytes mid log records at place found stuck =
+    no_key_log bytes found.0 found.1 (placed 8 found.0) found.2 refl at (subst (λ (k : ℕ). IsStuck (placed k found.0) at) place stuck)
+
+-- what a crash leaves while the records are read
+pub reading_left : (bytes : List ℕ) (mid : DiskState) (log : Log) (records : Records) → log.file ≡ 0 → Recovers bytes mid log records → (c : List ℕ) → mid.leaves 0 c → IsLeftByStart bytes c
+reading_left bytes mid log records file found c left = Recovered (Log_as_found (left_as_found mid log found.0 0 found.1 bytes found.4 file found.2 c left))
+
+-- the store with its cache, which is empty
+pub with_cache : (disk : DiskState) (log : Log) (keys : KeysState) (cache : List (MaterialKey × Dek)) (commands : List KeyCommand) → cache ≡ [] → IsKeyStoreOf disk (store_of log keys) commands → IsKeyStoreOf disk (record (store_of log keys) { cache = cache }) commands
+with_cache disk log keys cache commands empty = subst (λ (entries : List (MaterialKey × Dek)). IsKeyStoreOf disk (record (store_of log keys) { cache = entries }) commands) (sym empty)
 
 -- a recovery of the key log, as a start
-pub opens_log : (old new : DiskState) {fails : StartFault → Type 0} → Recovers 0 old new fails → OpensKeys old new fails
+pub opens_log : (old new : DiskState) {fails : StartFault → Type 0} → RecoversLog 0 old new fails → OpensKeys old new fails
 opens_log old new o = opens_as old new (λ bytes at none. Not_a_log none) (λ bytes none. absurd none) (λ bytes c held. Recovered held) o

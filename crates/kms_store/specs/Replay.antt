@@ -1,8 +1,6 @@
 -- The table that the records of a key log make.
 use Rattle.std.specs.Prelude.{◌≡◌, ℕ, ◌+◌, ◌-◌, ◌*◌, ◌^◌, ◌<◌, Bool, true, false, List, [], ◌∷◌, ◌++◌, map, Option, Some, None, if◌then◌else◌}
 use Rattle.std.specs.List.{AllByRecursion}
-use Rattle.frame_log.specs.Scan.{frame_view}
-use Rattle.frame_log.specs.declared.frames.Frame.{Frame}
 use Rattle.key_rows.specs.Table.{Table, no_keys, applies, after}
 use Rattle.key_rows.specs.Records.{HasSpelling, spelling}
 use Rattle.key_rows.specs.declared.rows.KeyCommand.{KeyCommand}
@@ -34,10 +32,6 @@ place_of frame = frame.0
 
 abbrev pub payload_of : ℕ × List ℕ → List ℕ
 payload_of frame = frame.1
-
--- the payloads of frames
-abbrev pub payloads : List Frame → List (List ℕ)
-payloads frames = map payload_of (map frame_view frames)
 
 -- the payloads of these frames are commands that make this table
 pub record IsReplayed (frames : List (ℕ × List ℕ)) (table : Table) : Type 0 where

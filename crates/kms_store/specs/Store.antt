@@ -1,23 +1,70 @@
 -- A store over a key log, and the commands that it holds.
-use Rattle.std.specs.Prelude.{◌≡◌, ◌⊎◌, ℕ, ◌+◌, Bool, true, false, List, [], ◌∷◌, ◌++◌, map, Option, Some, None, option_map, IfSome, slice_get}
+use Rattle.std.specs.Prelude.{◌≡◌, ◌⊎◌, ℕ, ◌+◌, ◌-◌, Bool, true, false, List, [], ◌∷◌, ◌++◌, length, map, Option, Some, None, option_map, IfSome, slice_get}
 use Rattle.std.specs.List.{AllByRecursion}
-use Rattle.hk_base.specs.Disk.{DiskState, Tells}
+use Rattle.hk_base.specs.Disk.{DiskState, LeavesOnly, RunOn, Tells}
 use Rattle.frame_log.specs.Format.{log_of, Found, NoLog, end_of, IsAtRest, IsBeforeOrAfter, IsRecovered}
-use Rattle.frame_log.specs.Opens.{Opens}
+use Rattle.frame_log.specs.Opens.{OpensLog}
 use Rattle.frame_log.specs.Stands.{Stands}
 use Rattle.frame_log.specs.declared.fault.StartFault.{StartFault}
 use Rattle.frame_log.specs.declared.log.Log.{Log}
-use Rattle.key_rows.specs.Table.{Table, Kept, after, applies, no_keys}
+use Rattle.key_rows.specs.Sound.{IsRow}
+use Rattle.key_rows.specs.Table.{Table, KeptTable, after, applies, find_birth, find_name, no_keys}
 use Rattle.key_rows.specs.Records.{HasSpelling, spelling}
 use Rattle.key_rows.specs.declared.rows.KeyCommand.{KeyCommand}
 use Rattle.key_rows.specs.declared.rows.KeyCommand.TheVariants.{Opened}
-use Rattle.kms_store.specs.Replay.{key_replay, IsNoNext, IsReplayed}
+use Rattle.key_rows.specs.declared.rows.KeyRow.{KeyRow}
+use Rattle.hk_base.specs.declared.names.Dek.{Dek}
+use Rattle.hk_base.specs.declared.names.VersionName.{VersionName}
+use Rattle.key_index.specs.declared.cache.MaterialKey.{MaterialKey}
+use Rattle.key_index.specs.declared.rows.IndexRow.{IndexRow}
+use Rattle.key_index.specs.Cache.{AreCached}
+use Rattle.key_index.specs.Held.{InLog, has_older}
+use Rattle.key_index.specs.Index.{Index, Materials, table_of}
+use Rattle.key_index.specs.Sound.{AllSized}
+use Rattle.kms_store.specs.Replay.{key_replay, IsNoNext}
 
--- its log, the table of keys with its reserved capacity, and the command that waits to be settled
+-- Its log, the table of keys with its reserved capacity, and the command that waits to be settled. Memory has the table
+-- without its older materials, in an index, and some of these in a cache.
 pub record StoreState : Type 0 where
   pub log : Log
-  pub table : Kept
+  pub table : KeptTable
+  pub index : Index
+  pub cache : List (MaterialKey × Dek)
   pub pending : Option KeyCommand
+
+-- an index stands for the table, beside these older materials, which have the lengths of their keys
+pub record StandsFor (older : Materials) (index : Index) (table : Table) : Type 0 where
+  pub table_is : table_of older index ≡ table
+  pub sized : AllSized older index
+
+-- the older materials of the index are at their places in the log of these commands, and those in the cache are theirs
+pub record HoldsMaterials (store : StoreState) (commands : List KeyCommand) : Type 0 where
+  pub older : Materials
+  pub stands : StandsFor older store.index store.table.keys
+  pub held : InLog older commands store.index
+  pub cached : AreCached older store.index store.cache
+
+-- a row of the index says of a key all but its older materials
+pub record ShowsKey (row : IndexRow) (key : KeyRow) : Type 0 where
+  pub name : row.name ≡ key.name
+  pub birth : row.birth ≡ key.birth
+  pub bits : row.bits ≡ key.bits
+  pub versions : row.versions ≡ length key.materials
+  pub current : slice_get key.materials (row.versions - 1) ≡ Some row.current
+  pub description : row.description ≡ key.description
+  pub created : row.created ≡ key.created
+
+-- the row is that of a key of the table, which was looked up; no other key has its birth
+pub record IsRowOf (t : Table) (found : Option KeyRow) (row : IndexRow) : Type 0 where
+  pub key : KeyRow
+  pub is : found ≡ Some key
+  pub shows : ShowsKey row key
+  pub rules : IsRow key
+  pub born : find_birth t.rows key.birth ≡ Some key
+
+-- whether a version is of a key of the table, and not the current one of it
+abbrev pub is_older : Table → VersionName → Bool
+is_older t version = has_older (find_name t.rows version.key) version.number
 
 -- both have a pending command, or neither has
 abbrev pub WaitTogether : Option KeyCommand → Option ℕ → Type 0
@@ -26,12 +73,13 @@ WaitTogether (Some command) None = ⊥
 WaitTogether (Some command) (Some size) = Unit {0}
 
 -- The store holds these acknowledged commands on the disk: they make its table, and they are the
--- records of its log, beside the pending one.
+-- records of its log, beside the pending one. The log has the older materials, too.
 pub record IsKeyStoreOf (disk : DiskState) (store : StoreState) (commands : List KeyCommand) : Type 0 where
   pub spelled : AllByRecursion HasSpelling commands
   pub makes : key_replay no_keys commands ≡ Some store.table.keys
   pub waits : IfSome store.pending HasSpelling
   pub log : Stands disk store.log (map spelling commands) (option_map spelling store.pending)
+  pub materials : HoldsMaterials store commands
 
 -- the table, and the newly acknowledged commands, once the pending command was settled: kept or dropped
 abbrev pub settled_table : Bool → Option KeyCommand → Table → Table
@@ -117,18 +165,19 @@ pub data IsLeftByStart (found bytes : List ℕ) : Type 0 where
 
 -- A start opens the key log, or fails.
 abbrev pub OpensKeys : DiskState → DiskState → (StartFault → Type 0) → Type 0
-OpensKeys = Opens 0 IsDamagedAt SpentKeys IsLeftByStart
-
--- the log of the commands of these frames, with or without the record of the new opening
-pub record IsOpening (frames : List (ℕ × List ℕ)) (bytes : List ℕ) : Type 0 where
-  pub table : Table
-  pub replayed : IsReplayed frames table
-  pub left : IsWritten replayed.commands (next_opening table) bytes
+OpensKeys = OpensLog 0 IsDamagedAt SpentKeys IsLeftByStart
 
 -- what a crash may leave of a log: these commands, with or without one more, both now and once the end gate byte is set to 1
 abbrev pub IsLogOf : List KeyCommand → Option KeyCommand → List ℕ → Type 0
 IsLogOf commands None bytes = IsAtRest 0 (map spelling commands) bytes
 IsLogOf commands (Some command) bytes = IsWithOrWithout commands command bytes
+
+-- Materials were read, and at most the cache has changed. A crash at any moment of it leaves the log as it is.
+pub record ReadsMaterials (old new : DiskState) (store store' : StoreState) : Type 0 where
+  pub same : store' ≡ record store { cache = store'.cache }
+  pub kept : Tells old → (commands : List KeyCommand) → IsKeyStoreOf old store commands → IsKeyStoreOf new store' commands
+  pub moments : Tells old → (commands : List KeyCommand) → IsKeyStoreOf old store commands → LeavesOnly 0 old new (IsLogOf commands store.pending)
+  pub run : RunOn 0 old new
 
 abbrev pub Applies : Table → Option KeyCommand → Type 0
 Applies t more = IfSome more (λ command. applies t command ≡ true)

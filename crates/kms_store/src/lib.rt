@@ -2,7 +2,12 @@
 //! command.
 #![tactic(auto)]
 
+mod keys;
+mod materials;
 mod replay;
 mod store;
 
 pub use store::Store;
+
+/// The file of the disk with the key log.
+const KEYS: u8 = 0;

@@ -1,22 +1,29 @@
 //! A store over a key log.
+use crate::KEYS;
+use crate::keys::Keys;
+use crate::materials::read_material;
 use crate::replay::replay;
-use frame_log::{Frame, Log, LogFault, StartFault, StoreRefusal};
-use hk_base::{ByteList, Dek, Disk, Failed, VersionName};
-use key_rows::{KeyCommand, KeyTable};
+use frame_log::{Log, LogFault, StartFault, StoreRefusal};
+use hk_base::{ByteList, Dek, Disk, Failed, KeyName, NoMemory, VersionName};
+use key_index::{IndexRow, KeyIndex, MaterialCache, MaterialKey};
+use key_rows::KeyCommand;
+use kms_calls::NameList;
 use std::alloc::Global;
 use std::marker::Model;
-
-/// The file of the disk with the key log.
-const KEYS: u8 = 0;
+use std::num::NonZeroUsize;
 
 /// The table of keys, and the log on file 0 of a disk from which it can be rebuilt.
+///
+/// Memory has all keys with their current materials. An older material is read from its place in the
+/// log when it is needed, and kept in a cache of those that were needed last.
 ///
 /// If a commit ends with a store fault, its command is pending: the disk may or may not hold its
 /// record, and the table is unchanged. The next call that changes keys settles it first.
 #[derive(Drop)]
 pub struct Store {
     log: Log,
-    table: KeyTable,
+    keys: Keys,
+    cache: MaterialCache,
     pending: Option<KeyCommand>,
 }
 
@@ -27,34 +34,44 @@ impl Model for Store {
 
     ghost Value = { StoreState };
 
-    ghost view = { λ a. record { log = a.log; table = a.table; pending = a.pending } };
+    ghost view = { λ a.
+        record {
+          log = a.log;
+          table = record { keys = a.keys.table; spare = a.keys.index.spare };
+          index = a.keys.index.index;
+          cache = a.cache.entries;
+          pending = a.pending;
+        } };
 
     ghost invariant = { λ a. (a.log.file ≡ 0) × WaitTogether a.pending a.log.unsettled ×
         IfSome a.pending
-        (λ command. (applies a.table.keys command ≡ true) × (need command ≤ a.table.spare)) };
+        (λ command. (applies a.keys.table command ≡ true) ×
+        (need command ≤ a.keys.index.spare)) };
 }
 
 impl Store {
-    ghost use Rattle.std.specs.Prelude.{◌≡◌, ◌≤◌, ◌<◌, ◌+◌, ◌*◌, ◌^◌, ◌⊎◌, ◌++◌, [], ◌∷◌, ℕ, List, Option, Some, None, Ok, IsTrue, false, IsSome, IsOk, IsErr, IfOk, OnOk, OnErr, IsErrOf, map};
+    ghost use Rattle.std.specs.Prelude.{◌≡◌, ◌≤◌, ◌<◌, ◌+◌, ◌*◌, ◌/◌, ◌^◌, ◌⊎◌, ◌++◌, [], ◌∷◌, ℕ, List, Option, Some, None, Ok, IsTrue, false, IsSome, IsOk, IsErr, IfOk, IfSome, OnOk, OnErr, IsErrOf, MatchOption, length, map, option_map};
     ghost use Rattle.std.specs.Option.{option_copied};
     ghost use Rattle.hk_base.specs.Disk.{Tells, RunOn, LeavesOnly};
     ghost use Rattle.hk_base.specs.Faults.{Rose};
-    ghost use Rattle.frame_log.specs.Stands.{Stands};
-    ghost use Rattle.frame_log.specs.Scan.{frame_view};
     ghost use Rattle.frame_log.specs.declared.fault.StoreRefusal.TheVariants as store;
     ghost use Rattle.frame_log.specs.declared.fault.StartFault.TheVariants as start;
-    ghost use Rattle.key_rows.specs.Table.{Table, applies, after, material_of};
+    ghost use Rattle.key_rows.specs.Names.{AreNames};
+    ghost use Rattle.key_rows.specs.Sound.{IsKeyTable};
+    ghost use Rattle.key_rows.specs.Table.{Table, applies, after, find_birth, find_name, material_of};
     ghost use Rattle.key_rows.specs.declared.rows.KeyCommand.{KeyCommand};
-    ghost use Rattle.kms_store.specs.Replay.{IsReplayed, IsStuck, payloads};
-    ghost use Rattle.kms_store.specs.Store.{Applies, DropsUnlessGateSet, IsKeyStoreOf, IsWithOrWithout, IsWritten, IsKeyLog, IsOpening, KeepsIfGateSet, OpensKeys, SettlesKeys, next_opening};
+    ghost use Rattle.kms_store.specs.Keys.{store_of};
+    ghost use Rattle.kms_store.specs.Replay.{HasRoomForBirths};
+    ghost use Rattle.kms_store.specs.Store.{Applies, DropsUnlessGateSet, IsKeyStoreOf, IsRowOf, IsWithOrWithout, IsWritten, IsKeyLog, KeepsIfGateSet, OpensKeys, ReadsMaterials, SettlesKeys, is_older, next_opening};
 
     /// Opens the key log of a disk, builds the table from its commands, and commits the record of a
-    /// new opening. A crash may stop it at any moment; a later start then works as usual.
+    /// new opening. A crash may stop it at any moment; a later start then works as usual. At most
+    /// `cache` older materials are kept in memory, or one if it is 0.
     ///
     /// Returns `Damaged` exactly if the file is not a log, or a record encodes no command or one
     /// that doesn't apply, with the offset of its gate. Returns `Spent` exactly if opening
     /// 4,294,967,295 is recorded.
-    pub fn start<D: Disk>(alloc: Global, disk: &mut D) -> Result<Store, StartFault>
+    pub fn start<D: Disk>(alloc: Global, disk: &mut D, cache: u16) -> Result<Store, StartFault>
         ensures log { IfOk result
             (λ store. Tells (D.state disk.old) → ((commands : List KeyCommand) × (table : Table)
             × IsKeyLog ((D.state disk.old).reads 0) commands table
@@ -69,50 +86,53 @@ impl Store {
         ensures opens { OpensKeys (D.state disk.old) (D.state disk.new)
             (λ fault. IsErrOf result fault) }
     {
-        let (log, frames) = Log::recover(alloc, disk, KEYS)?;
-        Store::open(alloc, disk, log, frames.list.as_slice())
+        let (log, mut records) = Log::recover_records(alloc, disk, KEYS)?;
+        let keys = replay(alloc, disk, &mut records)?;
+        Store::open(alloc, disk, log, keys, cache)
     }
 
-    /// Builds the table from the frames of a log, and records a new opening after them.
+    /// Records a new opening after the commands that make these keys.
     fn open<D: Disk>(
         alloc: Global,
         disk: &mut D,
         log: Log,
-        frames: &[Frame],
+        keys: Keys,
+        cache: u16,
     ) -> Result<Store, StartFault>
         requires file { log.file ≡ 0 }
         requires settled { log.unsettled ≡ None }
+        requires births { HasRoomForBirths keys.table }
         requires stands { Tells (D.state disk.old) →
-            Stands (D.state disk.old) log (payloads frames.now) None }
+            ((commands : List KeyCommand) ×
+            IsKeyStoreOf (D.state disk.old) (store_of log keys) commands) }
 
         ensures log { IfOk result
-            (λ store. (table : Table) × (r : IsReplayed (map frame_view frames.now) table)
-            × (Tells (D.state disk.old) →
-            IsKeyStoreOf (D.state disk.new) store
-            (r.commands ++ next_opening table ∷ []))) }
+            (λ store. Tells (D.state disk.old) → (commands : List KeyCommand) →
+            IsKeyStoreOf (D.state disk.old) (store_of log keys) commands
+            → IsKeyStoreOf (D.state disk.new) store (commands ++ next_opening keys.table ∷ [])) }
         ensures opened { IfOk result
             (λ store. (store.pending ≡ None) ×
             (store.table.keys.greatest < store.table.keys.opening * 2 ^ 32)) }
-        ensures damaged { (at : ℕ) → IsErrOf result (start.Damaged at) →
-            IsStuck (map frame_view frames.now) at }
-        ensures spent { IsErrOf result start.Spent →
-            ((table : Table) × IsReplayed (map frame_view frames.now) table ×
-            (table.opening ≡ 4294967295)) }
-        ensures moments { Tells (D.state disk.old) →
-            LeavesOnly 0 (D.state disk.old) (D.state disk.new)
-            (IsOpening (map frame_view frames.now)) }
+        ensures damaged { (at : ℕ) → IsErrOf result (start.Damaged at) → ⊥ }
+        ensures spent { IsErrOf result start.Spent → keys.table.opening ≡ 4294967295 }
+        ensures moments { Tells (D.state disk.old) → (commands : List KeyCommand) →
+            IsKeyStoreOf (D.state disk.old) (store_of log keys) commands
+            → LeavesOnly 0 (D.state disk.old) (D.state disk.new)
+            (IsWritten commands (next_opening keys.table)) }
         ensures run { RunOn 0 (D.state disk.old) (D.state disk.new) }
         ensures cause { IsErrOf result start.StoreFault →
             Rose (D.state disk.old).faults (D.state disk.new).faults }
     {
-        let table = replay(alloc, frames)?;
-        let opening = table.opening();
+        let opening = keys.opening();
         if opening == u32::MAX {
             return Err(StartFault::Spent);
         }
+        let size = NonZeroUsize::new(cache as usize).unwrap_or(NonZeroUsize::MIN);
+        let cache = MaterialCache::new(alloc, size)?;
         let mut store = Store {
             log,
-            table,
+            keys,
+            cache,
             pending: None,
         };
         let next = KeyCommand::Opened {
@@ -167,20 +187,22 @@ impl Store {
         ensures cause { IsErrOf result store.StoreFault →
             Rose (D.state disk.old).faults (D.state disk.new).faults }
     {
-        self.table.reserve_apply(&command)?;
+        self.keys.reserve_apply(&command)?;
         let mut record = ByteList::new(alloc);
         command.write(&mut record)?;
         match self.log.append(alloc, disk, record.as_slice()) {
             Ok(_) => {
-                self.table.apply(command)?;
+                let end = self.log.end;
+                self.keys.apply(command, end)?;
                 return Ok(());
             }
             Err(LogFault::StoreFault) => {
                 self.pending = Some(command);
                 return Err(StoreRefusal::StoreFault);
             }
+            Err(LogFault::NoMemory) => return Err(StoreRefusal::NoMemory),
             // An append never returns `Damaged`.
-            Err(_) => return Err(StoreRefusal::NoMemory),
+            Err(LogFault::Damaged { .. }) => unreachable!(),
         }
     }
 
@@ -232,33 +254,102 @@ impl Store {
         };
         if let Some(command) = self.pending.take() {
             if kept {
-                self.table.apply(command)?;
+                let end = self.log.end;
+                self.keys.apply(command, end)?;
             }
         }
         Ok(kept)
     }
 
-    /// Returns the material of an existing version. Does not allocate, and never fails.
+    /// Returns the material of an existing version of the key with this birth. The current one is in
+    /// memory; an older one is in the cache, or is read from the log. Fails only if the disk does, and
+    /// changes no more than the cache. If there is no memory for the cache, it stays as it was.
     pub fn material<D: Disk>(
         &mut self,
         disk: &mut D,
         version: &VersionName,
         birth: u64,
     ) -> Result<Dek, Failed>
-        requires { IsSome (material_of self.old.table.keys.rows version.now) }
+        requires exists { IsSome (material_of self.old.table.keys.rows version.now) }
+        requires birth { IfSome (find_name self.old.table.keys.rows version.now.key)
+            (λ key. key.birth ≡ birth) }
+        requires stands { Tells (D.state disk.old) →
+            ((commands : List KeyCommand) × IsKeyStoreOf (D.state disk.old) self.old commands) }
+
         ensures given { IfOk result
-            (λ material. material_of self.old.table.keys.rows version.now ≡ Some material) }
-        ensures never_fails { IsOk result }
-        ensures same { (self.new ≡ self.old) × (disk.new ≡ disk.old) }
+            (λ material. (IsTrue (is_older self.old.table.keys version.now) →
+            Tells (D.state disk.old))
+            → material_of self.old.table.keys.rows version.now ≡ Some material) }
+        // Whatever the disk tells, it has the length of its key.
+        ensures length { IfOk result
+            (λ material. IfSome (find_name self.old.table.keys.rows version.now.key)
+            (λ key. length material ≡ key.bits / 8)) }
+        // The current material is not read from the disk.
+        ensures current { is_older self.old.table.keys version.now ≡ false →
+            IsOk result × (self.new ≡ self.old) × (disk.new ≡ disk.old) }
+        // A crash at any moment of the call leaves the log as it is.
+        ensures reads { ReadsMaterials (D.state disk.old) (D.state disk.new) self.old self.new }
+        ensures cause { OnErr result (Rose (D.state disk.old).faults (D.state disk.new).faults) }
     {
-        self.table.version(version).ok_or(Failed)
+        let Some(row) = self.keys.find(&version.key) else {
+            unreachable!()
+        };
+        let Some(place) = self.keys.place(version) else {
+            return Ok(row.current);
+        };
+        let len = row.bits as usize / 8;
+        let number = version.number;
+        let known = MaterialKey { birth, number };
+        if let Some(material) = self.cache.get(known) {
+            // Each entry has the length of its key. The test says so to the checker.
+            if material.as_bytes().len() == len {
+                return Ok(material);
+            }
+        }
+        let material = read_material(disk, place, len)?;
+        self.cache.put(known, material);
+        Ok(material)
     }
 
-    /// Returns the table that the acknowledged commands make.
-    pub fn table(&self) -> &KeyTable
-        ensures { result.now ≡ self.now.table }
+    /// Returns the index of the keys that the acknowledged commands make.
+    pub fn index(&self) -> &KeyIndex
+        ensures index { result.now.index ≡ self.now.index }
+        ensures table { IsKeyTable self.now.table.keys }
     {
-        &self.table
+        self.keys.index()
+    }
+
+    /// Returns the number of keys.
+    pub fn count(&self) -> u32
+        ensures count { result ≡ length self.now.table.keys.rows }
+        ensures table { IsKeyTable self.now.table.keys }
+    {
+        self.keys.count()
+    }
+
+    /// Returns the key with this name. Does not allocate.
+    pub fn find(&self, name: &KeyName) -> Option<&IndexRow>
+        ensures { MatchOption result (find_name self.now.table.keys.rows name.now ≡ None)
+            (λ row. IsRowOf self.now.table.keys (find_name self.now.table.keys.rows name.now)
+            row.now) }
+    {
+        self.keys.find(name)
+    }
+
+    /// Returns the key with this birth. Does not allocate.
+    pub fn with_birth(&self, birth: u64) -> Option<&IndexRow>
+        ensures { MatchOption result (find_birth self.now.table.keys.rows birth ≡ None)
+            (λ row. IsRowOf self.now.table.keys (find_birth self.now.table.keys.rows birth)
+            row.now) }
+    {
+        self.keys.with_birth(birth)
+    }
+
+    /// Returns the names of all keys in byte order, or `NoMemory` if allocation fails.
+    pub fn names(&self) -> Result<NameList, NoMemory>
+        ensures { IfOk result (AreNames self.now.table.keys.rows) }
+    {
+        self.keys.names()
     }
 
     /// Returns the pending command, if there is one.
@@ -272,10 +363,11 @@ impl Store {
     /// table.
     pub fn opening(&self) -> u32
         ensures opening { result ≡ self.now.table.keys.opening }
+        ensures table { IsKeyTable self.now.table.keys }
         // The log is on file 0.
         ensures file { self.now.log.file ≡ 0 }
         ensures pending { Applies self.now.table.keys self.now.pending }
     {
-        self.table.opening()
+        self.keys.opening()
     }
 }

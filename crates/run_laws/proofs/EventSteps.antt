@@ -44,7 +44,7 @@ use Rattle.world_run.specs.RenamePaths.{read_rename_paths, rename_along}
 use Rattle.world_run.specs.SnapPaths.{read_snap_path, snap_at, unsnap_at}
 use Rattle.world_run.specs.World.{Kept, WorldState, numbered, with_names, with_reply, with_ticket}
 use Rattle.kms_core.proofs.ReadyLemmas.{KeepsReady, deposit_keeps_ready, opening_keeps_ready, user_keeps_ready}
-use Rattle.run_laws.specs.Runs.{DiskTells, Happens, Leads, call_of}
+use Rattle.run_laws.specs.Runs.{DiskTells, HappensIn, LeadThrough, call_of}
 
 -- values kept under numbers
 
@@ -93,11 +93,11 @@ pub record Moves (e : Event) (w w' : WorldState) : Type 0 where
   pub ready : KeepsReady w.keys → KeepsReady w'.keys
 
 -- the call that an ask wants
-wanted-keeps : (lines : List PropLine) (s : ServiceState) (words : ℕ → ℕ) (now : ℕ) (wanted : Want) (fault : Type 0) (outcome : Option KmsReply) (drawn : ℕ) (logged : List KeyCommand) (s' : ServiceState)
-    → WantActs lines s words now wanted fault outcome drawn logged s' → KeepsReady s → KeepsReady s'
-wanted-keeps lines s words now want.Nothing fault outcome drawn logged s' a ready = subst KeepsReady (sym a.same) ready
-wanted-keeps lines s words now (want.Generate name) fault outcome drawn logged s' a ready = user_keeps_ready lines superuser s words now (key_call.Generate name 1) fault a.reply drawn logged s' a.serves ready
-wanted-keeps lines s words now (want.Metadata name) fault outcome drawn logged s' a ready = user_keeps_ready lines superuser s words now (key_call.Metadata name) fault a.reply drawn logged s' a.serves ready
+wanted-keeps : (lines : List PropLine) (s : ServiceState) (words : ℕ → ℕ) (now : ℕ) (wanted : Want) (fault tells : Type 0) (outcome : Option KmsReply) (drawn : ℕ) (logged : List KeyCommand) (s' : ServiceState)
+    → WantActs lines s words now wanted fault tells outcome drawn logged s' → KeepsReady s → KeepsReady s'
+wanted-keeps lines s words now want.Nothing fault tells outcome drawn logged s' a ready = subst KeepsReady (sym a.same) ready
+wanted-keeps lines s words now (want.Generate name) fault tells outcome drawn logged s' a ready = user_keeps_ready lines superuser s words now (key_call.Generate name 1) fault tells a.reply drawn logged s' a.serves ready
+wanted-keeps lines s words now (want.Metadata name) fault tells outcome drawn logged s' a ready = user_keeps_ready lines superuser s words now (key_call.Metadata name) fault tells a.reply drawn logged s' a.serves ready
 
 -- events
 
@@ -134,13 +134,13 @@ module _ (e : Event) where
       go (Err why) asks = turns w (record w.names { names = a.names }) (Stepped (Asked user (k p) (Err why) asks refl) tt)
 
   draw-moves : (lines : List PropLine) (w : WorldState) (words : ℕ → ℕ) (now : ℕ) (o : Option AskNote) (outcome : Line) (drawn : ℕ) (logged : Acknowledged) (w' : WorldState)
-      → DrawActs lines w words now o AnyFault outcome drawn logged w' → Moves e w w'
+      → DrawActs lines w words now o AnyFault DiskTells outcome drawn logged w' → Moves e w w'
   draw-moves lines w words now None outcome drawn logged w' u = rests w w' u.same
   draw-moves lines w words now (Some note) outcome drawn logged w' (inr full) = rests w w' full.same
   draw-moves lines w words now (Some note) outcome drawn logged w' (inl d) = at w (with_reply (kept_reply note d.reply) (record w { keys = d.keys })) w' d.left (record {
     names = Rests refl;
     kept = record { notes = λ n x h. h; replies = λ n x h. numbered-stays w.kept.replies (kept_reply note d.reply) n x h };
-    ready = wanted-keeps lines w.keys words now note.want AnyFault d.reply drawn d.commands d.keys d.acts;
+    ready = wanted-keeps lines w.keys words now note.want AnyFault DiskTells d.reply drawn d.commands d.keys d.acts;
   })
 
   finish-moves : (w : WorldState) (o : Option KeptReply) (outcome : Line) (drawn : ℕ) (logged : Acknowledged) (w' : WorldState) → FinishReply w o AnyFault outcome drawn logged w' → Moves e w w'
@@ -161,13 +161,13 @@ module _ (e : Event) where
       go (Err why) did = turns w a.names (Stepped (Walks p (Err why) a.ops did) tt)
 
   serve-moves : (lines : List PropLine) (w : WorldState) (words : ℕ → ℕ) (now : ℕ) (o : Option BatchNote) (outcome : Line) (drawn : ℕ) (logged : Acknowledged) (w' : WorldState)
-      → ServeActs lines w words now o AnyFault outcome drawn logged w' → Moves e w w'
+      → ServeActs lines w words now o AnyFault DiskTells outcome drawn logged w' → Moves e w w'
   serve-moves lines w words now None outcome drawn logged w' u = rests w w' u.same
   serve-moves lines w words now (Some batch) outcome drawn logged w' (inr full) = rests w w' full.same
   serve-moves lines w words now (Some batch) outcome drawn logged w' (inl d) = at w (with_reply (ToBatch (reply_for batch d.reply)) (record w { keys = d.keys })) w' d.left (record {
     names = Rests refl;
     kept = record { notes = λ n x h. h; replies = λ n x h. numbered-stays w.kept.replies (ToBatch (reply_for batch d.reply)) n x h };
-    ready = user_keeps_ready lines superuser w.keys words now (batch_call batch) AnyFault d.reply drawn d.commands d.keys d.serves;
+    ready = user_keeps_ready lines superuser w.keys words now (batch_call batch) AnyFault DiskTells d.reply drawn d.commands d.keys d.serves;
   })
 
   deliver-moves : (w : WorldState) (o : Option KeptReply) (outcome : Line) (drawn : ℕ) (logged : Acknowledged) (w' : WorldState) → DeliverReply w o AnyFault outcome drawn logged w' → Moves e w w'
@@ -197,7 +197,7 @@ step-moves : (lines : List PropLine) (w : WorldState) (words : ℕ → ℕ) (now
 step-moves lines w words now (event.Kms user c) outcome drawn logged w' s = at (event.Kms user c) w (record w { keys = s.keys }) w' s.left (record {
   names = Rests refl;
   kept = kept-same w.kept;
-  ready = user_keeps_ready lines user w.keys words now c AnyFault s.reply drawn s.commands s.keys s.serves;
+  ready = user_keeps_ready lines user w.keys words now c AnyFault DiskTells s.reply drawn s.commands s.keys s.serves;
 })
 step-moves lines w words now event.Ticket outcome drawn logged w' (inl g) = ticket-moves event.Ticket w (ticket_of w.keys.keys) w' g.left
 step-moves lines w words now event.Ticket outcome drawn logged w' (inr full) = rests event.Ticket w w' full.same
@@ -233,18 +233,18 @@ step-moves lines w words now (event.Serve number) outcome drawn logged w' s = se
 step-moves lines w words now (event.Deliver number) outcome drawn logged w' s = deliver-moves (event.Deliver number) w (numbered w.kept.replies number) outcome drawn logged w' s
 step-moves lines w words now (event.GiveUp number) outcome drawn logged w' s = give-up-moves (event.GiveUp number) w (numbered w.kept.batches number) outcome drawn logged w' s
 
-pub moves : (w : WorldState) (e : Event) (outcome : Line) (w' : WorldState) → Happens w e outcome w' → Moves e w w'
+pub moves : (w : WorldState) (e : Event) (outcome : Line) (w' : WorldState) → HappensIn w e outcome w' → Moves e w w'
 moves w e outcome w' h = step-moves h.lines w h.words h.now e outcome h.drawn h.logged w' h.step
 
 -- whole runs
 
-pub leads-keep : (w : WorldState) (between : List WorldState) (v : WorldState) → Leads w between v → StaysKept w.kept v.kept
+pub leads-keep : (w : WorldState) (between : List WorldState) (v : WorldState) → LeadThrough w between v → StaysKept w.kept v.kept
 leads-keep w [] v is = subst (λ (x : WorldState). StaysKept w.kept x.kept) (sym is) (kept-same w.kept)
 leads-keep w (m ∷ ms) v leads =
     let first = (moves w leads.0.event leads.0.reply m leads.0.happens).kept in
     let rest = leads-keep m ms v leads.1 in
     record { notes = λ n note h. rest.notes n note (first.notes n note h); replies = λ n reply h. rest.replies n reply (first.replies n reply h) }
 
-pub leads-ready : (w : WorldState) (between : List WorldState) (v : WorldState) → Leads w between v → KeepsReady w.keys → KeepsReady v.keys
+pub leads-ready : (w : WorldState) (between : List WorldState) (v : WorldState) → LeadThrough w between v → KeepsReady w.keys → KeepsReady v.keys
 leads-ready w [] v is ready = subst (λ (x : WorldState). KeepsReady x.keys) (sym is) ready
 leads-ready w (m ∷ ms) v leads ready = leads-ready m ms v leads.1 ((moves w leads.0.event leads.0.reply m leads.0.happens).ready ready)

@@ -1,6 +1,6 @@
 -- The keys of zone files are decrypted, and ready keys are of the current version.
-use Rattle.std.proofs.Common.{◌≡◌, ℕ, zero, suc, ◌/◌, ◌<◌, Bool, true, false, List, [], ◌∷◌, length, Option, Some, None, Ok, slice_get, refl, sym, ap, subst, ◌∙◌, arith}
-use Rattle.std.specs.Prelude.{not, ◌||◌, ◌==◌, nat_le}
+use Rattle.std.proofs.Common.{◌≡◌, ◌⊎◌, inl, inr, ℕ, zero, suc, ◌/◌, ◌<◌, Bool, true, false, List, [], ◌∷◌, length, Option, Some, None, Ok, slice_get, refl, sym, ap, subst, ◌∙◌, arith}
+use Rattle.std.specs.Prelude.{IsTrue, not, ◌||◌, ◌==◌, nat_le}
 use Rattle.std.specs.Option.{option_map}
 use Rattle.std.proofs.lemmas.Bool.Decides.{nat_tests}
 use Rattle.std.proofs.lemmas.Slice.Eq.{bytes_eq-Decides}
@@ -16,7 +16,7 @@ use Rattle.eek_seal.specs.Seal.{unseal}
 use Rattle.eek_seal.proofs.SealLemmas.{length-unseal}
 use Rattle.key_rows.specs.declared.rows.KeyCommand.{KeyCommand}
 use Rattle.key_rows.specs.declared.rows.KeyRow.{KeyRow}
-use Rattle.key_rows.specs.Sound.{IsTable}
+use Rattle.key_rows.specs.Sound.{IsKeyTable}
 use Rattle.key_rows.specs.Table.{is_named, material_of}
 use Rattle.kms_calls.specs.declared.calls.KmsRefusal.{KmsRefusal}
 use Rattle.kms_acls.specs.declared.answers.Shown.{Shown}
@@ -28,8 +28,10 @@ use Rattle.prop_text.specs.declared.lines.PropLine.{PropLine}
 use Rattle.kms_core.specs.Calls.{first_cause, is_malformed, is_of_other_key, lacks_version, row_of, sent_causes}
 use Rattle.kms_core.specs.Laws.{sent_of}
 use Rattle.kms_core.specs.Opening.{unseals}
+use Rattle.kms_core.specs.Service.{ReadFails}
 use Rattle.kms_core.specs.State.{IsService, KmsState, ServiceState}
 use Rattle.kms_core.specs.Users.{ServesUser}
+use Rattle.kms_store.specs.Store.{is_older}
 use Rattle.kms_core.proofs.DepositLemmas.{queue_stands}
 use Rattle.kms_core.proofs.QueueLemmas.{ready_are}
 use Rattle.kms_core.proofs.UserLemmas.{permitted_decrypt_opens}
@@ -60,7 +62,7 @@ sealed-long : (o : Option Dek) (iv : Iv) (sealed dek : Dek) → option_map (λ m
 sealed-long None iv sealed dek h = absurd cc
 sealed-long (Some material) iv sealed dek h = sym (length-unseal material iv sealed) ∙ ap length (some-is (unseal material iv sealed) dek h)
 
-sent-free : (s : KmsState) (row : KeyRow) (e : Edek) (dek : Dek) → IsTable s.table → In row s.table.rows → row.name ≡ e.version.key → unseals s.table.rows e ≡ Some dek → length dek ≡ row.bits / 8 → length e.iv ≡ 16
+sent-free : (s : KmsState) (row : KeyRow) (e : Edek) (dek : Dek) → IsKeyTable s.table → In row s.table.rows → row.name ≡ e.version.key → unseals s.table.rows e ≡ Some dek → length dek ≡ row.bits / 8 → length e.iv ≡ 16
     → first_cause (sent_causes (row_of s e.version.key) e.version.key (sent_of e)) ≡ None
 sent-free s row e dek table i name opens long vector =
     ap (λ (o : Option KeyRow). first_cause (sent_causes o e.version.key (sent_of e))) found
@@ -83,31 +85,44 @@ sent-free s row e dek table i name opens long vector =
         neither (length e.sealed == row.bits / 8) (length e.iv == 16)
         (eq-eqb (length e.sealed) (row.bits / 8) (sealed-long (material_of s.table.rows e.version) e.iv e.sealed dek opens ∙ long)) (eq-eqb (length e.iv) 16 vector)
 
-module _ (s : ServiceState) (edek : Edek) (row : KeyRow) (lines : List PropLine) (user : Text) (shown : Shown) (words : ℕ → ℕ) (now before later : ℕ) (result : KmsReply) (drawn : ℕ) (logged : List KeyCommand) (s' : ServiceState)
+module _ (s : ServiceState) (edek : Edek) (row : KeyRow) (lines : List PropLine) (user : Text) (shown : Shown) (words : ℕ → ℕ) (now before later : ℕ) (tells : Bool) (result : KmsReply) (drawn : ℕ) (logged : List KeyCommand) (s' : ServiceState)
     (fit : IsService s) (j : In row s.keys.table.rows) (permitted : verdict lines user (call.Decrypt edek.version.key (sent_of edek)) ≡ Ok shown)
-    (serves : ServesUser lines user s words now (call.Decrypt edek.version.key (sent_of edek)) (Rose before later) result drawn logged s') where
-  decrypts : (dek : Dek) → row.name ≡ edek.version.key → unseals s.keys.table.rows edek ≡ Some dek → length dek ≡ row.bits / 8 → length edek.iv ≡ 16 → (result ≡ reply.Key dek) × (s' ≡ s)
+    (serves : ServesUser lines user s words now (call.Decrypt edek.version.key (sent_of edek)) (Rose before later) (IsTrue tells) result drawn logged s')
+    (telling : IsTrue (is_older s.keys.table edek.version) → IsTrue tells) where
+  abbrev Decrypted : Dek → Type 0
+  Decrypted dek = ((result ≡ reply.Key dek) ⊎ ReadFails s.keys (call.Decrypt edek.version.key (sent_of edek)) (Rose before later) result) × (s' ≡ s)
+
+  decrypts : (dek : Dek) → row.name ≡ edek.version.key → unseals s.keys.table.rows edek ≡ Some dek → length dek ≡ row.bits / 8 → length edek.iv ≡ 16 → Decrypted dek
   decrypts dek name opens long vector =
       let free = sent-free s.keys row edek dek fit.table j name opens long vector in
-      let answered = permitted_decrypt_opens lines user s words now edek.version.key (sent_of edek) before later result drawn logged s' shown permitted free serves in
-      let dek_is : Some answered.0.0 ≡ Some dek = sym answered.0.1 ∙ opens in
-      (answered.0.2 ∙ ap reply.Key (some-is answered.0.0 dek dek_is), answered.1)
+      let answered = permitted_decrypt_opens lines user s words now edek.version.key (sent_of edek) before later tells result drawn logged s' shown permitted free serves telling in (
+        elim answered.0 [
+          | inl opened ↦ (let dek_is : Some opened.0 ≡ Some dek = sym opened.1 ∙ opens in inl (opened.2 ∙ ap reply.Key (some-is opened.0 dek dek_is)))
+          | inr fails ↦ inr fails
+        ],
+        answered.1,
+      )
 
 pub opened_keys_decrypt : OpenedKeysDecrypt
-opened_keys_decrypt s edek draw row lines user shown words now before later result drawn logged s' fit opens j born permitted serves =
+opened_keys_decrypt s edek draw row lines user shown words now before later tells result drawn logged s' fit opens j born permitted serves telling =
     let its = opens row j born in
-    decrypts s edek row lines user shown words now before later result drawn logged s' fit j permitted serves draw.dek
+    decrypts s edek row lines user shown words now before later tells result drawn logged s' fit j permitted serves telling draw.dek
     (opens-named row edek draw.dek its.opens) (opens-among s.keys.table.rows row edek draw.dek fit.table.names j its.opens) its.long its.vector
 
 pub zone_files_decrypt : ZoneFilesDecrypt
-zone_files_decrypt past names s file edek draw row lines user shown words now before later result drawn logged s' fit promise i is entered j born permitted serves =
+zone_files_decrypt past names s file edek draw row lines user shown words now before later tells result drawn logged s' fit promise i is entered j born permitted serves telling =
     let its = promise.open_up file edek i is in
     let same : its.draw ≡ draw = promise.one_draw file.id its.draw draw its.entered entered in
     let born_its : row.birth ≡ its.draw.birth = born ∙ ap (λ (d : Draw). d.birth) (sym same) in
     let has = its.opens row j born_its in
     let long = its.long row j born_its in
-    let answered = decrypts s edek row lines user shown words now before later result drawn logged s' fit j permitted serves its.draw.dek (has.0 ∙ sym its.of_key) has.1 long.0 long.1 in
-    (answered.0 ∙ ap (λ (d : Draw). reply.Key d.dek) same, answered.1)
+    let answered = decrypts s edek row lines user shown words now before later tells result drawn logged s' fit j permitted serves telling its.draw.dek (has.0 ∙ sym its.of_key) has.1 long.0 long.1 in (
+      elim answered.0 [
+        | inl opened ↦ inl (opened ∙ ap (λ (d : Draw). reply.Key d.dek) same)
+        | inr fails ↦ inr fails
+      ],
+      answered.1,
+    )
 
 -- ready keys
 

@@ -14,9 +14,9 @@ use Rattle.world_run.proofs.DrawLemmas.{only-named, opens-alone, opens-among, op
 use Rattle.world_run.proofs.KeySteps.{KeepsBirths, StepsOn, known-world, service-births, step-on}
 use Rattle.world_run.proofs.Laters.{opens-later, same-later, then-later}
 use Rattle.run_laws.specs.Keys.{OpenedKeysStayOpen}
-use Rattle.run_laws.specs.Runs.{DiskTells, Leads}
+use Rattle.run_laws.specs.Runs.{DiskTells, LeadThrough}
 
-leads-on : (w : WorldState) (between : List WorldState) (v : WorldState) → Leads w between v → KeepsBirths w.keys → StepsOn w.keys v.keys
+leads-on : (w : WorldState) (between : List WorldState) (v : WorldState) → LeadThrough w between v → KeepsBirths w.keys → StepsOn w.keys v.keys
 leads-on w [] v is k = subst (λ (x : WorldState). StepsOn w.keys x.keys) (sym is) (same-later w.keys.keys.table, k)
 leads-on w (m ∷ ms) v leads k =
     let h = leads.0.happens in

@@ -34,7 +34,7 @@ use Rattle.name_core.proofs.AskLaws.{ids_stay_below}
 use Rattle.name_core.proofs.AskLemmas.{each-append, each-both, each-map, no-key, open-holds, open-id}
 use Rattle.name_core.proofs.KeepLemmas.{keeps-of}
 use Rattle.name_core.proofs.RowLemmas.{BelowId, zone-row, zone-stands}
-use Rattle.run_laws.specs.Names.{Answers, RefusedForItsZone}
+use Rattle.run_laws.specs.Names.{GivesWanted, RefusedForItsZone}
 use Rattle.name_core.proofs.SentFiles.{updated-files}
 use Rattle.run_laws.proofs.ZoneMarks.{HasKey, LeavesZone, keys-stay, not-zones, zone-holds}
 use Rattle.name_core.proofs.AskSteps.{AnyCall, Stays, any-step, steps}
@@ -191,7 +191,7 @@ same-key under key rows p empty have is = go (zone_of rows p) (zone-holds (HasKe
     go None has is = sym (empty (sym is))
     go (Some e) has is = has (sym is)
 
-fits : (key : Option KeyName) (edek : Option Edek) → Answers (wanted_under key) edek → fits_zone key edek ≡ true
+fits : (key : Option KeyName) (edek : Option Edek) → GivesWanted (wanted_under key) edek → fits_zone key edek ≡ true
 fits None None h = refl
 fits None (Some e) h = absurd h
 fits (Some k) None h = absurd h
@@ -207,7 +207,7 @@ first true rest never h = refl
 first false rest never h = absurd (never refl h)
 
 -- an encrypted key that fits what was wanted fits the zone, if it is the same
-key-fits : (s : NameState) (p : List (List ℕ)) (rows : List Entry) (edek : Option Edek) → All (HasKey (zone_id s.table.rows p) (key_of_zone s.table.rows p)) rows → Answers (wanted_under (key_of_zone s.table.rows p)) edek
+key-fits : (s : NameState) (p : List (List ℕ)) (rows : List Entry) (edek : Option Edek) → All (HasKey (zone_id s.table.rows p) (key_of_zone s.table.rows p)) rows → GivesWanted (wanted_under (key_of_zone s.table.rows p)) edek
     → not (same_id (zone_id rows p) (zone_id s.table.rows p)) ≡ false → is_other_key rows p edek ≡ false
 key-fits s p rows edek have answers same =
     ap (λ (key : Option KeyName). not (fits_zone key edek))
@@ -221,7 +221,7 @@ fitting false true why another e h = another cc
 fitting false false why another e h = absurd cc
 
 for-its-zone : (s : NameState) (k : Ask) (rows : List Entry) (statuses : List StatusRow) (edek : Option Edek) → All (HasKey (zone_id s.table.rows (path_asked k)) (key_of_zone s.table.rows (path_asked k))) rows
-    → Answers (wanted s.table.rows k) edek → first_cause (finish_causes rows statuses (ask_opened s k) edek k) ≡ Some refusal.ZoneChanged → is_other_zone rows (ask_opened s k) ≡ true
+    → GivesWanted (wanted s.table.rows k) edek → first_cause (finish_causes rows statuses (ask_opened s k) edek k) ≡ Some refusal.ZoneChanged → is_other_zone rows (ask_opened s k) ≡ true
 for-its-zone s (ask.Create p) rows statuses edek have answers stops =
     let c1 = past (starts_reserved p) refusal.BadPath _ (λ e. cc) stops in
     let c2 = past (is_none (row_at rows (parent p))) refusal.NoSuchPath _ (λ e. cc) c1 in
@@ -247,7 +247,7 @@ for-its-zone s (ask.Submit p) rows statuses edek have answers stops =
 pub refused_for_its_zone : RefusedForItsZone
 refused_for_its_zone s user k note s' between t edek logged t' names asks same reaches answers finish =
     subst (λ (rows : List Entry). is_other_zone rows a ≡ true) (sym stop.left)
-    (for-its-zone s.names k (settled stop.kept t).table.rows (settled stop.kept t).table.statuses edek (now.table stop.kept) (subst (λ (x : AskNote). Answers x.want edek) did.0 answers) stop.stops)
+    (for-its-zone s.names k (settled stop.kept t).table.rows (settled stop.kept t).table.statuses edek (now.table stop.kept) (subst (λ (x : AskNote). GivesWanted x.want edek) did.0 answers) stop.stops)
   where
     a : OpenAsk
     a = ask_opened s.names k

@@ -35,7 +35,7 @@ use Rattle.world_run.specs.declared.kept.KeptReply.TheVariants.{ToAsk}
 use Rattle.kms_core.proofs.ReadyLemmas.{KeepsReady, service_keeps_ready}
 use Rattle.world_run.specs.Step.{AskAt, DrawActs, FinishReply, after_ask, ask_line, finish_line, kept_reply, zone_with}
 use Rattle.world_run.specs.World.{WorldState, next_note, next_reply, numbered, with_names}
-use Rattle.run_laws.specs.Runs.{Happens, Leads, RunsRefuseForTheZone, ask_of}
+use Rattle.run_laws.specs.Runs.{DiskTells, HappensIn, LeadThrough, RunsRefuseForTheZone, ask_of}
 use Rattle.name_core.proofs.AskSteps.{AnyAsk, any-asks, asks-keep, keeps-reopened}
 use Rattle.run_laws.proofs.DrawnKeys.{Fits, drawn-fits}
 use Rattle.run_laws.proofs.EventSteps.{Reopened, Rests, Stepped, Turns, leads-keep, leads-ready, moves, numbered-last}
@@ -73,10 +73,10 @@ since-turn id e s t u (Reopened kept is) h =
       how = inr tt;
     })
 
-since-event : (id : ℕ) (s : NameService) (w : WorldState) (e : Event) (outcome : Line) (w' : WorldState) → Happens w e outcome w' → Since id s w.names → Since id s w'.names
+since-event : (id : ℕ) (s : NameService) (w : WorldState) (e : Event) (outcome : Line) (w' : WorldState) → HappensIn w e outcome w' → Since id s w.names → Since id s w'.names
 since-event id s w e outcome w' happens h = since-turn id e s w.names w'.names (moves w e outcome w' happens).names h
 
-since-run : (id : ℕ) (s : NameService) (w : WorldState) (between : List WorldState) (v : WorldState) → Leads w between v → Since id s w.names → Since id s v.names
+since-run : (id : ℕ) (s : NameService) (w : WorldState) (between : List WorldState) (v : WorldState) → LeadThrough w between v → Since id s w.names → Since id s v.names
 since-run id s w [] v is h = subst (λ (x : WorldState). Since id s x.names) (sym is) h
 since-run id s w (m ∷ ms) v leads h = since-run id s m ms v leads.1 (since-event id s w leads.0.event leads.0.reply m leads.0.happens h)
 
@@ -108,7 +108,7 @@ accepts w user k (Some p) a number note w' is (inl acts) = go acts.result acts.a
           noted = subst (λ (n : ℕ). numbered w'.kept.notes n ≡ Some note) at (ap (λ (x : WorldState). numbered x.kept.notes (next_note w)) left ∙ numbered-last w.kept.notes kept ∙ ap Some same);
         }
 
-asks-so : (w : WorldState) (e : Event) (a : Ask) (number : ℕ) (note : AskNote) (w' : WorldState) → ask_of e ≡ Some a → Happens w e (line.Asked number note) w' → Accepts w a number note w'
+asks-so : (w : WorldState) (e : Event) (a : Ask) (number : ℕ) (note : AskNote) (w' : WorldState) → ask_of e ≡ Some a → HappensIn w e (line.Asked number note) w' → Accepts w a number note w'
 asks-so w (event.AskCreate user p) a number note w' is h = accepts w user ask.Create (read_path p) a number note w' is h.step.1
 asks-so w (event.AskZone user p key) a number note w' is h = accepts w user (zone_with key) (read_path p) a number note w' is h.step.1
 asks-so w (event.AskSubmit user p) a number note w' is h = accepts w user ask.Submit (read_path p) a number note w' is h.step.1
@@ -153,11 +153,11 @@ record Gives (note : AskNote) (number : ℕ) (w : WorldState) : Type 0 where
   fits : Fits note.want given
 
 gives : (w : WorldState) (number : ℕ) (note : AskNote) (reply_number : ℕ) (reply : Option KmsReply) (w' : WorldState) → numbered w.kept.notes number ≡ Some note
-    → KeepsReady w.keys → Happens w (event.Draw number) (line.Replied reply_number reply) w' → Gives note reply_number w'
+    → KeepsReady w.keys → HappensIn w (event.Draw number) (line.Replied reply_number reply) w' → Gives note reply_number w'
 gives w number note reply_number reply w' noted keeps h =
-    go (subst (λ (o : Option AskNote). DrawActs h.lines w h.words h.now o AnyFault (line.Replied reply_number reply) h.drawn h.logged w') noted h.step)
+    go (subst (λ (o : Option AskNote). DrawActs h.lines w h.words h.now o AnyFault DiskTells (line.Replied reply_number reply) h.drawn h.logged w') noted h.step)
   where
-    go : DrawActs h.lines w h.words h.now (Some note) AnyFault (line.Replied reply_number reply) h.drawn h.logged w' → Gives note reply_number w'
+    go : DrawActs h.lines w h.words h.now (Some note) AnyFault DiskTells (line.Replied reply_number reply) h.drawn h.logged w' → Gives note reply_number w'
     go (inr full) = let f = full.reply_is in absurd cc
     go (inl d) =
         let tells = d.reply_is in
@@ -166,7 +166,7 @@ gives w number note reply_number reply w' noted keeps h =
           given = answer_of d.reply;
           replied = subst (λ (n : ℕ). numbered w'.kept.replies n ≡ Some (kept_reply note d.reply)) at
               (ap (λ (x : WorldState). numbered x.kept.replies (next_reply w)) d.left ∙ numbered-last w.kept.replies (kept_reply note d.reply));
-          fits = drawn-fits h.lines w.keys h.words h.now note.want AnyFault d.reply h.drawn d.commands d.keys keeps d.acts;
+          fits = drawn-fits h.lines w.keys h.words h.now note.want AnyFault DiskTells d.reply h.drawn d.commands d.keys keeps d.acts;
         }
 
 -- the finish, which is refused with ZoneChanged
@@ -174,7 +174,7 @@ record Ends (w : WorldState) (id : ℕ) (given : KeyAnswer) (w' : WorldState) : 
   ops : List EditOp
   serves : FinishServes w.names id given AnyFault (Err refusal.ZoneChanged) ops w'.names
 
-ends : (w : WorldState) (number : ℕ) (id : ℕ) (given : KeyAnswer) (w' : WorldState) → numbered w.kept.replies number ≡ Some (ToAsk id given) → Happens w (event.Finish number) (line.Refused refusal.ZoneChanged) w' → Ends w id given w'
+ends : (w : WorldState) (number : ℕ) (id : ℕ) (given : KeyAnswer) (w' : WorldState) → numbered w.kept.replies number ≡ Some (ToAsk id given) → HappensIn w (event.Finish number) (line.Refused refusal.ZoneChanged) w' → Ends w id given w'
 ends w number id given w' replied h = go (subst (λ (o : Option KeptReply). FinishReply w o AnyFault (line.Refused refusal.ZoneChanged) h.drawn h.logged w') replied h.step)
   where
     refused : (result : Result (Unit {0}) NameRefusal) → line.Refused refusal.ZoneChanged ≡ finish_line result → result ≡ Err refusal.ZoneChanged

@@ -36,7 +36,7 @@ use Rattle.world_run.proofs.RowsAfter.{not-both, rows-after}
 use Rattle.world_run.proofs.WorldLemmas.{rows-settled}
 use Rattle.world_run.proofs.ZoneKeeps.{KeptZone, rekeyed-zone, zone-after}
 use Rattle.run_laws.specs.Names.{FilesKeepZones, HasFile, KeepZones}
-use Rattle.run_laws.specs.Runs.{Leads, RunsKeepZones}
+use Rattle.run_laws.specs.Runs.{LeadThrough, RunsKeepZones}
 use Rattle.name_core.proofs.AskSteps.{AnyCall, Invariant, Stays, any-step, keeps-reopened, step}
 use Rattle.run_laws.proofs.EventSteps.{Reopened, Rests, Stepped, Turns, moves}
 use Rattle.run_laws.proofs.RunLaw.{IsNot}
@@ -194,7 +194,7 @@ module _ (id : ℕ) (zone : Option ℕ) where
         };
       })
 
-  still-run : (n : ℕ) → id < n → (w : WorldState) (between : List WorldState) (v : WorldState) → Leads w between v → Still n w.names → Still n v.names
+  still-run : (n : ℕ) → id < n → (w : WorldState) (between : List WorldState) (v : WorldState) → LeadThrough w between v → Still n w.names → Still n v.names
   still-run n low w [] v is h = subst (λ (x : WorldState). Still n x.names) (sym is) h
   still-run n low w (m ∷ ms) v leads h =
       let first = leads.0 in

@@ -33,7 +33,7 @@ DiskTells = Unit {0}
 
 -- From w, an event may get this answer and leave w': under the properties of some lines, with some words to come, at some moment. A
 -- store fault may come at any time.
-pub record Happens (w : WorldState) (e : Event) (result : Line) (w' : WorldState) : Type 0 where
+pub record HappensIn (w : WorldState) (e : Event) (result : Line) (w' : WorldState) : Type 0 where
   pub lines : List PropLine
   pub words : ℕ → ℕ
   pub now : ℕ
@@ -45,12 +45,12 @@ pub record Happens (w : WorldState) (e : Event) (result : Line) (w' : WorldState
 pub record SomeHappens (w w' : WorldState) : Type 0 where
   pub event : Event
   pub reply : Line
-  pub happens : Happens w event reply w'
+  pub happens : HappensIn w event reply w'
 
 -- from w, events that leave these worlds one after another lead to v
-abbrev pub Leads : WorldState → List WorldState → WorldState → Type 0
-Leads w [] v = v ≡ w
-Leads w (m ∷ ms) v = SomeHappens w m × Leads m ms v
+abbrev pub LeadThrough : WorldState → List WorldState → WorldState → Type 0
+LeadThrough w [] v = v ≡ w
+LeadThrough w (m ∷ ms) v = SomeHappens w m × LeadThrough m ms v
 
 -- the ask that an event makes: for a file, for a zone or for a re-encryption, if its path keeps the rule of paths
 abbrev pub ask_of : Event → Option Ask
@@ -99,7 +99,7 @@ RunsKeepSnapshots =
 abbrev pub RunsKeepZones : Type 0
 RunsKeepZones =
     (w : WorldState) (between : List WorldState) (v : WorldState) (kept later : Bool)
-    → IsNames w.names → Leads w between v → KeepZones (settled kept w.names).table.rows (settled later v.names).table.rows
+    → IsNames w.names → LeadThrough w between v → KeepZones (settled kept w.names).table.rows (settled later v.names).table.rows
 
 -- An ask is accepted; after any events its draw is made, by the number of its note, and the reply is kept; after any events its finish
 -- takes that reply. If it is refused with ZoneChanged, the zone that the path lies in is another one than when the ask was made.
@@ -107,7 +107,7 @@ abbrev pub RunsRefuseForTheZone : Type 0
 RunsRefuseForTheZone =
     (w : WorldState) (e : Event) (ask : Ask) (number : ℕ) (note : AskNote) (asked : WorldState) (before_draw : List WorldState) (ready : WorldState)
     (reply_number : ℕ) (reply : Option KmsReply) (drawn : WorldState) (before_finish : List WorldState) (last refused : WorldState)
-    → IsNames w.names → IsService w.keys → ask_of e ≡ Some ask → Happens w e (line.Asked number note) asked → Leads asked before_draw ready
-    → Happens ready (event.Draw number) (line.Replied reply_number reply) drawn → Leads drawn before_finish last
-    → Happens last (event.Finish reply_number) (line.Refused refusal.ZoneChanged) refused
+    → IsNames w.names → IsService w.keys → ask_of e ≡ Some ask → HappensIn w e (line.Asked number note) asked → LeadThrough asked before_draw ready
+    → HappensIn ready (event.Draw number) (line.Replied reply_number reply) drawn → LeadThrough drawn before_finish last
+    → HappensIn last (event.Finish reply_number) (line.Refused refusal.ZoneChanged) refused
     → is_other_zone refused.names.names.table.rows (ask_opened w.names.names ask) ≡ true

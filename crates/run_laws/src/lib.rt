@@ -39,8 +39,8 @@ pub fn files_keep_their_zones()
 
 /// A user who may decrypt opens each zone file, live or in a snapshot: the decryption of its
 /// encrypted key answers the data key drawn for it, while the key exists under which that was drawn.
-/// It takes no memory, reads no disk and changes nothing. The encrypted key that an info shows is that
-/// of such a file.
+/// It takes no memory and changes nothing. It reads a disk only for an older material, and is refused
+/// with `StoreFault` if that fails. The encrypted key that an info shows is that of such a file.
 pub fn zone_files_are_decrypted()
     ensures decrypted { ZoneFilesDecrypt }
     ensures shown { ShownKeysAreKept }

@@ -79,7 +79,7 @@ module _ {D W : Type 0} (state : D → DiskState) (to_come : W → ℕ → ℕ) 
         lists = acts.lists;
         tells = acts.disk.run.tells;
         stands = acts.disk.stands;
-        verdict = judged lines user _ _ _ c _ reply _ _ _ acts.serves;
+        verdict = judged lines user _ _ _ c _ _ reply _ _ _ acts.serves;
       }
   key_step v key_act.Ticket (key_acted.Ticket ticket) v' are s = record {
     logged = [];

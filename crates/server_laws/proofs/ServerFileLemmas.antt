@@ -22,11 +22,11 @@ use Rattle.name_history.specs.Asked.{NameAllows}
 use Rattle.name_history.specs.Entries.{NameEntry}
 use Rattle.name_history.specs.Steps.{NameSteps}
 use Rattle.name_history.specs.Views.{NameView}
-use Rattle.world_run.specs.Ledger.{Ledger, Past, Starts}
+use Rattle.world_run.specs.Ledger.{FilesAtSubmission, Ledger, Past}
 use Rattle.world_run.specs.Linked.{SoundFiles}
 use Rattle.world_run.proofs.KeptLemmas.{image_kept}
 use Rattle.thread_laws.specs.Cells.{AreClosed, KeptByCells}
-use Rattle.thread_laws.specs.Files.{BeginsFrom, IsFileOf, IsLeftBy}
+use Rattle.thread_laws.specs.Files.{BeginsFrom, IsFileOf, IsLeftByServices}
 use Rattle.thread_laws.specs.Promise.{KnownAfter}
 use Rattle.thread_laws.specs.Worlds.{keys_of_view}
 use Rattle.thread_laws.proofs.CellLemmas.{closed_cells_keep_files}
@@ -54,7 +54,7 @@ known_later v (e ∷ es) past last (next, first, rest) =
       entries = first.entries ++ more.entries;
       ledger = more.ledger ∙ ap (λ (l : Ledger). l ++ more.entries) first.ledger ∙ append_assoc past.ledger first.entries more.entries;
       begun = _;
-      starts = more.starts ∙ ap (λ (l : Starts). l ++ more.begun) first.starts ∙ append_assoc past.starts _ more.begun;
+      starts = more.starts ∙ ap (λ (l : FilesAtSubmission). l ++ more.begun) first.starts ∙ append_assoc past.starts _ more.begun;
     }
 
 -- a log couldn't be opened
@@ -126,6 +126,9 @@ module _ {D W I O : Type 0} (state : D → DiskState) (to_come : W → ℕ → �
       first_names_rules state to_come [] acts r.n (subst (λ (s : Option (NameView D W)). LegalOf (NameSteps {D = D} {W = W} state to_come) (NameAllows {S = NameView D W}) s acts) name_start r.ran.names_closed.legal)
       (subst (λ (v : NameView D W). IsNames (service_of v.names)) (last_act state to_come serves conns old new door door' first second props words port end failed r) r.ran.names_rules)
 
+  start_telling : Tells (state r.k.disk)
+  start_telling = let k = r.opened.logs.keys_opened in k.tells ∙ k.taken.own_tells ∙ telling
+
   begins : BeginsFrom old.reads r.k r.n
   begins =
       let k = r.opened.logs.keys_opened in
@@ -163,7 +166,7 @@ module _ {D W I O : Type 0} (state : D → DiskState) (to_come : W → ℕ → �
     keys_closed = r.ran.keys_closed;
   }
 
-  left : (c : Image) → IsFileOf (state r.last_k.disk) 0 (c 0) → IsFileOf (state r.last_n.disk) 1 (c 1) → IsLeftBy state r.last_k r.last_n c
+  left : (c : Image) → IsFileOf (state r.last_k.disk) 0 (c 0) → IsFileOf (state r.last_n.disk) 1 (c 1) → IsLeftByServices state r.last_k r.last_n c
   left c keys_file names_file =
       let key_log = r.ran.keys_run.log keys_telling in
       let edit_log = r.ran.names_run names_telling in
@@ -193,7 +196,7 @@ module _ {D W I O : Type 0} (state : D → DiskState) (to_come : W → ℕ → �
 
   kept : ServerKept state past new r.n acts r.last_k r.last_n
   unfolding closed
-  kept = by_cells (closed_cells_keep_files state to_come past old.reads r.k r.n r.last_k r.last_n sound begins closed)
+  kept = by_cells (closed_cells_keep_files state to_come past old.reads r.k r.n r.last_k r.last_n sound begins start_telling closed)
 
 module _ {D W I O : Type 0} (state : D → DiskState) (to_come : W → ℕ → ℕ) (serves : Serving I O D W) (conns : ℕ) (old new : YardState) (door door' : DoorState I O) where
   pub servers_keep_files : ServersKeepFiles state to_come serves conns old new door door'

@@ -1,7 +1,7 @@
 -- What a server that has ended leaves: each log holds what the entries of its history acknowledged.
 use Rattle.std.specs.Prelude.{◌≡◌, ◌⊎◌, ℕ, ⊤, IsTrue, List, [], ◌∷◌, ◌++◌, Bool, Result}
 use Rattle.std.specs.List.{AllByRecursion}
-use Rattle.hk_base.specs.Disk.{DiskState}
+use Rattle.hk_base.specs.Disk.{DiskState, Tells}
 use Rattle.hk_base.specs.Faults.{Rose}
 use Rattle.hk_base.specs.declared.texts.Text.{Text}
 use Rattle.key_rows.specs.Table.{Table}
@@ -60,7 +60,7 @@ module _ {D W : Type 0} (state : D → DiskState) (to_come : W → ℕ → ℕ) 
   pub record CallAcknowledges (v : KmsView D W) (user : Text) (c : KmsCall) (reply : KmsReply) (v' : KmsView D W) (logged : List KeyCommand) : Type 0 where
     pub now : ℕ
     pub drawn : ℕ
-    pub serves : ServesUser lines user (service_of (running v.kms)) (to_come v.words) now c (Rose (state v.disk).faults (state v'.disk).faults) reply drawn logged (service_of (running v'.kms))
+    pub serves : ServesUser lines user (service_of (running v.kms)) (to_come v.words) now c (Rose (state v.disk).faults (state v'.disk).faults) (Tells (state v.disk)) reply drawn logged (service_of (running v'.kms))
 
   -- an entry acknowledged these commands; a ticket and a deposit acknowledge none
   abbrev pub Acknowledges : KmsView D W → KmsAct → KmsActed → KmsView D W → List KeyCommand → Type 0

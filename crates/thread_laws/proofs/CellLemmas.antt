@@ -14,7 +14,7 @@ use Rattle.name_history.specs.Steps.{NameSteps}
 use Rattle.name_history.specs.Views.{NameView}
 use Rattle.world_run.specs.Ledger.{Past}
 use Rattle.thread_laws.specs.Cells.{ClosedCellsKeepFiles, KeptByCells}
-use Rattle.thread_laws.specs.Files.{KeepsFiles}
+use Rattle.thread_laws.specs.Files.{KeepsServedFiles}
 use Rattle.thread_laws.proofs.FileLemmas.{histories_keep_files}
 
 some-same : {X : Type 0} (x y : X) → Some x ≡ Some y → x ≡ y
@@ -32,7 +32,7 @@ module _ {D W : Type 0} (state : D → DiskState) (to_come : W → ℕ → ℕ) 
   start-stays before [] v legal = refl
   start-stays before (e ∷ es) v legal = start-stays (before ++ e ∷ []) es e.after legal.2 ∙ legal.1.grows.start
 
-  kept-at : (past : Past) (k : KmsView D W) (v : NameView D W) (es : List (NameEntry D W)) (all : List (KmsEntry D W)) → KeepsFiles state to_come past k v es → IsPrefix (state_after v es).keys.seen all → KeysLegalFrom (Some k) all
+  kept-at : (past : Past) (k : KmsView D W) (v : NameView D W) (es : List (NameEntry D W)) (all : List (KmsEntry D W)) → KeepsServedFiles state to_come past k v es → IsPrefix (state_after v es).keys.seen all → KeysLegalFrom (Some k) all
       → KeptByCells state past v es (state_after k all) (state_after v es)
   kept-at past k v es all h begins legal =
       subst (λ (xs : List (KmsEntry D W)). KeptByCells state past v es (state_after k xs) (state_after v es)) begins.1
@@ -42,10 +42,10 @@ module _ {D W : Type 0} (state : D → DiskState) (to_come : W → ℕ → ℕ) 
       from = subst (KeysLegalFrom (Some k)) (sym begins.1) legal
 
   pub closed_cells_keep_files : ClosedCellsKeepFiles state to_come
-  closed_cells_keep_files past c k v last_k last_v s begins a =
+  closed_cells_keep_files past c k v last_k last_v s begins telling a =
       subst (λ (x : KmsView D W). KeptByCells state past v es x last_v) (sym last-key)
       (subst (λ (x : NameView D W). KeptByCells state past v es (state_after k a.keys_closed.all) x) (sym last-name)
-      (kept-at past k v es a.keys_closed.all (histories_keep_files state to_come past c k v es s begins legal) shown keys-legal))
+      (kept-at past k v es a.keys_closed.all (histories_keep_files state to_come past c k v es s begins telling legal) shown keys-legal))
     where
       es : List (NameEntry D W)
       es = a.names_closed.all

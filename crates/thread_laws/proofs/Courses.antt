@@ -3,7 +3,7 @@
 use Rattle.std.proofs.Common.{◌≡◌, ◌⊎◌, inl, inr, ℕ, zero, suc, ◌≤◌, Bool, true, false, List, [], ◌∷◌, ◌++◌, drop, length, Option, Some, None, Ok, refl, sym, ap, subst, ◌∙◌, arith}
 use Rattle.std.specs.declared.result.Result.{Result}
 use mathlib.Core.List.{IsPrefix}
-use Rattle.hk_base.specs.Disk.{DiskState}
+use Rattle.hk_base.specs.Disk.{DiskState, Tells}
 use Rattle.hk_base.specs.Faults.{Rose}
 use Rattle.hk_base.specs.declared.names.Edek.{Edek}
 use Rattle.hk_base.specs.declared.names.KeyName.{KeyName}
@@ -60,7 +60,7 @@ use Rattle.name_history.specs.declared.acts.NameAct.TheVariants as act
 use Rattle.name_history.specs.declared.acts.NameActed.{NameActed}
 use Rattle.name_history.specs.declared.acts.NameActed.TheVariants as acted
 use Rattle.world_run.specs.declared.kept.KeptReply.TheVariants.{ToBatch}
-use Rattle.world_run.specs.Ledger.{Draw, Hidden, Ledger, Past, Starts, entered as entered_if, enters, entry_under, past_of, starts_of}
+use Rattle.world_run.specs.Ledger.{Draw, FilesAtSubmission, Hidden, Ledger, Past, entered as entered_if, enters, entry_under, past_of, starts_of}
 use Rattle.world_run.specs.Linked.{LinkedWorld, ReplyCameBack, ServicesFit, given}
 use Rattle.world_run.specs.Promise.{In}
 use Rattle.world_run.specs.Step.{finish_line}
@@ -69,7 +69,7 @@ use Rattle.world_run.proofs.Members.{in-filter, in-right}
 use Rattle.thread_laws.specs.Promise.{CallEnters, FinishEnters, Generates, KnownAfter, KnownNext}
 use Rattle.thread_laws.specs.Serving.{Uses}
 use Rattle.thread_laws.specs.Worlds.{keys_of_view, world_with}
-use Rattle.thread_laws.proofs.EntryTies.{keys-tied}
+use Rattle.thread_laws.proofs.EntryTies.{history-tells, keys-tied}
 use Rattle.thread_laws.proofs.Finishes.{finish-key-next}
 use Rattle.thread_laws.proofs.FrontLemmas.{HasFront, front-of, gave-front}
 use Rattle.thread_laws.proofs.HistoryLemmas.{legal-second, state_after-both}
@@ -122,7 +122,7 @@ record Grown {D W : Type 0} (first : KmsView D W) (v : NameView D W) (h : Hidden
   ledger : hidden.ledger ≡ h.ledger
   starts : hidden.starts ≡ h.starts
 
-module _ {D W : Type 0} (state : D → DiskState) (to_come : W → ℕ → ℕ) (first : KmsView D W) where
+module _ {D W : Type 0} (state : D → DiskState) (to_come : W → ℕ → ℕ) (first : KmsView D W) (telling : Tells (state first.disk)) where
   abbrev KeysLegalAfter : List (KmsEntry D W) → KmsView D W → List (KmsEntry D W) → Type 0
   KeysLegalAfter before s es = LegalAfter (KmsSteps {D = D} {W = W} state to_come) (KmsAllows {S = KmsView D W}) before s es
 
@@ -130,6 +130,7 @@ module _ {D W : Type 0} (state : D → DiskState) (to_come : W → ℕ → ℕ) 
   grown-by : (v : NameView D W) (t : Tied first v) (more : List (KmsEntry D W)) → KeysLegalAfter [] first (v.keys.seen ++ more) → Grown first v t.hidden (v.keys.seen ++ more)
   grown-by v t more legal =
       let k = keys-tied state to_come (service_of v.names) v.keys.ended v.fronts v.keys.seen more (state_after first v.keys.seen) t.kept t.hidden t.fit t.linked t.ties
+      (history-tells state to_come [] v.keys.seen more first legal ∙ telling)
       (legal-second (KmsSteps {D = D} {W = W} state to_come) (KmsAllows {S = KmsView D W}) [] v.keys.seen more first legal) in
       let same = sym (state_after-both first v.keys.seen more) in
       record {
@@ -157,7 +158,7 @@ module _ {D W : Type 0} (state : D → DiskState) (to_come : W → ℕ → ℕ) 
   generate-asked s x name r call answered step =
       let lines = step.has_lines.0 in
       let acts = step.acts lines step.has_lines.1 in
-      elim (generate-gives lines superuser (keys_of_view s) (to_come s.words) step.now (Rose (state s.disk).faults (state x.after.disk).faults) acts.drawn acts.logged (keys_of_view x.after) name r acts.serves) [
+      elim (generate-gives lines superuser (keys_of_view s) (to_come s.words) step.now (Rose (state s.disk).faults (state x.after.disk).faults) (Tells (state s.disk)) acts.drawn acts.logged (keys_of_view x.after) name r acts.serves) [
         | inl none ↦ inl none
         | inr one ↦ inr (record { edek = one.edek; is = one.reply_is; gave = record { name = name; call_is = call; reply_is = answered ∙ ap key_acted.Call one.reply_is } })
       ]
@@ -166,7 +167,7 @@ module _ {D W : Type 0} (state : D → DiskState) (to_come : W → ℕ → ℕ) 
   metadata-asked s x name r step =
       let lines = step.has_lines.0 in
       let acts = step.acts lines step.has_lines.1 in
-      metadata-gives lines superuser (keys_of_view s) (to_come s.words) step.now (Rose (state s.disk).faults (state x.after.disk).faults) acts.drawn acts.logged (keys_of_view x.after) name r acts.serves
+      metadata-gives lines superuser (keys_of_view s) (to_come s.words) step.now (Rose (state s.disk).faults (state x.after.disk).faults) (Tells (state s.disk)) acts.drawn acts.logged (keys_of_view x.after) name r acts.serves
 
   same-act : (q p : KmsAct) → Some q ≡ Some p → p ≡ q
   same-act q p is = cc is
@@ -393,7 +394,7 @@ module _ {D W : Type 0} (state : D → DiskState) (to_come : W → ℕ → ℕ) 
       entries = s.entered;
       enters = s.enters;
       ledger = s.next.ledger ∙ ap (λ (l : Ledger). l ++ s.entered) g.ledger;
-      starts = s.next.starts ∙ ap (λ (l : Starts). l ++ starts_of (settled true (service_of e.after.names)).table s.entered) g.starts;
+      starts = s.next.starts ∙ ap (λ (l : FilesAtSubmission). l ++ starts_of (settled true (service_of e.after.names)).table s.entered) g.starts;
     };
   }
 

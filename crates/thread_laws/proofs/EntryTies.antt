@@ -1,6 +1,6 @@
 -- Each entry of the keys that is seen is tied: its ticket, its draw and its answers to outstanding batches are kept.
 use Rattle.std.proofs.Common.{◌≡◌, inl, inr, ℕ, List, [], ◌∷◌, ◌++◌, Option, Some, refl, sym, ap, subst, ◌∙◌, append_assoc, append-nil}
-use Rattle.hk_base.specs.Disk.{DiskState}
+use Rattle.hk_base.specs.Disk.{DiskState, Tells}
 use Rattle.hk_base.specs.Faults.{Rose}
 use Rattle.hk_base.specs.declared.names.Edek.{Edek}
 use Rattle.hk_base.specs.declared.names.KeyName.{KeyName}
@@ -70,7 +70,7 @@ pub record EntryTied {D W : Type 0} (w : WorldState) (h : Hidden) (seen : List (
   pub ties : Ties later.kept later.hidden (seen ++ x ∷ []) ended outstanding
 
 module _ {D W : Type 0} (state : D → DiskState) (to_come : W → ℕ → ℕ) (s : KmsView D W) (names : NameService) (kept : Kept) (h : Hidden) (seen : List (KmsEntry D W)) (ended : List ℕ) (outstanding : List Front) (x : KmsEntry D W)
-    (fit : ServicesFit (world_with (keys_of_view s) names kept)) (then : IsService (keys_of_view x.after)) (l : LinkedWorld (world_with (keys_of_view s) names kept) h) (t : Ties kept h seen ended outstanding) where
+    (fit : ServicesFit (world_with (keys_of_view s) names kept)) (then : IsService (keys_of_view x.after)) (l : LinkedWorld (world_with (keys_of_view s) names kept) h) (t : Ties kept h seen ended outstanding) (telling : Tells (state s.disk)) where
   abbrev w : WorldState
   w = world_with (keys_of_view s) names kept
 
@@ -110,12 +110,13 @@ module _ {D W : Type 0} (state : D → DiskState) (to_come : W → ℕ → ℕ) 
       let lines = step.has_lines.0 in
       let acts = step.acts lines step.has_lines.1 in
       let fault : Type 0 = Rose (state s.disk).faults (state x.after.disk).faults in
-      elim (generate-gives lines superuser w.keys (to_come s.words) step.now fault acts.drawn acts.logged (keys_of_view x.after) name reply acts.serves) [
+      let tells : Type 0 = Tells (state s.disk) in
+      elim (generate-gives lines superuser w.keys (to_come s.words) step.now fault tells acts.drawn acts.logged (keys_of_view x.after) name reply acts.serves) [
         | inl none ↦ unasked-tied superuser name 1 reply call (λ e g. no-key-ready reply e none (same-reply reply (key_reply.Ready (e ∷ [])) (sym answered ∙ g.reply_is))) step
         | inr one ↦ drawn-tied name call (
-            generated lines w h x (to_come s.words) step.now name fault acts.drawn acts.logged one.edek call (answered ∙ ap acted.Call one.reply_is) fit then
+            generated lines w h x (to_come s.words) step.now name fault tells acts.drawn acts.logged one.edek call (answered ∙ ap acted.Call one.reply_is) fit then
             (subst (λ (r : KmsReply). OneGenerated w.keys name r (keys_of_view x.after)) one.reply_is one)
-            (subst (λ (r : KmsReply). ServesUser lines superuser w.keys (to_come s.words) step.now (key_call.Generate name 1) fault r acts.drawn acts.logged (keys_of_view x.after)) one.reply_is acts.serves) l
+            (subst (λ (r : KmsReply). ServesUser lines superuser w.keys (to_come s.words) step.now (key_call.Generate name 1) fault tells r acts.drawn acts.logged (keys_of_view x.after)) one.reply_is acts.serves) l
             )
       ]
 
@@ -133,7 +134,7 @@ module _ {D W : Type 0} (state : D → DiskState) (to_come : W → ℕ → ℕ) 
   batch-tied user name sent reply call answered step =
       let lines = step.has_lines.0 in
       let acts = step.acts lines step.has_lines.1 in
-      let all = served-all lines w h (keys_of_view x.after) (to_come s.words) step.now user name sent (Rose (state s.disk).faults (state x.after.disk).faults) reply acts.drawn acts.logged fit (record { keys = then; names = fit.names }) l acts.serves
+      let all = served-all lines w h (keys_of_view x.after) (to_come s.words) step.now user name sent (Rose (state s.disk).faults (state x.after.disk).faults) (Tells (state s.disk)) reply acts.drawn acts.logged fit (record { keys = then; names = fit.names }) l acts.serves telling
       outstanding t.fronts in
       record {
         later = all.later;
@@ -172,6 +173,25 @@ module _ {D W : Type 0} (state : D → DiskState) (to_come : W → ℕ → ℕ) 
   entry-tied (act.Deposit key) (acted.Ticket o) call answered may step = absurd step
   entry-tied (act.Deposit key) (acted.Deposit a) call answered may step = deposit-tied key a may call step
 
+-- an entry leaves the disk one that tells its content, or does not, as it was
+pub step-tells : {D W : Type 0} (state : D → DiskState) (to_come : W → ℕ → ℕ) (s t : KmsView D W) (q : KmsAct) (r : KmsActed) → KmsDoes state to_come s q r t → (state t.disk).tells ≡ (state s.disk).tells
+step-tells state to_come s t (act.Call user c) (acted.Call reply) step = (step.acts step.has_lines.0 step.has_lines.1).disk.run.tells
+step-tells state to_come s t (act.Call user c) (acted.Ticket o) step = absurd step
+step-tells state to_come s t (act.Call user c) (acted.Deposit a) step = absurd step
+step-tells state to_come s t act.Ticket (acted.Call reply) step = absurd step
+step-tells state to_come s t act.Ticket (acted.Ticket o) step = ap (λ (v : KmsView _ _). (state v.disk).tells) step.same
+step-tells state to_come s t act.Ticket (acted.Deposit a) step = absurd step
+step-tells state to_come s t (act.Deposit key) (acted.Call reply) step = absurd step
+step-tells state to_come s t (act.Deposit key) (acted.Ticket o) step = absurd step
+step-tells state to_come s t (act.Deposit key) (acted.Deposit a) step = ap (λ (v : KmsView _ _). (state v.disk).tells) step.left
+
+-- so do the entries of a legal history
+pub history-tells : {D W : Type 0} (state : D → DiskState) (to_come : W → ℕ → ℕ) (before es more : List (KmsEntry D W)) (s : KmsView D W)
+    → LegalAfter (KmsSteps {D = D} {W = W} state to_come) (KmsAllows {S = KmsView D W}) before s (es ++ more) → (state (state_after s es).disk).tells ≡ (state s.disk).tells
+history-tells state to_come before [] more s legal = refl
+history-tells state to_come before (x ∷ es) more s legal =
+    history-tells state to_come (before ++ x ∷ []) es more x.after legal.2 ∙ step-tells state to_come s x.after x.call x.reply legal.1.does
+
 -- all entries that were seen since
 
 pub record KeysTied {D W : Type 0} (w : WorldState) (h : Hidden) (last : KmsView D W) (seen : List (KmsEntry D W)) (ended : List ℕ) (outstanding : List Front) : Type 0 where
@@ -181,15 +201,16 @@ pub record KeysTied {D W : Type 0} (w : WorldState) (h : Hidden) (last : KmsView
 
 module _ {D W : Type 0} (state : D → DiskState) (to_come : W → ℕ → ℕ) (names : NameService) (ended : List ℕ) (outstanding : List Front) where
   pub keys-tied : (seen es : List (KmsEntry D W)) (s : KmsView D W) (kept : Kept) (h : Hidden) → ServicesFit (world_with (keys_of_view s) names kept) → LinkedWorld (world_with (keys_of_view s) names kept) h → Ties kept h seen ended outstanding
-      → LegalAfter (KmsSteps {D = D} {W = W} state to_come) (KmsAllows {S = KmsView D W}) seen s es → KeysTied (world_with (keys_of_view s) names kept) h (state_after s es) (seen ++ es) ended outstanding
-  keys-tied seen [] s kept h fit l t legal = record {
+      → Tells (state s.disk) → LegalAfter (KmsSteps {D = D} {W = W} state to_come) (KmsAllows {S = KmsView D W}) seen s es → KeysTied (world_with (keys_of_view s) names kept) h (state_after s es) (seen ++ es) ended outstanding
+  keys-tied seen [] s kept h fit l t telling legal = record {
     later = same-later (world_with (keys_of_view s) names kept) h l;
     ties = subst (λ (xs : List (KmsEntry D W)). Ties kept h xs ended outstanding) (sym (append-nil seen)) t;
     fit = fit.keys;
   }
-  keys-tied seen (x ∷ es) s kept h fit l t legal =
-      let first = entry-tied state to_come s names kept h seen ended outstanding x fit legal.1.after l t x.call x.reply refl refl legal.0 legal.1.does in
-      let rest = keys-tied (seen ++ x ∷ []) es x.after first.later.kept first.later.hidden (record { keys = legal.1.after; names = fit.names }) first.later.linked first.ties legal.2 in
+  keys-tied seen (x ∷ es) s kept h fit l t telling legal =
+      let first = entry-tied state to_come s names kept h seen ended outstanding x fit legal.1.after l t telling x.call x.reply refl refl legal.0 legal.1.does in
+      let rest = keys-tied (seen ++ x ∷ []) es x.after first.later.kept first.later.hidden (record { keys = legal.1.after; names = fit.names }) first.later.linked first.ties
+      (step-tells state to_come s x.after x.call x.reply legal.1.does ∙ telling) legal.2 in
       record {
         later = then-later (world_with (keys_of_view s) names kept) h (keys_of_view x.after) (keys_of_view (state_after x.after es)) first.later rest.later;
         ties = subst (λ (xs : List (KmsEntry D W)). Ties rest.later.kept rest.later.hidden xs ended outstanding) (append_assoc seen (x ∷ []) es) rest.ties;

@@ -24,7 +24,7 @@ use Rattle.kms_cell.specs.Tickets.{KmsAllows}
 use Rattle.kms_cell.specs.Views.{KmsView}
 use Rattle.name_history.specs.Views.{NameView}
 use Rattle.world_run.specs.Acknowledged.{Acknowledged, HoldsLogs}
-use Rattle.world_run.specs.Ledger.{Draw, Hidden, Ledger, Past, Starts, drawn_before, past_of}
+use Rattle.world_run.specs.Ledger.{Draw, FilesAtSubmission, Hidden, Ledger, Past, drawn_before, past_of}
 use Rattle.world_run.specs.Linked.{IsOldBirth, IsRecordedBirth, LinkedTables, LinkedWorld, ServicesFit, SoundFiles}
 use Rattle.world_run.specs.Promise.{In}
 use Rattle.world_run.specs.World.{RunningWorld, none_kept, world_of}
@@ -35,7 +35,7 @@ use Rattle.world_run.proofs.Members.{numbered-in}
 use Rattle.world_run.proofs.RowsAfter.{files-opened}
 use Rattle.world_run.proofs.SoundLemmas.{none-replied}
 use Rattle.world_run.proofs.WorldLemmas.{draws-later, ledger-more}
-use Rattle.thread_laws.specs.Files.{HistoriesKeepFiles, IsFileOf, IsLeftBy, LeavesSound, SoundFilesBeginLinked}
+use Rattle.thread_laws.specs.Files.{HistoriesKeepFiles, IsFileOf, IsLeftByServices, LeavesSound, SoundFilesBeginLinked}
 use Rattle.thread_laws.specs.Keys.{StaysOpen}
 use Rattle.thread_laws.specs.Promise.{BeginsLinked}
 use Rattle.thread_laws.specs.Worlds.{world_with}
@@ -124,7 +124,7 @@ stands-as d e log payloads unsettled same s = record {
 }
 
 keys-stand : (d e : DiskState) (store : keys.StoreState) (commands : List KeyCommand) → IsAs d e store.log.file → IsKeyStoreOf e store commands → IsKeyStoreOf d store commands
-keys-stand d e store commands same s = record { spelled = s.spelled; makes = s.makes; waits = s.waits; log = stands-as d e store.log (map spelling commands) (option_map spelling store.pending) same s.log }
+keys-stand d e store commands same s = record { spelled = s.spelled; makes = s.makes; waits = s.waits; log = stands-as d e store.log (map spelling commands) (option_map spelling store.pending) same s.log; materials = s.materials }
 
 names-stand : (d e : DiskState) (r : RunningNames) (ops : List EditOp) → IsAs d e r.store.log.log.file → IsNamesystemOf e r ops → IsNamesystemOf d r ops
 names-stand d e r ops same s = record {
@@ -154,7 +154,7 @@ sound-as p q c ledger starts below s = record {
   keys = s.keys;
   names = s.names;
   linked = λ found found_names. placed (settled_table found s.more s.table) (settled_log found_names s.more_ops s.made).table (
-      subst (λ (x : Starts). LinkedTables (record { ledger = q.ledger; place = p.place; starts = x }) (settled_table found s.more s.table) (settled_log found_names s.more_ops s.made).table) starts
+      subst (λ (x : FilesAtSubmission). LinkedTables (record { ledger = q.ledger; place = p.place; starts = x }) (settled_table found s.more s.table) (settled_log found_names s.more_ops s.made).table) starts
       (subst (λ (l : Ledger). LinkedTables (record { ledger = l; place = p.place; starts = p.starts }) (settled_table found s.more s.table) (settled_log found_names s.more_ops s.made).table) ledger
       (s.linked found found_names))
       );
@@ -209,8 +209,8 @@ module _ {D W : Type 0} (state : D → DiskState) (to_come : W → ℕ → ℕ) 
       m : StaysOpen (service_of v.names) t.hidden last
       m = keys_keep_files_open state to_come v.keys.seen more (state_after k v.keys.seen) (service_of v.names) t.kept t.hidden t.fit t.linked t.ties.tickets second
 
-      at : IsLeftBy state last v c
-      at = subst (λ (s : KmsView D W). IsLeftBy state s v c) (state_after-both k v.keys.seen more) left
+      at : IsLeftByServices state last v c
+      at = subst (λ (s : KmsView D W). IsLeftByServices state s v c) (state_after-both k v.keys.seen more) left
 
       sound : SoundFiles (past_of m.hidden) c
       sound =
@@ -218,7 +218,7 @@ module _ {D W : Type 0} (state : D → DiskState) (to_come : W → ℕ → ℕ) 
           (record { keys = rules-after state to_come v.keys.seen more (state_after k v.keys.seen) second t.fit.keys; names = t.fit.names }) m.linked at.key_log at.edit_log at.keys at.names
 
   pub histories_keep_files : HistoriesKeepFiles state to_come
-  histories_keep_files past c k v es s begins legal =
+  histories_keep_files past c k v es s begins telling legal =
       let b : BeginsLinked k v (drawn_before past) = sound_files_begin_linked past c k v s begins in
-      let last = tied-after state to_come k [] es v (begins-tied state to_come k v (drawn_before past) b) b.start legal in
+      let last = tied-after state to_come k telling [] es v (begins-tied state to_come k v (drawn_before past) b) b.start legal in
       record { last = past_of last.tied.hidden; known = last.known; kept = tied-keeps state to_come k (state_after v es) last.tied; sound = tied-leaves k (state_after v es) last.tied }

@@ -97,9 +97,9 @@ pub record WithDraw {D W : Type 0} (w : WorldState) (h : Hidden) (x : KmsEntry D
   pub has : (e : Edek) → Gave x e → HasReply later.kept later.hidden x e
 
 -- the call that an ask wants, by whomever it was made: an event in which a note of its own is drawn
-module _ {D W : Type 0} (lines : List PropLine) (w : WorldState) (h : Hidden) (x : KmsEntry D W) (words : ℕ → ℕ) (now : ℕ) (name : KeyName) (fault : Type 0) (drawn : ℕ) (commands : List KeyCommand) (edek : Edek)
+module _ {D W : Type 0} (lines : List PropLine) (w : WorldState) (h : Hidden) (x : KmsEntry D W) (words : ℕ → ℕ) (now : ℕ) (name : KeyName) (fault tells : Type 0) (drawn : ℕ) (commands : List KeyCommand) (edek : Edek)
     (call_is : x.call ≡ key_act.Call superuser (key_call.Generate name 1)) (reply_is : x.reply ≡ key_acted.Call (key_reply.Ready (edek ∷ []))) (fit : ServicesFit w) (is_service : IsService (keys_of_view x.after)) (one : OneGenerated w.keys name (key_reply.Ready (edek ∷ [])) (keys_of_view x.after))
-    (serves : ServesUser lines superuser w.keys words now (key_call.Generate name 1) fault (key_reply.Ready (edek ∷ [])) drawn commands (keys_of_view x.after)) (l : LinkedWorld w h) where
+    (serves : ServesUser lines superuser w.keys words now (key_call.Generate name 1) fault tells (key_reply.Ready (edek ∷ [])) drawn commands (keys_of_view x.after)) (l : LinkedWorld w h) where
   abbrev keys : ServiceState
   keys = keys_of_view x.after
 
@@ -132,9 +132,9 @@ module _ {D W : Type 0} (lines : List PropLine) (w : WorldState) (h : Hidden) (x
 
   linked-after : LinkedWorld after then
   linked-after =
-      keeps-world lines before words now (event.Draw number) fault (Unit {0}) (line.Replied (next_reply before) (Some its_reply)) drawn (of_keys commands) after h tt
+      keeps-world lines before words now (event.Draw number) fault tells (line.Replied (next_reply before) (Some its_reply)) drawn (of_keys commands) after h tt
       (record { keys = fit.keys; names = fit.names }) fit.names.table.rules
-      (subst (λ (o : Option AskNote). DrawActs lines before words now o fault (line.Replied (next_reply before) (Some its_reply)) drawn (of_keys commands) after)
+      (subst (λ (o : Option AskNote). DrawActs lines before words now o fault tells (line.Replied (next_reply before) (Some its_reply)) drawn (of_keys commands) after)
       (sym (numbered-last w.kept.notes its_note (length w.kept.notes) refl))
       (inl (record { reply = Some its_reply; keys = keys; commands = commands; acts = record { reply = its_reply; serves = serves; reply_is = refl }; logged_is = refl; reply_is = refl; left = refl })))
       (noted w h its_note l)

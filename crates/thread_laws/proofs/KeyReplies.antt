@@ -19,6 +19,7 @@ use Rattle.name_calls.specs.Answers.{answer_of}
 use Rattle.prop_text.specs.declared.lines.PropLine.{PropLine}
 use Rattle.world_run.specs.Linked.{given}
 use Rattle.world_run.proofs.DrawLemmas.{generate-one, meta-answers}
+use Rattle.kms_core.proofs.MemoryReads.{acts-from-memory}
 
 -- one encrypted key was generated, of a key that exists
 pub record OneGenerated (s : ServiceState) (name : KeyName) (result : KmsReply) (s' : ServiceState) : Type 0 where
@@ -30,11 +31,11 @@ pub record OneGenerated (s : ServiceState) (name : KeyName) (result : KmsReply) 
 abbrev pub NoKey : KmsReply → Type 0
 NoKey result = given (answer_of (Some result)) ≡ None
 
-module _ (lines : List PropLine) (user : Text) (s : ServiceState) (words : ℕ → ℕ) (now : ℕ) (fault : Type 0) (drawn : ℕ) (logged : List KeyCommand) (s' : ServiceState) where
-  pub generate-gives : (name : KeyName) (result : KmsReply) → ServesUser lines user s words now (call.Generate name 1) fault result drawn logged s' → NoKey result ⊎ OneGenerated s name result s'
+module _ (lines : List PropLine) (user : Text) (s : ServiceState) (words : ℕ → ℕ) (now : ℕ) (fault tells : Type 0) (drawn : ℕ) (logged : List KeyCommand) (s' : ServiceState) where
+  pub generate-gives : (name : KeyName) (result : KmsReply) → ServesUser lines user s words now (call.Generate name 1) fault tells result drawn logged s' → NoKey result ⊎ OneGenerated s name result s'
   generate-gives name result serves = go (verdict lines user (call.Generate name 1)) serves
     where
-      go : (v : Result Shown Denied) → ServesUnder v s words now (call.Generate name 1) fault result drawn logged s' → NoKey result ⊎ OneGenerated s name result s'
+      go : (v : Result Shown Denied) → ServesUnder v s words now (call.Generate name 1) fault tells result drawn logged s' → NoKey result ⊎ OneGenerated s name result s'
       go (Err denied) d = inl (subst NoKey (sym d.reply_is) refl)
       go (Ok shown) p = elim (generate-one s.keys words now name p.reply drawn p.serves.changed p.serves.acts) [
         | inl refused ↦ inl (subst NoKey (sym (p.reply_is ∙ refused.1)) refl)
@@ -44,17 +45,17 @@ module _ (lines : List PropLine) (user : Text) (s : ServiceState) (words : ℕ �
         ])
       ]
 
-  pub metadata-gives : (name : KeyName) (result : KmsReply) → ServesUser lines user s words now (call.Metadata name) fault result drawn logged s' → NoKey result
+  pub metadata-gives : (name : KeyName) (result : KmsReply) → ServesUser lines user s words now (call.Metadata name) fault tells result drawn logged s' → NoKey result
   metadata-gives name result serves = go (verdict lines user (call.Metadata name)) serves
     where
-      go : (v : Result Shown Denied) → ServesUnder v s words now (call.Metadata name) fault result drawn logged s' → NoKey result
+      go : (v : Result Shown Denied) → ServesUnder v s words now (call.Metadata name) fault tells result drawn logged s' → NoKey result
       go (Err denied) d = subst NoKey (sym d.reply_is) refl
-      go (Ok shown) p = subst NoKey (sym p.reply_is) (meta-answers s.keys words now name p.reply drawn s.keys p.serves.acts)
+      go (Ok shown) p = subst NoKey (sym p.reply_is) (meta-answers s.keys words now name p.reply drawn s.keys (acts-from-memory s words now (call.Metadata name) fault tells p.reply drawn logged s' refl p.serves))
 
   -- the call for a batch changes nothing
-  pub batch-same : (name : KeyName) (sent : List RawEdek) (result : KmsReply) → ServesUser lines user s words now (call.Batch name sent) fault result drawn logged s' → s' ≡ s
+  pub batch-same : (name : KeyName) (sent : List RawEdek) (result : KmsReply) → ServesUser lines user s words now (call.Batch name sent) fault tells result drawn logged s' → s' ≡ s
   batch-same name sent result serves = go (verdict lines user (call.Batch name sent)) serves
     where
-      go : (v : Result Shown Denied) → ServesUnder v s words now (call.Batch name sent) fault result drawn logged s' → s' ≡ s
+      go : (v : Result Shown Denied) → ServesUnder v s words now (call.Batch name sent) fault tells result drawn logged s' → s' ≡ s
       go (Err denied) d = d.same
       go (Ok shown) p = p.serves.same

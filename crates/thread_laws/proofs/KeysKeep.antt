@@ -1,6 +1,6 @@
 -- Every legal history of the keys keeps a world linked, with the same entries.
 use Rattle.std.proofs.Common.{◌≡◌, ◌⊎◌, inl, inr, ℕ, List, [], ◌∷◌, ◌++◌, Option, Some, sym, subst, ◌∙◌}
-use Rattle.hk_base.specs.Disk.{DiskState}
+use Rattle.hk_base.specs.Disk.{DiskState, Tells}
 use Rattle.hk_base.specs.Faults.{Rose}
 use Rattle.hk_base.specs.declared.texts.Text.{Text}
 use Rattle.eek_seal.specs.Tickets.{SealedKey}
@@ -52,7 +52,7 @@ module _ {D W : Type 0} (state : D → DiskState) (to_come : W → ℕ → ℕ) 
       let lines = step.has_lines.0 in
       let acts = step.acts lines step.has_lines.1 in
       record {
-        later = call-later lines (world_with (keys_of_view s) names kept) h (keys_of_view t) (to_come s.words) step.now user c (Rose (state s.disk).faults (state t.disk).faults) reply acts.drawn acts.logged fit l acts.serves;
+        later = call-later lines (world_with (keys_of_view s) names kept) h (keys_of_view t) (to_come s.words) step.now user c (Rose (state s.disk).faults (state t.disk).faults) (Tells (state s.disk)) reply acts.drawn acts.logged fit l acts.serves;
         gave = λ u is. absurd cc;
       }
 

@@ -67,12 +67,12 @@ then-later w h keys next l m = record {
 }
 
 -- a call of a user is an event
-pub call-later : (lines : List PropLine) (w : WorldState) (h : Hidden) (keys : ServiceState) (words : ℕ → ℕ) (now : ℕ) (user : Text) (c : KmsCall) (fault : Type 0) (reply : KmsReply) (drawn : ℕ) (commands : List KeyCommand)
-    → ServicesFit w → LinkedWorld w h → ServesUser lines user w.keys words now c fault reply drawn commands keys → Later w h keys
-call-later lines w h keys words now user c fault reply drawn commands fit l serves = record {
+pub call-later : (lines : List PropLine) (w : WorldState) (h : Hidden) (keys : ServiceState) (words : ℕ → ℕ) (now : ℕ) (user : Text) (c : KmsCall) (fault tells : Type 0) (reply : KmsReply) (drawn : ℕ) (commands : List KeyCommand)
+    → ServicesFit w → LinkedWorld w h → ServesUser lines user w.keys words now c fault tells reply drawn commands keys → Later w h keys
+call-later lines w h keys words now user c fault tells reply drawn commands fit l serves = record {
   kept = w.kept;
   hidden = moved_on w.keys.keys.ready.queues keys.keys.ready.queues drawn h;
-  linked = keeps-world lines w words now (event.Kms user c) fault (Unit {0}) (line.Kms reply) drawn (of_keys commands) (record w { keys = keys }) h tt fit fit.names.table.rules
+  linked = keeps-world lines w words now (event.Kms user c) fault tells (line.Kms reply) drawn (of_keys commands) (record w { keys = keys }) h tt fit fit.names.table.rules
       (record { reply = reply; keys = keys; commands = commands; serves = serves; logged_is = refl; reply_is = refl; left = refl }) l;
   ledger = refl;
   starts = refl;

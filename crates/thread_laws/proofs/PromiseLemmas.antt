@@ -13,7 +13,7 @@ use Rattle.kms_cell.specs.Views.{KmsView}
 use Rattle.name_history.specs.declared.fronts.Front.{Front}
 use Rattle.name_history.specs.Views.{NameView}
 use Rattle.world_run.specs.Kept.{FilesKept}
-use Rattle.world_run.specs.Ledger.{Draw, Hidden, Ledger, Past, Starts, past_of}
+use Rattle.world_run.specs.Ledger.{Draw, FilesAtSubmission, Hidden, Ledger, Past, past_of}
 use Rattle.world_run.specs.Linked.{LinkedWorld, ServicesFit}
 use Rattle.world_run.specs.Promise.{FilesOpen, In}
 use Rattle.world_run.specs.World.{WorldState, none_kept}
@@ -31,7 +31,7 @@ open-as p q keys names ledger starts f = record { open_up = g.open_up; one_draw 
   where
     g : FilesOpen (record { ledger = q.ledger; place = p.place; starts = q.starts }) keys names
     g =
-        subst (λ (s : Starts). FilesOpen (record { ledger = q.ledger; place = p.place; starts = s }) keys names) starts
+        subst (λ (s : FilesAtSubmission). FilesOpen (record { ledger = q.ledger; place = p.place; starts = s }) keys names) starts
         (subst (λ (l : Ledger). FilesOpen (record { ledger = l; place = p.place; starts = p.starts }) keys names) ledger f)
 
 -- two ids have draws of different places
@@ -68,6 +68,6 @@ module _ {D W : Type 0} (state : D → DiskState) (to_come : W → ℕ → ℕ) 
           (legal-second (KmsSteps {D = D} {W = W} state to_come) (KmsAllows {S = KmsView D W}) [] v.keys.seen more k legal)
 
   pub keeps_promise : KeepsPromise state to_come
-  keeps_promise k v es h begins legal =
-      let last = tied-after state to_come k [] es v (begins-tied k v h begins) begins.start legal in
+  keeps_promise k v es h begins telling legal =
+      let last = tied-after state to_come k telling [] es v (begins-tied k v h begins) begins.start legal in
       record { past = past_of last.tied.hidden; known = last.known; kept = tied-keeps k (state_after v es) last.tied }

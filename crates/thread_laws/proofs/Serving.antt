@@ -39,9 +39,9 @@ record ServedOne (w : WorldState) (h : Hidden) (keys : ServiceState) (note : Bat
   later : Later w h keys
   answer : In (ToBatch (reply_for note reply)) later.kept.replies
 
-serve-later : (lines : List PropLine) (w : WorldState) (h : Hidden) (keys : ServiceState) (words : ℕ → ℕ) (now : ℕ) (note : BatchNote) (fault : Type 0) (reply : KmsReply) (drawn : ℕ) (commands : List KeyCommand)
-    → ServicesFit w → LinkedWorld w h → In note w.kept.batches → ServesUser lines superuser w.keys words now (batch_call note) fault reply drawn commands keys → ServedOne w h keys note reply
-serve-later lines w h keys words now note fault reply drawn commands fit l member serves = go (in-numbered note w.kept.batches member)
+serve-later : (lines : List PropLine) (w : WorldState) (h : Hidden) (keys : ServiceState) (words : ℕ → ℕ) (now : ℕ) (note : BatchNote) (fault tells : Type 0) (reply : KmsReply) (drawn : ℕ) (commands : List KeyCommand)
+    → tells → ServicesFit w → LinkedWorld w h → In note w.kept.batches → ServesUser lines superuser w.keys words now (batch_call note) fault tells reply drawn commands keys → ServedOne w h keys note reply
+serve-later lines w h keys words now note fault tells reply drawn commands telling fit l member serves = go (in-numbered note w.kept.batches member)
   where
     answered : KeptReply
     answered = ToBatch (reply_for note reply)
@@ -54,8 +54,8 @@ serve-later lines w h keys words now note fault reply drawn commands fit l membe
       later = record {
         kept = after.kept;
         hidden = record (moved_on w.keys.keys.ready.queues keys.keys.ready.queues drawn h) { replied = h.replied ++ None ∷ [] };
-        linked = keeps-world lines w words now (event.Serve number) fault (Unit {0}) (line.Replied (next_reply w) (Some reply)) drawn (of_keys commands) after h tt fit fit.names.table.rules
-            (subst (λ (o : Option BatchNote). ServeActs lines w words now o fault (line.Replied (next_reply w) (Some reply)) drawn (of_keys commands) after) (sym at)
+        linked = keeps-world lines w words now (event.Serve number) fault tells (line.Replied (next_reply w) (Some reply)) drawn (of_keys commands) after h telling fit fit.names.table.rules
+            (subst (λ (o : Option BatchNote). ServeActs lines w words now o fault tells (line.Replied (next_reply w) (Some reply)) drawn (of_keys commands) after) (sym at)
             (inl (record { reply = reply; keys = keys; commands = commands; serves = serves; logged_is = refl; reply_is = refl; left = refl }))) l;
         ledger = refl;
         starts = refl;
@@ -73,19 +73,19 @@ pub record ServedAll (w : WorldState) (h : Hidden) (keys : ServiceState) (user :
   pub later : Later w h keys
   pub answers : (f : Front) → In f fronts → key_act.Call user (key_call.Batch name sent) ≡ batch_act f.note → In (ToBatch (reply_for f.note reply)) later.kept.replies
 
-module _ (lines : List PropLine) (w : WorldState) (h : Hidden) (keys : ServiceState) (words : ℕ → ℕ) (now : ℕ) (user : Text) (name : KeyName) (sent : List RawEdek) (fault : Type 0) (reply : KmsReply) (drawn : ℕ) (commands : List KeyCommand)
-    (fit : ServicesFit w) (then : ServicesFit (record w { keys = keys })) (l : LinkedWorld w h) (serves : ServesUser lines user w.keys words now (key_call.Batch name sent) fault reply drawn commands keys) where
+module _ (lines : List PropLine) (w : WorldState) (h : Hidden) (keys : ServiceState) (words : ℕ → ℕ) (now : ℕ) (user : Text) (name : KeyName) (sent : List RawEdek) (fault tells : Type 0) (reply : KmsReply) (drawn : ℕ) (commands : List KeyCommand)
+    (fit : ServicesFit w) (then : ServicesFit (record w { keys = keys })) (l : LinkedWorld w h) (serves : ServesUser lines user w.keys words now (key_call.Batch name sent) fault tells reply drawn commands keys) (telling : tells) where
   -- the call may be made again
-  serves-again : ServesUser lines user keys words now (key_call.Batch name sent) fault reply drawn commands keys
+  serves-again : ServesUser lines user keys words now (key_call.Batch name sent) fault tells reply drawn commands keys
   serves-again =
-      subst (λ (s : ServiceState). ServesUser lines user s words now (key_call.Batch name sent) fault reply drawn commands keys) (sym (batch-same lines user w.keys words now fault drawn commands keys name sent reply serves)) serves
+      subst (λ (s : ServiceState). ServesUser lines user s words now (key_call.Batch name sent) fault tells reply drawn commands keys) (sym (batch-same lines user w.keys words now fault tells drawn commands keys name sent reply serves)) serves
 
   -- for a batch of which it is the call
-  serves-note : (note : BatchNote) → SameBatch user superuser name (key_of_sent note.sent) sent (raw_keys note.sent) → ServesUser lines superuser keys words now (batch_call note) fault reply drawn commands keys
+  serves-note : (note : BatchNote) → SameBatch user superuser name (key_of_sent note.sent) sent (raw_keys note.sent) → ServesUser lines superuser keys words now (batch_call note) fault tells reply drawn commands keys
   serves-note note same =
-      subst (λ (u : Text). ServesUser lines u keys words now (batch_call note) fault reply drawn commands keys) same.user
-      (subst (λ (n : KeyName). ServesUser lines user keys words now (key_call.Batch n (raw_keys note.sent)) fault reply drawn commands keys) same.name
-      (subst (λ (s : List RawEdek). ServesUser lines user keys words now (key_call.Batch name s) fault reply drawn commands keys) same.sent serves-again))
+      subst (λ (u : Text). ServesUser lines u keys words now (batch_call note) fault tells reply drawn commands keys) same.user
+      (subst (λ (n : KeyName). ServesUser lines user keys words now (key_call.Batch n (raw_keys note.sent)) fault tells reply drawn commands keys) same.name
+      (subst (λ (s : List RawEdek). ServesUser lines user keys words now (key_call.Batch name s) fault tells reply drawn commands keys) same.sent serves-again))
 
   abbrev Served : List Front → Type 0
   Served fronts = ServedAll w h keys user name sent reply fronts
@@ -93,7 +93,7 @@ module _ (lines : List PropLine) (w : WorldState) (h : Hidden) (keys : ServiceSt
   one-more : (f : Front) (fs : List Front) → In f.note w.kept.batches → Served fs → Served (f ∷ fs)
   one-more f fs member s = elim (decide-batch user superuser name (key_of_sent f.note.sent) sent (raw_keys f.note.sent)) [
     | inl same ↦
-        let m = serve-later lines (world_with keys w.names s.later.kept) s.later.hidden keys words now f.note fault reply drawn commands (record { keys = then.keys; names = fit.names }) s.later.linked
+        let m = serve-later lines (world_with keys w.names s.later.kept) s.later.hidden keys words now f.note fault tells reply drawn commands telling (record { keys = then.keys; names = fit.names }) s.later.linked
         (subst (λ (bs : List BatchNote). In f.note bs) (sym s.later.batches) member) (serves-note f.note same) in
         record {
           later = then-later w h keys keys s.later m.later;
@@ -112,5 +112,5 @@ module _ (lines : List PropLine) (w : WorldState) (h : Hidden) (keys : ServiceSt
   ]
 
   pub served-all : (fronts : List Front) → ((f : Front) → In f fronts → In f.note w.kept.batches) → Served fronts
-  served-all [] members = record { later = call-later lines w h keys words now user (key_call.Batch name sent) fault reply drawn commands fit l serves; answers = λ f i call. absurd i }
+  served-all [] members = record { later = call-later lines w h keys words now user (key_call.Batch name sent) fault tells reply drawn commands fit l serves; answers = λ f i call. absurd i }
   served-all (f ∷ fs) members = one-more f fs (members f (inl refl)) (served-all fs (λ g i. members g (inr i)))

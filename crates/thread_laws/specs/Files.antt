@@ -1,6 +1,6 @@
 -- The files of both services, before and after their histories.
 use Rattle.std.specs.Prelude.{◌≡◌, ◌⊎◌, ℕ, List, [], ◌++◌, Some}
-use Rattle.hk_base.specs.Disk.{DiskState, Image}
+use Rattle.hk_base.specs.Disk.{DiskState, Image, Tells}
 use Rattle.edit_ops.specs.declared.ops.EditOp.{EditOp}
 use Rattle.eek_queues.specs.Queues.{AllQueues}
 use Rattle.key_rows.specs.declared.rows.KeyCommand.{KeyCommand}
@@ -55,7 +55,7 @@ abbrev pub IsFileOf : DiskState → ℕ → List ℕ → Type 0
 IsFileOf d file bytes = (bytes ≡ d.reads file) ⊎ d.leaves file bytes
 
 -- Both services are on their disks, each with its log, and these are the two files.
-pub record IsLeftBy {D W : Type 0} (state : D → DiskState) (k : KmsView D W) (v : NameView D W) (c : Image) : Type 0 where
+pub record IsLeftByServices {D W : Type 0} (state : D → DiskState) (k : KmsView D W) (v : NameView D W) (c : Image) : Type 0 where
   pub commands : List KeyCommand
   pub key_log : IsKeyStoreOf (state k.disk) k.kms.store commands
   pub key_file : k.kms.store.log.file ≡ 0
@@ -69,17 +69,18 @@ pub record IsLeftBy {D W : Type 0} (state : D → DiskState) (k : KmsView D W) (
 abbrev pub LeavesSound : {D W : Type 0} → (D → DiskState) → (W → ℕ → ℕ) → KmsView D W → NameView D W → Past → Type 0
 LeavesSound {D = D} {W = W} state to_come k last known =
     (more : List (KmsEntry D W)) → Legal (KmsSteps {D = D} {W = W} state to_come) (KmsAllows {S = KmsView D W}) k (last.keys.seen ++ more)
-    → (c : Image) → IsLeftBy state (state_after k (last.keys.seen ++ more)) last c → SoundFiles known c
+    → (c : Image) → IsLeftByServices state (state_after k (last.keys.seen ++ more)) last c → SoundFiles known c
 
 -- What is known after the histories: the promise on files is kept with it, and the next run may start from the files with it.
-pub record KeepsFiles {D W : Type 0} (state : D → DiskState) (to_come : W → ℕ → ℕ) (past : Past) (k : KmsView D W) (v : NameView D W) (es : List (NameEntry D W)) : Type 0 where
+pub record KeepsServedFiles {D W : Type 0} (state : D → DiskState) (to_come : W → ℕ → ℕ) (past : Past) (k : KmsView D W) (v : NameView D W) (es : List (NameEntry D W)) : Type 0 where
   pub last : Past
   pub known : KnownAfter v es past last
   pub kept : StaysKept state to_come k (state_after v es) last
   pub sound : LeavesSound state to_come k (state_after v es) last
 
--- Every legal history of the namesystem that begins from sound files keeps the promise, and leaves sound files.
+-- Every legal history of the namesystem that begins from sound files keeps the promise, and leaves sound files, if the disk of the keys
+-- tells its content.
 abbrev pub HistoriesKeepFiles : {D W : Type 0} → (D → DiskState) → (W → ℕ → ℕ) → Type 0
 HistoriesKeepFiles {D = D} {W = W} state to_come =
     (past : Past) (c : Image) (k : KmsView D W) (v : NameView D W) (es : List (NameEntry D W))
-    → SoundFiles past c → BeginsFrom c k v → NamesLegal state to_come v es → KeepsFiles state to_come past k v es
+    → SoundFiles past c → BeginsFrom c k v → Tells (state k.disk) → NamesLegal state to_come v es → KeepsServedFiles state to_come past k v es

@@ -1,6 +1,6 @@
 -- The promise on zone files for a history of the namesystem, whatever the keys do meanwhile and afterwards.
 use Rattle.std.specs.Prelude.{◌≡◌, ℕ, Bool, true, List, [], ◌∷◌, ◌++◌, Option, Some}
-use Rattle.hk_base.specs.Disk.{DiskState}
+use Rattle.hk_base.specs.Disk.{DiskState, Tells}
 use Rattle.hk_base.specs.declared.names.Edek.{Edek}
 use Rattle.hk_base.specs.declared.names.KeyName.{KeyName}
 use Rattle.kms_calls.specs.declared.calls.KmsCall.TheVariants as key_call
@@ -88,7 +88,7 @@ pub record Promised {D W : Type 0} (state : D → DiskState) (to_come : W → �
   pub known : KnownAfter v es (past_of h) past
   pub kept : StaysKept state to_come k (state_after v es) past
 
--- Every legal history of the namesystem keeps the promise.
+-- Every legal history of the namesystem keeps the promise, if the disk of the keys tells its content.
 abbrev pub KeepsPromise : {D W : Type 0} → (D → DiskState) → (W → ℕ → ℕ) → Type 0
 KeepsPromise {D = D} {W = W} state to_come =
-    (k : KmsView D W) (v : NameView D W) (es : List (NameEntry D W)) (h : Hidden) → BeginsLinked k v h → NamesLegal state to_come v es → Promised state to_come k v es h
+    (k : KmsView D W) (v : NameView D W) (es : List (NameEntry D W)) (h : Hidden) → BeginsLinked k v h → Tells (state k.disk) → NamesLegal state to_come v es → Promised state to_come k v es h

@@ -17,14 +17,14 @@ use Rattle.kms_calls.specs.declared.calls.KmsCall.{KmsCall}
 use Rattle.kms_calls.specs.declared.calls.KmsReply.{KmsReply}
 use Rattle.prop_text.specs.declared.lines.PropLine.{PropLine}
 use Rattle.world_run.specs.Acknowledged.{Acknowledged}
-use Rattle.world_run.specs.Drives.{Course, Leading, Leads, Standing, standing_after}
+use Rattle.world_run.specs.Drives.{Course, Leads, Standing, WorldLeading, standing_after}
 use Rattle.world_run.specs.Keeps.{is_restart}
 use Rattle.world_run.specs.Step.{DrawActs, FinishReply, Step, finish_line}
 use Rattle.world_run.specs.World.{WorldState, numbered, world_of}
 use Rattle.world_run.specs.declared.kept.KeptReply.{KeptReply}
 use Rattle.world_run.specs.declared.kept.KeptReply.TheVariants.{ToAsk, ToBatch}
 use Rattle.world_desk.specs.Orders.{Follow, event_after, first_event, next_in_order, reply_of, submitted_by}
-use Rattle.world_desk.specs.Worlds.{Carries, DrivesOn, Happens, IsReady, LeadsOn, Passes, events_in}
+use Rattle.world_desk.specs.Worlds.{Carries, DrivesOn, HappensAtDesk, IsDeskReady, LeadsOn, Passes, events_in}
 
 -- ---- how many events may follow
 
@@ -70,20 +70,20 @@ after_finish w (Some (ToAsk id given)) fault answer drawn logged w' acts = ap ne
 after_finish w (Some (ToBatch given)) fault answer drawn logged w' unknown = ap next_in_order unknown.reply_is
 
 -- no ask is made by the call of one
-not_asked : (lines : List PropLine) (w : WorldState) (words : ℕ → ℕ) (now : ℕ) (kept : Option AskNote) (fault : Type 0) (answer : Line) (drawn : ℕ) (logged : Acknowledged) (w' : WorldState) (number : ℕ) (note : AskNote)
-    → DrawActs lines w words now kept fault answer drawn logged w' → answer ≡ line.Asked number note → ⊥
-not_asked lines w words now None fault answer drawn logged w' number note unknown is = let e = unknown.reply_is in absurd cc
-not_asked lines w words now (Some kept) fault answer drawn logged w' number note (inl draws) is = let e = draws.reply_is in absurd cc
-not_asked lines w words now (Some kept) fault answer drawn logged w' number note (inr lacks) is = let e = lacks.reply_is in absurd cc
+not_asked : (lines : List PropLine) (w : WorldState) (words : ℕ → ℕ) (now : ℕ) (kept : Option AskNote) (fault tells : Type 0) (answer : Line) (drawn : ℕ) (logged : Acknowledged) (w' : WorldState) (number : ℕ) (note : AskNote)
+    → DrawActs lines w words now kept fault tells answer drawn logged w' → answer ≡ line.Asked number note → ⊥
+not_asked lines w words now None fault tells answer drawn logged w' number note unknown is = let e = unknown.reply_is in absurd cc
+not_asked lines w words now (Some kept) fault tells answer drawn logged w' number note (inl draws) is = let e = draws.reply_is in absurd cc
+not_asked lines w words now (Some kept) fault tells answer drawn logged w' number note (inr lacks) is = let e = lacks.reply_is in absurd cc
 
 fewer_than_three : (answer : Line) (next : Event) → NextIs answer next → events_left next < 3
 fewer_than_three answer next (Draws number note answer_is next_is) = let e = ap events_left next_is in omega (arith, e)
 fewer_than_three answer next (Finishes number next_is) = let e = ap events_left next_is in omega (arith, e)
 
-fewer_after_draw : (lines : List PropLine) (w : WorldState) (words : ℕ → ℕ) (now : ℕ) (kept : Option AskNote) (fault : Type 0) (answer : Line) (drawn : ℕ) (logged : Acknowledged) (w' : WorldState) (next : Event)
-    → DrawActs lines w words now kept fault answer drawn logged w' → NextIs answer next → events_left next < 2
-fewer_after_draw lines w words now kept fault answer drawn logged w' next acts (Draws number note answer_is next_is) = absurd (not_asked lines w words now kept fault answer drawn logged w' number note acts answer_is)
-fewer_after_draw lines w words now kept fault answer drawn logged w' next acts (Finishes number next_is) = let e = ap events_left next_is in omega (arith, e)
+fewer_after_draw : (lines : List PropLine) (w : WorldState) (words : ℕ → ℕ) (now : ℕ) (kept : Option AskNote) (fault tells : Type 0) (answer : Line) (drawn : ℕ) (logged : Acknowledged) (w' : WorldState) (next : Event)
+    → DrawActs lines w words now kept fault tells answer drawn logged w' → NextIs answer next → events_left next < 2
+fewer_after_draw lines w words now kept fault tells answer drawn logged w' next acts (Draws number note answer_is next_is) = absurd (not_asked lines w words now kept fault tells answer drawn logged w' number note acts answer_is)
+fewer_after_draw lines w words now kept fault tells answer drawn logged w' next acts (Finishes number next_is) = let e = ap events_left next_is in omega (arith, e)
 
 fewer_left : (lines : List PropLine) (w : WorldState) (words : ℕ → ℕ) (now : ℕ) (e : Event) (fault tells : Type 0) (answer : Line) (drawn : ℕ) (logged : Acknowledged) (w' : WorldState) (next : Event)
     → Step lines w words now e fault tells answer drawn logged w' → next_in_order answer ≡ Some next → events_left next < events_left e
@@ -107,7 +107,7 @@ fewer_left lines w words now (event.Zones user) fault tells answer drawn logged 
 fewer_left lines w words now (event.AskCreate user path) fault tells answer drawn logged w' next acts is = fewer_than_three answer next (next_is answer next is)
 fewer_left lines w words now (event.AskZone user path key) fault tells answer drawn logged w' next acts is = fewer_than_three answer next (next_is answer next is)
 fewer_left lines w words now (event.AskSubmit user path) fault tells answer drawn logged w' next acts is = fewer_than_three answer next (next_is answer next is)
-fewer_left lines w words now (event.Draw number) fault tells answer drawn logged w' next acts is = fewer_after_draw lines w words now (numbered w.kept.notes number) fault answer drawn logged w' next acts (next_is answer next is)
+fewer_left lines w words now (event.Draw number) fault tells answer drawn logged w' next acts is = fewer_after_draw lines w words now (numbered w.kept.notes number) fault tells answer drawn logged w' next acts (next_is answer next is)
 fewer_left lines w words now (event.Finish number) fault tells answer drawn logged w' next acts is = let none = after_finish w (numbered w.kept.replies number) fault answer drawn logged w' acts in absurd cc
 fewer_left lines w words now (event.Walk path) fault tells answer drawn logged w' next acts is = fewer_than_three answer next (next_is answer next is)
 fewer_left lines w words now (event.Serve number) fault tells answer drawn logged w' next acts is = fewer_than_three answer next (next_is answer next is)
@@ -125,14 +125,14 @@ goes_on answer next file is restart = no_restart answer next file (next_is answe
 -- ---- the events so far
 
 -- The events so far, from which this one follows.
-pub record Going {D W : Type 0} (leads : Leading D W) (first : Event) (a : Standing D W) (next : Event) (b : Standing D W) : Type 0 where
+pub record Going {D W : Type 0} (leads : WorldLeading D W) (first : Event) (a : Standing D W) (next : Event) (b : Standing D W) : Type 0 where
   pub course : Course D W
   pub leads_on : LeadsOn leads a course
   pub last : standing_after a course ≡ b
   pub follow : Follow first next_in_order (events_in course)
   pub follows : event_after first next_in_order (events_in course) ≡ Some next
 
-goes_further : {D W : Type 0} (leads : Leading D W) (first : Event) (a : Standing D W) (e : Event) (b : Standing D W) (answer : Line) (c : Standing D W) (next : Event)
+goes_further : {D W : Type 0} (leads : WorldLeading D W) (first : Event) (a : Standing D W) (e : Event) (b : Standing D W) (answer : Line) (c : Standing D W) (next : Event)
     → Going leads first a e b → leads b e answer c → next_in_order answer ≡ Some next → Going leads first a next c
 goes_further {D} {W} leads first a e b answer c next going led is = record {
   course = record { event = e; answer = answer; after = c } ∷ going.course;
@@ -142,7 +142,7 @@ goes_further {D} {W} leads first a e b answer c next going led is = record {
   follows = is;
 }
 
-carries : {D W : Type 0} (leads : Leading D W) (first : Event) (a : Standing D W) (e : Event) (b : Standing D W) (answer : Line) (c : Standing D W) (given : NameReply)
+carries : {D W : Type 0} (leads : WorldLeading D W) (first : Event) (a : Standing D W) (e : Event) (b : Standing D W) (answer : Line) (c : Standing D W) (given : NameReply)
     → Going leads first a e b → leads b e answer c → next_in_order answer ≡ None → given ≡ reply_of answer → Carries leads first a given c
 carries {D} {W} leads first a e b answer c given going led none is = record {
   course = record { event = e; answer = answer; after = c } ∷ going.course;
@@ -155,14 +155,14 @@ carries {D} {W} leads first a e b answer c given going led none is = record {
 pub record Carrying {D W : Type 0} (state : D → DiskState) (to_come : W → ℕ → ℕ) (now : ℕ) (first : Event) (a : Standing D W) (next : Event) (b : Standing D W) : Type 0 where
   pub going : (lines : List PropLine) → AreListsOf a.world.keys.acls lines → Going (Leads state to_come lines now) first a next b
   pub lists : (lines : List PropLine) → AreListsOf a.world.keys.acls lines → AreListsOf b.world.keys.acls lines
-  pub ready : IsReady state b
+  pub ready : IsDeskReady state b
   pub goes_on : (file : ℕ) → is_restart next file → ⊥
 
 -- the event leads on, under any lines with the lists
 abbrev pub LeadsSo : {D W : Type 0} → (D → DiskState) → (W → ℕ → ℕ) → ℕ → Standing D W → Event → Line → Standing D W → Type 0
 LeadsSo state to_come now b e answer c = (lines : List PropLine) → AreListsOf b.world.keys.acls lines → Leads state to_come lines now b e answer c
 
-pub carrying_begins : {D W : Type 0} (state : D → DiskState) (to_come : W → ℕ → ℕ) (now : ℕ) (first : Event) (a : Standing D W) → IsReady state a → ((file : ℕ) → is_restart first file → ⊥) → Carrying state to_come now first a first a
+pub carrying_begins : {D W : Type 0} (state : D → DiskState) (to_come : W → ℕ → ℕ) (now : ℕ) (first : Event) (a : Standing D W) → IsDeskReady state a → ((file : ℕ) → is_restart first file → ⊥) → Carrying state to_come now first a first a
 carrying_begins state to_come now first a ready goes = record {
   going = λ lines lists. record { course = []; leads_on = tt; last = refl; follow = tt; follows = refl };
   lists = λ lines lists. lists;
@@ -171,7 +171,7 @@ carrying_begins state to_come now first a ready goes = record {
 }
 
 pub carrying_on : {D W : Type 0} (state : D → DiskState) (to_come : W → ℕ → ℕ) (now : ℕ) (first : Event) (a : Standing D W) (e : Event) (b : Standing D W) (answer : Line) (c : Standing D W) (next : Event)
-    → Carrying state to_come now first a e b → LeadsSo state to_come now b e answer c → IsReady state c → next_in_order answer ≡ Some next → Carrying state to_come now first a next c
+    → Carrying state to_come now first a e b → LeadsSo state to_come now b e answer c → IsDeskReady state c → next_in_order answer ≡ Some next → Carrying state to_come now first a next c
 carrying_on {D} {W} state to_come now first a e b answer c next carrying leads ready is = record {
   going = λ lines lists. goes_further (Leads state to_come lines now) first a e b answer c next (carrying.going lines lists) (leads lines (carrying.lists lines lists)) is;
   lists = λ lines lists.
@@ -182,7 +182,7 @@ carrying_on {D} {W} state to_come now first a e b answer c next carrying leads r
 }
 
 pub carrying_fewer : {D W : Type 0} (state : D → DiskState) (to_come : W → ℕ → ℕ) (now : ℕ) (b : Standing D W) (e : Event) (answer : Line) (c : Standing D W) (next : Event)
-    → IsReady state b → LeadsSo state to_come now b e answer c → next_in_order answer ≡ Some next → events_left next < events_left e
+    → IsDeskReady state b → LeadsSo state to_come now b e answer c → next_in_order answer ≡ Some next → events_left next < events_left e
 carrying_fewer state to_come now b e answer c next ready leads is =
     let s = leads ready.0 ready.1.lists in
     fewer_left ready.0 (world_of b.world) (to_come b.words) now e _ _ answer s.drawn s.logged (world_of c.world) next s.step.step is
@@ -231,7 +231,7 @@ passes state to_come now a user asked first given b driven c first_is carries dr
 
 -- a call of the key management service is one event
 pub happens_call : {D W : Type 0} (state : D → DiskState) (to_come : W → ℕ → ℕ) (now : ℕ) (a : Standing D W) (user : List ℕ) (asked : KmsCall) (answer : Line) (given : KmsReply) (b : Standing D W)
-    → LeadsSo state to_come now a (event.Kms user asked) answer b → answer ≡ line.Kms given → Happens state to_come a user (OfKeys asked given) b
+    → LeadsSo state to_come now a (event.Kms user asked) answer b → answer ≡ line.Kms given → HappensAtDesk state to_come a user (OfKeys asked given) b
 happens_call state to_come now a user asked answer given b leads is = record {
   now = now;
   passes = λ lines lists. record {

@@ -4,7 +4,7 @@ ghost use Rattle.hk_base.specs.Faults.{Rose};
 ghost use Rattle.kms_calls.specs.declared.calls.KmsReply.{KmsReply};
 ghost use Rattle.http_wire.specs.Reading.{ahead};
 ghost use Rattle.hk_serve.specs.Served.{Served};
-ghost use Rattle.world_desk.specs.Worlds.{Happens, HoldsSame, IsReady, connection, standing, standing_at};
+ghost use Rattle.world_desk.specs.Worlds.{HappensAtDesk, HoldsSameDesk, IsDeskReady, connection, standing, standing_at};
 
 use crate::orders::{answer, answer_order};
 use hk_base::{Clock, Disk, Ended, Sink, Source, Text, Words};
@@ -68,10 +68,10 @@ impl<'a, D, W, C> WorldDesk<'a, D, W, C> {
 
 impl<'a, D: Disk, W: Words, C: Clock> Desk for WorldDesk<'a, D, W, C> {
     ghost ready = { λ d.
-        IsReady D.state (standing_at d) };
+        IsDeskReady D.state (standing_at d) };
 
-    ghost answers = { λ old user done new. HoldsSame old new ×
-        Happens D.state W.to_come (standing_at old) user done (standing_at new) };
+    ghost answers = { λ old user done new. HoldsSameDesk old new ×
+        HappensAtDesk D.state W.to_come (standing_at old) user done (standing_at new) };
 
     fn kms(&mut self, user: Text, call: KmsCall) -> KmsReply {
         let now = self.clock.now_ms();
@@ -94,13 +94,13 @@ fn serve_desk<'a, S: Source, K: Sink, D: Disk, W: Words, C: Clock>(
     sink: &mut K,
     desk: &mut WorldDesk<'a, D, W, C>,
 ) -> Ended
-    requires { IsReady D.state (standing_at desk.old) }
+    requires { IsDeskReady D.state (standing_at desk.old) }
     ensures served { (unused : List ℕ) ×
-        Served (Happens D.state W.to_come)
+        Served (HappensAtDesk D.state W.to_come)
         (connection (S.left source.old) (standing_at desk.old) (K.written sink.old))
         (connection (ahead unused (S.left source.new)) (standing_at desk.new)
         (K.written sink.new)) result }
-    ensures ready { IsReady D.state (standing_at desk.new) }
+    ensures ready { IsDeskReady D.state (standing_at desk.new) }
     ensures world { desk.new.world.ghost_name ≡ desk.old.world.ghost_name }
     ensures disk { desk.new.disk.ghost_name ≡ desk.old.disk.ghost_name }
     ensures words { desk.new.words.ghost_name ≡ desk.old.words.ghost_name }
@@ -133,15 +133,15 @@ pub fn serve_world<S: Source, K: Sink, D: Disk, W: Words, C: Clock>(
     words: &mut W,
     clock: &mut C,
 ) -> Ended
-    requires { IsReady D.state (standing disk.old world.old words.old) }
+    requires { IsDeskReady D.state (standing disk.old world.old words.old) }
     // Bytes that were read past the last request are unused.
     ensures served { (unused : List ℕ) ×
-        Served (Happens D.state W.to_come)
+        Served (HappensAtDesk D.state W.to_come)
         (connection (S.left source.old) (standing disk.old world.old words.old)
         (K.written sink.old))
         (connection (ahead unused (S.left source.new)) (standing disk.new world.new words.new)
         (K.written sink.new)) result }
-    ensures ready { IsReady D.state (standing disk.new world.new words.new) }
+    ensures ready { IsDeskReady D.state (standing disk.new world.new words.new) }
 
     ensures read_later { S.faults source.old ≤ S.faults source.new }
     ensures read_fault { result ≡ Ended.ReadFault →

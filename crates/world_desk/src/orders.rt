@@ -6,7 +6,7 @@ ghost use Rattle.prop_text.specs.declared.lines.PropLine.{PropLine};
 ghost use Rattle.world_run.specs.Drives.{Leads};
 ghost use Rattle.world_run.specs.Keeps.{is_restart};
 ghost use Rattle.world_desk.specs.Advances.{IsAfter};
-ghost use Rattle.world_desk.specs.Worlds.{Carries, DrivesOn, IsReady, Passes};
+ghost use Rattle.world_desk.specs.Worlds.{Carries, DrivesOn, IsDeskReady, Passes};
 
 use crate::events::{first_event, next_event, reply_of, submitted_by};
 use hk_base::{Disk, Text, Words};
@@ -24,14 +24,14 @@ pub(crate) fn answer<D: Disk, W: Words>(
     now: u64,
     event: Event,
 ) -> Line
-    requires ready { IsReady D.state
+    requires ready { IsDeskReady D.state
         (record { disk = disk.old; world = world.old; words = words.old }) }
     requires goes_on { (file : ℕ) → is_restart event file → ⊥ }
     ensures leads { (lines : List PropLine) → AreListsOf world.old.keys.acls lines →
         Leads D.state W.to_come lines now
         (record { disk = disk.old; world = world.old; words = words.old }) event result
         (record { disk = disk.new; world = world.new; words = words.new }) }
-    ensures ready { IsReady D.state
+    ensures ready { IsDeskReady D.state
         (record { disk = disk.new; world = world.new; words = words.new }) }
 {
     match world.step(disk, words, now, event) {
@@ -67,14 +67,14 @@ fn carry_out<D: Disk, W: Words>(
     now: u64,
     first: Event,
 ) -> NameReply
-    requires ready { IsReady D.state
+    requires ready { IsDeskReady D.state
         (record { disk = disk.old; world = world.old; words = words.old }) }
     requires goes_on { (file : ℕ) → is_restart first file → ⊥ }
     ensures carries { (lines : List PropLine) → AreListsOf world.old.keys.acls lines →
         Carries (Leads D.state W.to_come lines now) first
         (record { disk = disk.old; world = world.old; words = words.old }) result
         (record { disk = disk.new; world = world.new; words = words.new }) }
-    ensures ready { IsReady D.state
+    ensures ready { IsDeskReady D.state
         (record { disk = disk.new; world = world.new; words = words.new }) }
 {
     let mut event = first;
@@ -94,13 +94,13 @@ fn drive<D: Disk, W: Words>(
     now: u64,
     zone: Option<&NPath>,
 )
-    requires ready { IsReady D.state
+    requires ready { IsDeskReady D.state
         (record { disk = disk.old; world = world.old; words = words.old }) }
     ensures drives { (lines : List PropLine) → AreListsOf world.old.keys.acls lines →
         DrivesOn D.state W.to_come lines now (option_map (λ path. path.now) zone.entry)
         (record { disk = disk.old; world = world.old; words = words.old })
         (record { disk = disk.new; world = world.new; words = words.new }) }
-    ensures ready { IsReady D.state
+    ensures ready { IsDeskReady D.state
         (record { disk = disk.new; world = world.new; words = words.new }) }
 {
     match zone {
@@ -121,14 +121,14 @@ pub(crate) fn answer_order<D: Disk, W: Words>(
     user: Text,
     order: &NameOrder,
 ) -> NameReply
-    requires ready { IsReady D.state
+    requires ready { IsDeskReady D.state
         (record { disk = disk.old; world = world.old; words = words.old }) }
     ensures passes { (lines : List PropLine) → AreListsOf world.old.keys.acls lines →
         Passes D.state W.to_come lines now
         (record { disk = disk.old; world = world.old; words = words.old }) user
         (OfNames order.now result)
         (record { disk = disk.new; world = world.new; words = words.new }) }
-    ensures ready { IsReady D.state
+    ensures ready { IsDeskReady D.state
         (record { disk = disk.new; world = world.new; words = words.new }) }
 {
     let Ok(first) = first_event(alloc, user, order) else {

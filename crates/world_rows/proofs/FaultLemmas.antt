@@ -26,6 +26,7 @@ use Rattle.kms_calls.specs.declared.calls.KmsReply.TheVariants as key_reply
 use Rattle.kms_core.specs.Calls as keys
 use Rattle.kms_core.specs.State.{KmsState, ServiceState}
 use Rattle.kms_core.specs.Users.{ServesUnder}
+use Rattle.kms_core.proofs.MemoryReads.{acts-from-memory}
 use Rattle.name_calls.specs.ReadPaths.{read_any_path}
 use Rattle.name_calls.specs.declared.calls.NameCall.{NameCall}
 use Rattle.name_calls.specs.declared.calls.NameCall.TheVariants as name_call
@@ -48,7 +49,7 @@ use Rattle.file_orders.specs.Ends.{end_of_names}
 use Rattle.file_orders.specs.declared.ends.FsEnd.{FsEnd}
 use Rattle.file_orders.specs.declared.ends.FsEnd.TheVariants as end
 use Rattle.file_orders.proofs.EndLemmas.{names_fail}
-use Rattle.source_looks.specs.Looks.{AsksKey, Lists, Looks, children_by, children_in, reply_in, row_by, row_in}
+use Rattle.source_looks.specs.Looks.{AsksKey, ListsDirectory, Looks, children_by, children_in, reply_in, row_by, row_in}
 use Rattle.place_texts.specs.Places.{read_path_text}
 use Rattle.row_copies.specs.Clusters.{EndsFor}
 use Rattle.row_copies.proofs.CauseLemmas.{ends-failed, ends-so}
@@ -56,9 +57,9 @@ use Rattle.world_run.specs.Acknowledged.{Acknowledged}
 use Rattle.world_run.specs.Drives.{Standing}
 use Rattle.world_run.specs.Step.{PathActs, Step}
 use Rattle.world_run.specs.World.{WorldState, world_of}
-use Rattle.world_desk.specs.Worlds.{IsReady}
+use Rattle.world_desk.specs.Worlds.{IsDeskReady}
 use Rattle.world_events.specs.Events.{LeadsAt}
-use Rattle.world_rows.specs.Rows.{OnlyReads, ReadRefused, ShowsRefused}
+use Rattle.world_rows.specs.Rows.{EventRefused, IsReadEvent, ShowsRefused}
 
 -- ---- refusals of the namesystem
 
@@ -238,17 +239,17 @@ module _ (s : KmsState) (words : ℕ → ℕ) (now : ℕ) (name : KeyName) where
   key_acts answered drawn s' (keys.Plain, may, e) is = key_unless (keys.first_cause (keys.causes s (call.Metadata name))) answered drawn s' refl e is
   key_acts answered drawn s' (keys.NoRoom count, may, e) is = let r : answered ≡ key_reply.Refused key.NoMemory = ap (λ (o : keys.Outcome). o.reply) e in absurd cc
 
-key_sound : (s : ServiceState) (words : ℕ → ℕ) (now : ℕ) (fault : Type 0) (answered : KmsReply) (drawn : ℕ) (logged : List KeyCommand) (s' : ServiceState) (judged : Result Shown Denied) (name : KeyName)
-    → ServesUnder judged s words now (call.Metadata name) fault answered drawn logged s' → answered ≢ key_reply.Refused key.StoreFault
-key_sound s words now fault answered drawn logged s' (Err denied) name denies is = let r = denies.reply_is in absurd cc
-key_sound s words now fault answered drawn logged s' (Ok shown) name permits is = key_acts s.keys words now name permits.reply drawn s.keys permits.serves.acts (sym permits.reply_is ∙ is)
+key_sound : (s : ServiceState) (words : ℕ → ℕ) (now : ℕ) (fault tells : Type 0) (answered : KmsReply) (drawn : ℕ) (logged : List KeyCommand) (s' : ServiceState) (judged : Result Shown Denied) (name : KeyName)
+    → ServesUnder judged s words now (call.Metadata name) fault tells answered drawn logged s' → answered ≢ key_reply.Refused key.StoreFault
+key_sound s words now fault tells answered drawn logged s' (Err denied) name denies is = let r = denies.reply_is in absurd cc
+key_sound s words now fault tells answered drawn logged s' (Ok shown) name permits is = key_acts s.keys words now name permits.reply drawn s.keys (acts-from-memory s words now (call.Metadata name) fault tells permits.reply drawn logged s' refl permits.serves) (sym permits.reply_is ∙ is)
 
 metadata_line : (lines : List PropLine) (w : WorldState) (words : ℕ → ℕ) (now : ℕ) (user : List ℕ) (name : KeyName) (fault tells : Type 0) (answer : Line) (drawn : ℕ) (logged : Acknowledged) (w' : WorldState)
     → Step lines w words now (event.Kms user (call.Metadata name)) fault tells answer drawn logged w' → answer ≢ line.Kms (key_reply.Refused key.StoreFault)
 metadata_line lines w words now user name fault tells answer drawn logged w' step is =
     let r = step.reply_is in
     let own : step.reply ≡ key_reply.Refused key.StoreFault = cc in
-    key_sound w.keys words now fault step.reply drawn step.commands step.keys (verdict lines user (call.Metadata name)) name step.serves own
+    key_sound w.keys words now fault tells step.reply drawn step.commands step.keys (verdict lines user (call.Metadata name)) name step.serves own
 
 reply_ends : (refused : FsEnd → Type 0) (answer : Line) → IfErr (reply_in answer) (EndsFor ⊥ ⊥ refused)
 reply_ends refused (line.Kms given) = tt
@@ -284,29 +285,29 @@ reply_is line.Unknown own e = absurd cc
 
 -- ---- over a disk
 
-module _ {D W : Type 0} (state : D → DiskState) (to_come : W → ℕ → ℕ) (now : ℕ) (a b : Standing D W) (ready : IsReady state a) (user : Text) where
+module _ {D W : Type 0} (state : D → DiskState) (to_come : W → ℕ → ℕ) (now : ℕ) (a b : Standing D W) (ready : IsDeskReady state a) (user : Text) where
   -- the refusal that an answer shows is the cause
-  read_ends : (e : Event) (answer : Line) (why : FsEnd) → OnlyReads e → LeadsAt state to_come now a e answer b → EndsFor ⊥ ⊥ (ShowsRefused answer) why → EndsFor ⊥ ⊥ (ReadRefused state to_come now a b) why
-  read_ends e answer why only leads h = ends-so ⊥ ⊥ ⊥ ⊥ (ShowsRefused answer) (ReadRefused state to_come now a b) why (λ x. x) (λ x. x) (λ shows. (e, answer, only, leads, shows)) h
+  read_ends : (e : Event) (answer : Line) (why : FsEnd) → IsReadEvent e → LeadsAt state to_come now a e answer b → EndsFor ⊥ ⊥ (ShowsRefused answer) why → EndsFor ⊥ ⊥ (EventRefused state to_come now a b) why
+  read_ends e answer why only leads h = ends-so ⊥ ⊥ ⊥ ⊥ (ShowsRefused answer) (EventRefused state to_come now a b) why (λ x. x) (λ x. x) (λ shows. (e, answer, only, leads, shows)) h
 
-  err_ends : {T : Type 0} (e : Event) (answer : Line) (result : Result T FsEnd) → OnlyReads e → LeadsAt state to_come now a e answer b → IfErr result (EndsFor ⊥ ⊥ (ShowsRefused answer)) → IfErr result (EndsFor ⊥ ⊥ (ReadRefused state to_come now a b))
+  err_ends : {T : Type 0} (e : Event) (answer : Line) (result : Result T FsEnd) → IsReadEvent e → LeadsAt state to_come now a e answer b → IfErr result (EndsFor ⊥ ⊥ (ShowsRefused answer)) → IfErr result (EndsFor ⊥ ⊥ (EventRefused state to_come now a b))
   err_ends e answer (Ok done) only leads h = tt
   err_ends e answer (Err why) only leads h = read_ends e answer why only leads h
 
   module _ (is_user : user ≡ superuser) where
-    pub look_ends : (place : ReadPath) (result : Result Row FsEnd) → Looks (LeadsAt state to_come now) user place a result b → IfErr result (EndsFor ⊥ ⊥ (ReadRefused state to_come now a b))
-    look_ends place result (inr (none, same)) = subst (λ (r : Result Row FsEnd). IfErr r (EndsFor ⊥ ⊥ (ReadRefused state to_come now a b))) (sym none) tt
+    pub look_ends : (place : ReadPath) (result : Result Row FsEnd) → Looks (LeadsAt state to_come now) user place a result b → IfErr result (EndsFor ⊥ ⊥ (EventRefused state to_come now a b))
+    look_ends place result (inr (none, same)) = subst (λ (r : Result Row FsEnd). IfErr r (EndsFor ⊥ ⊥ (EventRefused state to_come now a b))) (sym none) tt
     look_ends place result (inl (answer, leads, is)) =
         let s = leads ready.0 ready.1.lists in
-        subst (λ (r : Result Row FsEnd). IfErr r (EndsFor ⊥ ⊥ (ReadRefused state to_come now a b))) (sym is)
+        subst (λ (r : Result Row FsEnd). IfErr r (EndsFor ⊥ ⊥ (EventRefused state to_come now a b))) (sym is)
         (err_ends (event.Info user (read_path_text place)) answer (row_in answer) is_user leads
         (row_ends answer (info_line ready.0 (world_of a.world) (to_come a.words) now user (read_path_text place) (Rose (state a.disk).faults (state b.disk).faults) (Tells (state a.disk)) answer s.drawn s.logged (world_of b.world) s.step.step)))
 
-    pub list_ends : (place : ReadPath) (result : Result (List Child) FsEnd) → Lists (LeadsAt state to_come now) user place a result b → IfErr result (EndsFor ⊥ ⊥ (ReadRefused state to_come now a b))
-    list_ends place result (inr (none, same)) = subst (λ (r : Result (List Child) FsEnd). IfErr r (EndsFor ⊥ ⊥ (ReadRefused state to_come now a b))) (sym none) tt
+    pub list_ends : (place : ReadPath) (result : Result (List Child) FsEnd) → ListsDirectory (LeadsAt state to_come now) user place a result b → IfErr result (EndsFor ⊥ ⊥ (EventRefused state to_come now a b))
+    list_ends place result (inr (none, same)) = subst (λ (r : Result (List Child) FsEnd). IfErr r (EndsFor ⊥ ⊥ (EventRefused state to_come now a b))) (sym none) tt
     list_ends place result (inl (answer, leads, is)) =
         let s = leads ready.0 ready.1.lists in
-        subst (λ (r : Result (List Child) FsEnd). IfErr r (EndsFor ⊥ ⊥ (ReadRefused state to_come now a b))) (sym is)
+        subst (λ (r : Result (List Child) FsEnd). IfErr r (EndsFor ⊥ ⊥ (EventRefused state to_come now a b))) (sym is)
         (err_ends (event.List user (read_path_text place)) answer (children_in answer) is_user leads
         (children_ends answer (list_line ready.0 (world_of a.world) (to_come a.words) now user (read_path_text place) (Rose (state a.disk).faults (state b.disk).faults) (Tells (state a.disk)) answer s.drawn s.logged (world_of b.world) s.step.step)))
 

@@ -42,15 +42,15 @@ use Rattle.prop_text.specs.declared.lines.PropLine.{PropLine}
 use Rattle.file_orders.specs.declared.ends.FsEnd.{FsEnd}
 use Rattle.place_texts.specs.Places.{place_below, read_path_text}
 use Rattle.place_texts.proofs.PlaceLemmas.{only-back}
-use Rattle.source_looks.specs.Looks.{Lists, Looks, AsksKey, children_by, children_in, row_by, row_in}
-use Rattle.world_desk.specs.Worlds.{IsReady}
+use Rattle.source_looks.specs.Looks.{ListsDirectory, Looks, AsksKey, children_by, children_in, row_by, row_in}
+use Rattle.world_desk.specs.Worlds.{IsDeskReady}
 use Rattle.world_events.specs.Events.{HoldsSame, LeadsAt, standing_of}
 use Rattle.world_events.specs.declared.events.WorldEvents.{WorldEvents}
 use Rattle.world_run.specs.Acknowledged.{Acknowledged}
 use Rattle.world_run.specs.Drives.{Standing}
 use Rattle.world_run.specs.Step.{PathActs, Step}
 use Rattle.world_run.specs.World.{WorldState, world_of}
-use Rattle.world_rows.specs.Rows.{IsPlace, OnlyReads, ReadsOnce, place_rows, table_of}
+use Rattle.world_rows.specs.Rows.{IsPlace, IsReadEvent, ReadsOnce, place_rows, table_of}
 use Rattle.world_rows.proofs.SeenLemmas.{children-of-place, row-of-place}
 
 -- ---- an info
@@ -147,24 +147,13 @@ list_same : (why : Option NameRefusal) (s : NameService) (p : ReadPath) (fault :
 list_same (Some why) s p fault given ops s' refused = refused.same
 list_same None s p fault given ops s' only = only.same
 
-key_same : (judged : Result Shown Denied) (s : ServiceState) (words : ℕ → ℕ) (now : ℕ) (name : KeyName) (fault : Type 0) (given : KmsReply) (drawn : ℕ) (logged : List KeyCommand) (s' : ServiceState)
-    → ServesUnder judged s words now (call.Metadata name) fault given drawn logged s' → (drawn ≡ 0) × (s' ≡ s)
-key_same (Err denied) s words now name fault given drawn logged s' denies = (denies.none_drawn, denies.same)
-key_same (Ok shown) s words now name fault given drawn logged s' permits = (none permits.serves.acts, permits.serves.same)
-  where
-    unless : (why : _) (given : KmsReply) (s' : _) → record { reply = given; drawn = drawn; state = s' } ≡ Rattle.kms_core.specs.Calls.unless_refused why s.keys (Rattle.kms_core.specs.Calls.deed s.keys words now (call.Metadata name)) → drawn ≡ 0
-    unless (Some why) given s' e = ap (λ (o : Rattle.kms_core.specs.Calls.Outcome). o.drawn) e
-    unless None given s' e = ap (λ (o : Rattle.kms_core.specs.Calls.Outcome). o.drawn) e
-
-    none : {given : KmsReply} {s' : _} → Rattle.kms_core.specs.Calls.KmsActs s.keys words now (call.Metadata name) given drawn s' → drawn ≡ 0
-    none {given} {s'} (Rattle.kms_core.specs.Calls.Plain, may, e) = unless (Rattle.kms_core.specs.Calls.first_cause (Rattle.kms_core.specs.Calls.causes s.keys (call.Metadata name))) given s' e
-    none {given} {s'} (Rattle.kms_core.specs.Calls.NoRoom count, may, e) =
-        let few : count ≤ 0 = may.2 in
-        let is : drawn ≡ count = ap (λ (o : Rattle.kms_core.specs.Calls.Outcome). o.drawn) e in
-        omega (arith, few, is)
+key_same : (judged : Result Shown Denied) (s : ServiceState) (words : ℕ → ℕ) (now : ℕ) (name : KeyName) (fault tells : Type 0) (given : KmsReply) (drawn : ℕ) (logged : List KeyCommand) (s' : ServiceState)
+    → ServesUnder judged s words now (call.Metadata name) fault tells given drawn logged s' → (drawn ≡ 0) × (s' ≡ s)
+key_same (Err denied) s words now name fault tells given drawn logged s' denies = (denies.none_drawn, denies.same)
+key_same (Ok shown) s words now name fault tells given drawn logged s' permits = (permits.serves.none_drawn, permits.serves.same)
 
 pub quiet : (lines : List PropLine) (w : WorldState) (words : ℕ → ℕ) (now : ℕ) (e : Event) (fault tells : Type 0) (answer : Line) (drawn : ℕ) (logged : Acknowledged) (w' : WorldState)
-    → Step lines w words now e fault tells answer drawn logged w' → OnlyReads e → Quiet w drawn w'
+    → Step lines w words now e fault tells answer drawn logged w' → IsReadEvent e → Quiet w drawn w'
 quiet lines w words now (event.Info user path) fault tells answer drawn logged w' step only = go (read_any_path path) step
   where
     go : (read : Option ReadPath) → PathActs w user name_call.Info read fault answer drawn logged w' → Quiet w drawn w'
@@ -178,7 +167,7 @@ quiet lines w words now (event.List user path) fault tells answer drawn logged w
     go (Some p) (inr unread) = (unread.quiet.0, unread.same)
     go (Some p) (inl acts) = (acts.none_drawn, acts.left ∙ ap (λ (n : NameService). record w { names = n }) (list_same (names.first_cause (names.early_causes user (name_call.List p))) w.names p fault acts.reply acts.ops acts.names acts.serves))
 quiet lines w words now (event.Kms user (call.Metadata name)) fault tells answer drawn logged w' step only =
-    let k = key_same (verdict lines user (call.Metadata name)) w.keys words now name fault step.reply drawn step.commands step.keys step.serves in
+    let k = key_same (verdict lines user (call.Metadata name)) w.keys words now name fault tells step.reply drawn step.commands step.keys step.serves in
     (k.0, step.left ∙ ap (λ (k : ServiceState). record w { keys = k }) k.1)
 quiet lines w words now (event.Kms user (call.Create _ _ _ _)) fault tells answer drawn logged w' step only = absurd only.1
 quiet lines w words now (event.Kms user (call.Roll _ _)) fault tells answer drawn logged w' step only = absurd only.1
@@ -226,7 +215,7 @@ record Stepped {D W : Type 0} (state : D → DiskState) (to_come : W → ℕ →
   logged : Acknowledged
   step : Step lines (world_of a.world) (to_come a.words) now e (Rose (state a.disk).faults (state b.disk).faults) (Tells (state a.disk)) answer drawn logged (world_of b.world)
 
-module _ {D W : Type 0} (state : D → DiskState) (to_come : W → ℕ → ℕ) (now : ℕ) (a b : Standing D W) (ready : IsReady state a) where
+module _ {D W : Type 0} (state : D → DiskState) (to_come : W → ℕ → ℕ) (now : ℕ) (a b : Standing D W) (ready : IsDeskReady state a) where
   stepped : (e : Event) (answer : Line) → LeadsAt state to_come now a e answer b → Stepped state to_come now a e answer b
   stepped e answer leads = let s = leads ready.0 ready.1.lists in record { lines = ready.0; drawn = s.drawn; logged = s.logged; step = s.step.step }
 
@@ -250,7 +239,7 @@ module _ {D W : Type 0} (state : D → DiskState) (to_come : W → ℕ → ℕ) 
         sym (row-of-place (table_of a.world) place q is_place)
         ∙ ap (λ (p : ReadPath). row_at (rows_read (table_of a.world) p) (path_read p)) (sym (only-back place q t.0 is_place.ruled short t.1)) ∙ t.2
 
-    pub list_found : (result : Result (List Child) FsEnd) → Lists (LeadsAt state to_come now) user (place_below place q) a result b → IfOk result (λ (list : List Child). list ≡ children (place_rows (table_of a.world) place) q)
+    pub list_found : (result : Result (List Child) FsEnd) → ListsDirectory (LeadsAt state to_come now) user (place_below place q) a result b → IfOk result (λ (list : List Child). list ≡ children (place_rows (table_of a.world) place) q)
     list_found (Err why) looks = tt
     list_found (Ok list) (inr (none, same)) = absurd cc
     list_found (Ok list) (inl (answer, leads, is)) =
@@ -258,7 +247,7 @@ module _ {D W : Type 0} (state : D → DiskState) (to_come : W → ℕ → ℕ) 
         let t = list_told s.lines (world_of a.world) (to_come a.words) now user (read_path_text (place_below place q)) (Rose (state a.disk).faults (state b.disk).faults) (Tells (state a.disk)) answer s.drawn s.logged (world_of b.world) s.step list (sym is) in
         t.2.0 ∙ ap (λ (p : ReadPath). children (rows_read (table_of a.world) p) (path_read p)) (only-back place q t.0 is_place.ruled short t.1) ∙ children-of-place (table_of a.world) place q is_place
 
-    pub directory_found : (result : Result (List Child) FsEnd) → Lists (LeadsAt state to_come now) user (place_below place q) a result b → OnOk result (is_dir_at (row_at (place_rows (table_of a.world) place) q) ≡ true)
+    pub directory_found : (result : Result (List Child) FsEnd) → ListsDirectory (LeadsAt state to_come now) user (place_below place q) a result b → OnOk result (is_dir_at (row_at (place_rows (table_of a.world) place) q) ≡ true)
     directory_found (Err why) looks = tt
     directory_found (Ok list) (inr (none, same)) = absurd cc
     directory_found (Ok list) (inl (answer, leads, is)) =
@@ -280,7 +269,7 @@ module _ {D W : Type 0} (state : D → DiskState) (to_come : W → ℕ → ℕ) 
   looks_on place result (inl (answer, (holds, leads), is)) = (holds, inl (answer, leads, is))
   looks_on place result (inr (none, same)) = (holds_itself same, inr (none, ap standing_of same))
 
-  pub lists_on : (place : ReadPath) (result : Result (List Child) FsEnd) → Lists (Led state to_come) user place a result b → HoldsSame a b × Lists (LeadsAt state to_come a.now) user place (standing_of a) result (standing_of b)
+  pub lists_on : (place : ReadPath) (result : Result (List Child) FsEnd) → ListsDirectory (Led state to_come) user place a result b → HoldsSame a b × ListsDirectory (LeadsAt state to_come a.now) user place (standing_of a) result (standing_of b)
   lists_on place result (inl (answer, (holds, leads), is)) = (holds, inl (answer, leads, is))
   lists_on place result (inr (none, same)) = (holds_itself same, inr (none, ap standing_of same))
 
@@ -293,7 +282,7 @@ module _ {D W : Type 0} (state : D → DiskState) (to_come : W → ℕ → ℕ) 
   look_once place result (inl (answer, leads, is)) = inr (event.Info user (read_path_text place), answer, is_user, leads)
   look_once place result (inr (none, same)) = inl same
 
-  pub list_once : (place : ReadPath) (result : Result (List Child) FsEnd) → Lists (LeadsAt state to_come now) user place a result b → ReadsOnce state to_come now a b
+  pub list_once : (place : ReadPath) (result : Result (List Child) FsEnd) → ListsDirectory (LeadsAt state to_come now) user place a result b → ReadsOnce state to_come now a b
   list_once place result (inl (answer, leads, is)) = inr (event.List user (read_path_text place), answer, is_user, leads)
   list_once place result (inr (none, same)) = inl same
 

@@ -22,8 +22,8 @@ use Rattle.name_core.specs.Calls.{superuser}
 use Rattle.name_core.specs.Reads.{snapshot_rows}
 use Rattle.name_store.specs.Table.{NameTable}
 use Rattle.place_texts.specs.Places.{IsRuled, is_whole_snapshot}
-use Rattle.row_copies.specs.Clusters.{IsTree}
-use Rattle.world_desk.specs.Worlds.{IsReady}
+use Rattle.row_copies.specs.Clusters.{IsTreeOfRows}
+use Rattle.world_desk.specs.Worlds.{IsDeskReady}
 use Rattle.world_run.specs.World.{RunningWorld}
 use Rattle.world_events.specs.Events.{HoldsSame, LeadsAt, standing_of}
 use Rattle.world_run.specs.Drives.{Standing}
@@ -48,15 +48,15 @@ abbrev pub AsksMetadata : KmsCall → Type 0
 AsksMetadata (call.Metadata name) = ⊤
 AsksMetadata _ = ⊥
 
-abbrev pub OnlyReads : Event → Type 0
-OnlyReads (event.Info user path) = user ≡ superuser
-OnlyReads (event.List user path) = user ≡ superuser
-OnlyReads (event.Kms user c) = (user ≡ superuser) × AsksMetadata c
-OnlyReads _ = ⊥
+abbrev pub IsReadEvent : Event → Type 0
+IsReadEvent (event.Info user path) = user ≡ superuser
+IsReadEvent (event.List user path) = user ≡ superuser
+IsReadEvent (event.Kms user c) = (user ≡ superuser) × AsksMetadata c
+IsReadEvent _ = ⊥
 
 -- such an event happened, or none
 abbrev pub ReadsOnce : {D W : Type 0} → (D → DiskState) → (W → ℕ → ℕ) → ℕ → Standing D W → Standing D W → Type 0
-ReadsOnce state to_come now a b = (b ≡ a) ⊎ ((e : Event) × (answer : Line) × OnlyReads e × LeadsAt state to_come now a e answer b)
+ReadsOnce state to_come now a b = (b ≡ a) ⊎ ((e : Event) × (answer : Line) × IsReadEvent e × LeadsAt state to_come now a e answer b)
 
 -- the names of a world
 abbrev pub table_of : RunningWorld → NameTable
@@ -67,10 +67,10 @@ rows_seen v = place_rows (table_of v.events.world.now) v.place.now
 
 -- the services are ready for events, and the rows of the place are a tree
 pub record CanRead {D W : Type 0} (state : D → DiskState) (v : WorldRows D W) : Type 0 where
-  pub events : IsReady state (standing_of v.events)
+  pub events : IsDeskReady state (standing_of v.events)
   pub user : v.user.now ≡ superuser
   pub place : IsPlace v.place.now
-  pub tree : IsTree (rows_seen v)
+  pub tree : IsTreeOfRows (rows_seen v)
 
 -- the same services, and the same place in them
 pub record ReadsOn {D W : Type 0} (state : D → DiskState) (to_come : W → ℕ → ℕ) (old new : WorldRows D W) : Type 0 where
@@ -90,8 +90,8 @@ pub record ShowsRefused (answer : Line) (why : FsEnd) : Type 0 where
   pub why_is : why ≡ end_of_names own
 
 -- An event that reads was answered by a refusal.
-abbrev pub ReadRefused : {D W : Type 0} → (D → DiskState) → (W → ℕ → ℕ) → ℕ → Standing D W → Standing D W → FsEnd → Type 0
-ReadRefused state to_come now a b why = (e : Event) × (answer : Line) × OnlyReads e × LeadsAt state to_come now a e answer b × ShowsRefused answer why
+abbrev pub EventRefused : {D W : Type 0} → (D → DiskState) → (W → ℕ → ℕ) → ℕ → Standing D W → Standing D W → FsEnd → Type 0
+EventRefused state to_come now a b why = (e : Event) × (answer : Line) × IsReadEvent e × LeadsAt state to_come now a e answer b × ShowsRefused answer why
 
 abbrev pub RefusesTo : {D W : Type 0} → (D → DiskState) → (W → ℕ → ℕ) → WorldRows D W → WorldRows D W → FsEnd → Type 0
-RefusesTo state to_come old new why = ReadRefused state to_come old.events.now (standing_of old.events) (standing_of new.events) why
+RefusesTo state to_come old new why = EventRefused state to_come old.events.now (standing_of old.events) (standing_of new.events) why

@@ -28,6 +28,7 @@ keys-beside old new store commands of_file run telling s = record {
   makes = s.makes;
   waits = s.waits;
   log = other_stands 1 old new store.log (map spelling commands) (option_map spelling store.pending) run of_file telling s.log;
+  materials = s.materials;
 }
 
 pub names-beside : (old new : DiskState) (r : RunningNames) (ops : List EditOp) → r.store.log.log.file ≡ 1 → RunOn 0 old new → Tells old → IsNamesystemOf old r ops → IsNamesystemOf new r ops

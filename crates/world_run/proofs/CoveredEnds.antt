@@ -18,10 +18,10 @@ use Rattle.name_store.specs.Causes.{id_at}
 use Rattle.name_store.specs.Table.{NameTable, after_table, rows_of_entries, snapped_rows}
 use Rattle.name_core.specs.State.{walk_under}
 use Rattle.name_core.specs.Walks.{new_walk, or_new_walk, walk_of}
-use Rattle.world_run.specs.Covered.{CoveredBy, IsAhead, IsAwaited, IsDone, WalkCovered}
+use Rattle.world_run.specs.Covered.{CoveredBy, IsAhead, IsAwaited, IsFileDone, WalkCovered}
 use Rattle.world_run.specs.Ledger.{Draw, Ledger, Past, files_of_zone, files_under, is_session}
 use Rattle.world_run.specs.Linked.{AreDistinct, FilesLinked}
-use Rattle.world_run.specs.Promise.{Counts, In, IsReencrypted, WasThere}
+use Rattle.world_run.specs.Promise.{In, IsInForce, IsReencrypted, WasThere}
 use Rattle.world_run.proofs.CoveredWalks.{itself, key-of-file, row-in}
 use Rattle.world_run.proofs.Members.{filter-in, in-filter, in-left, in-map, in-more, in-right}
 use Rattle.world_run.proofs.RowLemmas.{InPlace, one-of-id}
@@ -29,7 +29,7 @@ use Rattle.world_run.proofs.StatusLemmas.{distinct-same, in-with}
 
 -- A re-encryption that is completed, not cancelled, and counts no failure left no file behind.
 pub covered-completed : (past : Past) (keys : List KeyRow) (names : NameTable) (walks : List WalkState) → CoveredBy past keys names walks
-    → (s : StatusRow) (x : Entry) → In s names.statuses → Counts past.ledger keys s → s.completed ≡ true → s.failed ≡ 0 → In x names.rows → WasThere past.starts s.session x.row.id → IsReencrypted s x
+    → (s : StatusRow) (x : Entry) → In s names.statuses → IsInForce past.ledger keys s → s.completed ≡ true → s.failed ≡ 0 → In x names.rows → WasThere past.starts s.session x.row.id → IsReencrypted s x
 covered-completed past keys names walks r s x i counts ended none j was = elim (r.completed s x i counts ended j was) [ inl done ↦ done | inr some ↦ absurd (some none) ]
 
 -- new walks
@@ -62,7 +62,7 @@ covered-forget past keys names walks r = record {
 }
   where
     fallen : (s : StatusRow) (x : Entry) → In x names.rows → is_file_of names.rows s.zone x ≡ true → WalkCovered past.ledger names.rows s (walk_of walks s)
-        → IsDone s x ⊎ (IsAwaited (walk_of walks s) x ⊎ IsAhead names.rows s.zone (walk_of walks s) x) → IsDone s x ⊎ (IsAwaited (new_walk s) x ⊎ IsAhead names.rows s.zone (new_walk s) x)
+        → IsFileDone s x ⊎ (IsAwaited (walk_of walks s) x ⊎ IsAhead names.rows s.zone (walk_of walks s) x) → IsFileDone s x ⊎ (IsAwaited (new_walk s) x ⊎ IsAhead names.rows s.zone (new_walk s) x)
     fallen s x j file k (inl done) = inl done
     fallen s x j file k (inr (inl (b, i, out, m))) = inr (inr (k.after_mark b x i out j file m))
     fallen s x j file k (inr (inr ahead)) = inr (inr (k.not_before_mark (path_in names.rows s.zone x.path) ahead))
@@ -92,7 +92,7 @@ under-parts session u h = let p = and_parts (u.session == session) (goes_on u) h
 
 -- the session ends; if it is not cancelled, all is done
 module _ (past : Past) (keys : List KeyRow) (names : NameTable) (walks : List WalkState) (session : ℕ) (cancelled : Bool) (r : CoveredBy past keys names walks)
-    (done : (u : StatusRow) (x : Entry) → In u names.statuses → goes_on_under session u ≡ true → cancelled ≡ false → Counts past.ledger keys u → In x names.rows → WasThere past.starts u.session x.row.id → IsDone u x) where
+    (done : (u : StatusRow) (x : Entry) → In u names.statuses → goes_on_under session u ≡ true → cancelled ≡ false → IsInForce past.ledger keys u → In x names.rows → WasThere past.starts u.session x.row.id → IsFileDone u x) where
   abbrev as_ended : StatusRow → StatusRow
   as_ended u = record u { completed = true; cancelled = cancelled }
 
@@ -111,13 +111,13 @@ module _ (past : Past) (keys : List KeyRow) (names : NameTable) (walks : List Wa
   stayed s (Stayed i) goes = i
   stayed s (Ended u i under is) goes = let f : true ≡ false = sym (ap (λ (t : StatusRow). t.completed) is) ∙ goes in absurd cc
 
-  completed-after : (s : StatusRow) (x : Entry) → FromStatus s → Counts past.ledger keys s → s.completed ≡ true → In x names.rows → WasThere past.starts s.session x.row.id → IsDone s x
+  completed-after : (s : StatusRow) (x : Entry) → FromStatus s → IsInForce past.ledger keys s → s.completed ≡ true → In x names.rows → WasThere past.starts s.session x.row.id → IsFileDone s x
   completed-after s x (Stayed i) counts end j was = r.completed s x i counts end j was
   completed-after s x (Ended u i under is) counts end j was =
-      subst (λ (t : StatusRow). IsDone t x) (sym is)
+      subst (λ (t : StatusRow). IsFileDone t x) (sym is)
       (done u x i under (sym (ap (λ (t : StatusRow). t.cancelled) is) ∙ counts.uncancelled) its j (subst (λ (n : ℕ). WasThere past.starts n x.row.id) (ap (λ (t : StatusRow). t.session) is) was))
     where
-      its : Counts past.ledger keys u
+      its : IsInForce past.ledger keys u
       its = record {
         uncancelled = r.uncancelled u i (under-parts session u under).1;
         draw = counts.draw;
@@ -165,12 +165,12 @@ covered-complete past keys names walks st distinct here goes none left r = cover
         (filter-in (λ (e : Entry). is_file_of names.rows st.zone e && is_after (walk_of walks st).cursor (path_in names.rows st.zone e.path)) x names.rows j
         (and_from (is_file_of names.rows st.zone x) (is_after (walk_of walks st).cursor (path_in names.rows st.zone x.path)) file ahead))
 
-    of-st : (x : Entry) → Counts past.ledger keys st → In x names.rows → WasThere past.starts st.session x.row.id → IsDone st x
+    of-st : (x : Entry) → IsInForce past.ledger keys st → In x names.rows → WasThere past.starts st.session x.row.id → IsFileDone st x
     of-st x counts j was = elim (r.going_on st x here counts goes j was) [ inl done ↦ done | inr more ↦ absurd (nothing x j (r.in_zone st x here j was) more) ]
 
-    done : (u : StatusRow) (x : Entry) → In u names.statuses → goes_on_under st.session u ≡ true → false ≡ false → Counts past.ledger keys u → In x names.rows → WasThere past.starts u.session x.row.id → IsDone u x
+    done : (u : StatusRow) (x : Entry) → In u names.statuses → goes_on_under st.session u ≡ true → false ≡ false → IsInForce past.ledger keys u → In x names.rows → WasThere past.starts u.session x.row.id → IsFileDone u x
     done u x i under uncancelled =
-        subst (λ (t : StatusRow). Counts past.ledger keys t → In x names.rows → WasThere past.starts t.session x.row.id → IsDone t x)
+        subst (λ (t : StatusRow). IsInForce past.ledger keys t → In x names.rows → WasThere past.starts t.session x.row.id → IsFileDone t x)
         (sym (distinct-same names.statuses u st distinct i here (inl (under-parts st.session u under).0))) (of-st x)
 
 -- submissions
@@ -239,7 +239,7 @@ module _ (past : Past) (keys : List KeyRow) (t : NameTable) (walks : List WalkSt
   was-old : (s : StatusRow) (id : ℕ) → In s t.statuses → WasThere past-after.starts s.session id → WasThere past.starts s.session id
   was-old s id i (ids, j, m) = elim (in-more (s.session, ids) (session, begins) past.starts j) [ inl old ↦ (ids, old, m) | inr is ↦ absurd (other-status s i (ap (λ (e : ℕ × List ℕ). e.0) is)) ]
 
-  counts-old : (s : StatusRow) → In s t.statuses → Counts past-after.ledger keys s → Counts past.ledger keys s
+  counts-old : (s : StatusRow) → In s t.statuses → IsInForce past-after.ledger keys s → IsInForce past.ledger keys s
   counts-old s i c = record {
     uncancelled = c.uncancelled;
     draw = c.draw;
@@ -260,7 +260,7 @@ module _ (past : Past) (keys : List KeyRow) (t : NameTable) (walks : List WalkSt
   -- the statuses afterwards
 
   abbrev Goes : StatusRow → Entry → Type 0
-  Goes s x = IsDone s x ⊎ (IsAwaited (walk_of walks s) x ⊎ IsAhead t.rows s.zone (walk_of walks s) x)
+  Goes s x = IsFileDone s x ⊎ (IsAwaited (walk_of walks s) x ⊎ IsAhead t.rows s.zone (walk_of walks s) x)
 
   new-goes : (x : Entry) → Goes new x
   new-goes x = inr (inr (subst (λ (w : WalkState). IsAhead t.rows zone w x) (sym walk-is) refl))

@@ -11,13 +11,13 @@ use Rattle.name_store.specs.Table.{NameTable}
 use Rattle.name_core.specs.Walks.{walk_of}
 use Rattle.world_run.specs.Covered.{CoveredBy, WalkCovered}
 use Rattle.world_run.specs.Ledger.{Draw, Ledger, Past, files_of_zone, files_under, is_session}
-use Rattle.world_run.specs.Promise.{Counts, In, WasThere}
+use Rattle.world_run.specs.Promise.{In, IsInForce, WasThere}
 use Rattle.world_run.proofs.Laters.{LaterAt}
 use Rattle.world_run.proofs.Members.{in-left, in-more, in-right}
 
 -- later keys
 
-counts-before : (ledger : Ledger) (olds rows : List KeyRow) (s : StatusRow) → ((id : ℕ) (d : Draw) → In (id, d) ledger → LaterAt olds rows d.birth) → Counts ledger rows s → Counts ledger olds s
+counts-before : (ledger : Ledger) (olds rows : List KeyRow) (s : StatusRow) → ((id : ℕ) (d : Draw) → In (id, d) ledger → LaterAt olds rows d.birth) → IsInForce ledger rows s → IsInForce ledger olds s
 counts-before ledger olds rows s later c =
     let old = later s.session c.draw c.entered c.row c.stands c.born in
     record { uncancelled = c.uncancelled; draw = c.draw; entered = c.entered; row = old.0; stands = old.1; born = old.2 }
@@ -67,7 +67,7 @@ module _ (past : Past) (id : ℕ) (d : Draw) (ids : List ℕ) where
   there-before : (session x : ℕ) → (session ≡ id → ⊥) → WasThere (with_entry id d ids past).starts session x → WasThere past.starts session x
   there-before session x other (others, i, j) = elim (started-before session others i) [ inl old ↦ (others, old, j) | inr is ↦ absurd (other is.0) ]
 
-  counts-too : (keys : List KeyRow) (s : StatusRow) → (s.session ≡ id → ⊥) → Counts (with_entry id d ids past).ledger keys s → Counts past.ledger keys s
+  counts-too : (keys : List KeyRow) (s : StatusRow) → (s.session ≡ id → ⊥) → IsInForce (with_entry id d ids past).ledger keys s → IsInForce past.ledger keys s
   counts-too keys s other c = record { uncancelled = c.uncancelled; draw = c.draw; entered = old; row = c.row; stands = c.stands; born = c.born }
     where
       old : In (s.session, c.draw) past.ledger

@@ -20,7 +20,7 @@ use Rattle.name_store.specs.Causes.{first_cause, id_at, is_under_reencryption, k
 use Rattle.name_store.specs.Table.{NameTable, after_table, allows, new_directory, new_file}
 use Rattle.name_store.proofs.CauseLemmas.{allowed, clear, id-may-be-used, none-of-both, renamable}
 use Rattle.name_core.specs.Walks.{walk_of}
-use Rattle.world_run.specs.Covered.{CoveredBy, InOrder, IsDone, WalkCovered, ids_sent}
+use Rattle.world_run.specs.Covered.{AreInWalkOrder, CoveredBy, IsFileDone, WalkCovered, ids_sent}
 use Rattle.world_run.specs.Ledger.{Draw, Ledger, Past}
 use Rattle.world_run.specs.Linked.{AreDistinct}
 use Rattle.world_run.specs.Promise.{In, WasThere}
@@ -52,7 +52,7 @@ module _ (ledger : Ledger) (olds news : List Entry) (statuses : List StatusRow) 
       let before : is_file_of olds s.zone was.old ≡ true = sym (was.file s member) ∙ file in
       (was.old, was.member, before, subst (λ (n : ℕ). In n (ids_sent b.sent)) was.id sent, was.place s member going before)
 
-  order-kept : (bs : List WalkedBatch) → ((b : WalkedBatch) (y : Sent) → In b bs → In y b.sent → HasEntry ledger y.id) → InOrder olds s.zone bs → InOrder news s.zone bs
+  order-kept : (bs : List WalkedBatch) → ((b : WalkedBatch) (y : Sent) → In b bs → In y b.sent → HasEntry ledger y.id) → AreInWalkOrder olds s.zone bs → AreInWalkOrder news s.zone bs
   order-kept [] entered o = tt
   order-kept (b ∷ bs) entered o = (
     λ c x i j file sent.
@@ -86,7 +86,7 @@ module _ (past : Past) (keys : List KeyRow) (t u : NameTable) (walks : List Walk
   before : (s : StatusRow) (x : Entry) (was : Was t.rows u.rows u.statuses x) → WasThere past.starts s.session x.row.id → WasThere past.starts s.session was.old.row.id
   before s x was there = subst (WasThere past.starts s.session) was.id there
 
-  done : (s : StatusRow) (x : Entry) (was : Was t.rows u.rows u.statuses x) → IsDone s was.old → IsDone s x
+  done : (s : StatusRow) (x : Entry) (was : Was t.rows u.rows u.statuses x) → IsFileDone s was.old → IsFileDone s x
   done s x was (inl r) = inl (r.0, was.edek ∙ r.1, r.2, r.3)
   done s x was (inr failed) = inr failed
 

@@ -20,7 +20,7 @@ use Rattle.reenc_update.specs.declared.reply.BatchResult.{BatchResult}
 use Rattle.reenc_update.specs.declared.reply.BatchResult.TheVariants.{Refused, Ready}
 use Rattle.reenc_update.specs.Changes.{all_failed, changed, changes_of}
 use Rattle.reenc_update.specs.Laws.{CameFor, In as InChanges}
-use Rattle.reenc_update.specs.Replies.{Fits, ReplyState, are_of_keys}
+use Rattle.reenc_update.specs.Replies.{FitsSent, ReplyState, are_of_keys}
 use Rattle.reenc_update.proofs.ChangeLemmas.{changed-delivered, delivered-changed, edek-self, same-edek}
 use Rattle.zone_table.specs.declared.statuses.StatusRow.{StatusRow}
 use Rattle.zone_table.specs.Statuses.{capped, counted, goes_on, goes_on_under, with_counts}
@@ -31,10 +31,10 @@ use Rattle.name_core.specs.Walks.{or_new_walk, walk_of}
 use Rattle.name_core.proofs.UpdateLemmas.{Outstanding, outstanding-at}
 use Rattle.name_core.proofs.WalkLemmas.{of-session}
 use Rattle.name_core.proofs.WalkOrder.{under-with}
-use Rattle.world_run.specs.Covered.{CoveredBy, InOrder, IsAhead, IsAwaited, IsDone, WalkCovered, ids_sent}
+use Rattle.world_run.specs.Covered.{AreInWalkOrder, CoveredBy, IsAhead, IsAwaited, IsFileDone, WalkCovered, ids_sent}
 use Rattle.world_run.specs.Ledger.{Draw, Past}
 use Rattle.world_run.specs.Linked.{AreDistinct, FilesLinked, HasNoted, IsOther, KeysCameBack}
-use Rattle.world_run.specs.Promise.{Counts, In, IsReencrypted, WasThere}
+use Rattle.world_run.specs.Promise.{In, IsInForce, IsReencrypted, WasThere}
 use Rattle.world_run.proofs.CoveredWalks.{in-with-walk, itself, key-of-file, status-in, under-other}
 use Rattle.world_run.proofs.CoveredEnds.{none-in, under-parts, unended-yes}
 use Rattle.world_run.proofs.Members.{each-in, found-in, in-map, some-is}
@@ -97,9 +97,9 @@ in-counted session changed failed mark (t ∷ ts) s distinct i = go (goes_on_und
 pub record Brings (past : Past) (keys : List KeyRow) (rows : List Entry) (st : StatusRow) (sent : List Sent) (files : List FileKey) (failed : ℕ) : Type 0 where
   -- each file lies in the zone, and its new key is noted
   pub in_zone : (f : FileKey) (x : Entry) → In f files → In x rows → x.row.id ≡ f.id → is_file_of rows st.zone x ≡ true
-  pub noted : Counts past.ledger keys st → AllNoted st files
+  pub noted : IsInForce past.ledger keys st → AllNoted st files
   -- each file that was sent gets a new key or is re-encrypted, or some failed
-  pub each : Counts past.ledger keys st → (x : Entry) → In x rows → is_file_of rows st.zone x ≡ true → In x.row.id (ids_sent sent)
+  pub each : IsInForce past.ledger keys st → (x : Entry) → In x rows → is_file_of rows st.zone x ≡ true → In x.row.id (ids_sent sent)
       → ((y : Sent) → In y sent → x.row.id ≡ y.id → (edek_of x.row.kind ≡ Some y.edek) ⊎ IsReencrypted st x)
       → (failed ≢ 0) ⊎ (IsReencrypted st x ⊎ ((f : FileKey) × In f files × (x.row.id ≡ f.id)))
 
@@ -178,14 +178,14 @@ module _ (past : Past) (keys : List KeyRow) (names : NameTable) (walks : List Wa
 
   -- counts
 
-  counts-st : Counts past.ledger keys st-after → Counts past.ledger keys st
+  counts-st : IsInForce past.ledger keys st-after → IsInForce past.ledger keys st
   counts-st c = record { uncancelled = c.uncancelled; draw = c.draw; entered = c.entered; row = c.row; stands = c.stands; born = c.born }
 
-  noted : Counts past.ledger keys st-after → AllNoted st files
+  noted : IsInForce past.ledger keys st-after → AllNoted st files
   noted c = brings.noted (counts-st c)
 
   -- a file that was re-encrypted still is
-  done-after : Counts past.ledger keys st-after → (x : Entry) (o : WasRow names.rows files x) → IsReencrypted st o.old → IsReencrypted st-after x
+  done-after : IsInForce past.ledger keys st-after → (x : Entry) (o : WasRow names.rows files x) → IsReencrypted st o.old → IsReencrypted st-after x
   done-after c x o done = subst (IsReencrypted st) (sym o.is) (still-done st files o.old (noted c) done)
 
   -- what was sent is still there, or re-encrypted
@@ -193,10 +193,10 @@ module _ (past : Past) (keys : List KeyRow) (names : NameTable) (walks : List Wa
   abbrev StillSent : StatusRow → Entry → Sent → Type 0
   StillSent s x y = (edek_of x.row.kind ≡ Some y.edek) ⊎ IsReencrypted s x
 
-  sent-st : Counts past.ledger keys st-after → (x : Entry) (b : WalkedBatch) (y : Sent) → In b w.batches → b.outstanding ≡ true → In y b.sent → In x names.rows → is_file_of names.rows st.zone x ≡ true → x.row.id ≡ y.id → StillSent st x y
+  sent-st : IsInForce past.ledger keys st-after → (x : Entry) (b : WalkedBatch) (y : Sent) → In b w.batches → b.outstanding ≡ true → In y b.sent → In x names.rows → is_file_of names.rows st.zone x ≡ true → x.row.id ≡ y.id → StillSent st x y
   sent-st c x b y i out m j file same = r.still_sent st x b y here (counts-st c) unended (subst (λ (v : WalkState). In b v.batches) (sym walk-is) i) out m j file same
 
-  sent-after : Counts past.ledger keys st-after → (x : Entry) (o : WasRow names.rows files x) (y : Sent) → StillSent st o.old y → StillSent st-after x y
+  sent-after : IsInForce past.ledger keys st-after → (x : Entry) (o : WasRow names.rows files x) (y : Sent) → StillSent st o.old y → StillSent st-after x y
   sent-after c x o y (inr done) = inr (done-after c x o done)
   sent-after c x o y (inl has) = elim (same-or-done st files o.old (noted c)) [
     | inl same ↦ inl (ap (λ (z : Entry). edek_of z.row.kind) (o.is ∙ same) ∙ has)
@@ -206,10 +206,10 @@ module _ (past : Past) (keys : List KeyRow) (names : NameTable) (walks : List Wa
   -- what was done, awaited or ahead still is
 
   abbrev Going : List Entry → StatusRow → Entry → WalkState → Type 0
-  Going rows s x v = IsDone s x ⊎ (IsAwaited v x ⊎ IsAhead rows s.zone v x)
+  Going rows s x v = IsFileDone s x ⊎ (IsAwaited v x ⊎ IsAhead rows s.zone v x)
 
   other-going : (s : StatusRow) (x : Entry) (v : WalkState) (o : WasRow names.rows files x) → x ≡ o.old → Going names.rows s o.old v → Going rows-after s x v
-  other-going s x v o same (inl done) = inl (subst (IsDone s) (sym same) done)
+  other-going s x v o same (inl done) = inl (subst (IsFileDone s) (sym same) done)
   other-going s x v o same (inr (inl awaited)) = inr (inl (subst (IsAwaited v) (sym same) awaited))
   other-going s x v o same (inr (inr ahead)) = inr (inr (subst (λ (p : List (List ℕ)). is_after v.cursor p ≡ true) (sym (o.place s.zone)) ahead))
 
@@ -217,7 +217,7 @@ module _ (past : Past) (keys : List KeyRow) (names : NameTable) (walks : List Wa
   some-failed (inl new) = capped-some (st.failed + failed) (sum-second st.failed failed new)
   some-failed (inr old) = capped-some (st.failed + failed) (sum-first st.failed failed old)
 
-  going-st : Counts past.ledger keys st-after → (x : Entry) (o : WasRow names.rows files x) → is_file_of names.rows st.zone o.old ≡ true → Going names.rows st o.old w → Going rows-after st-after x retires
+  going-st : IsInForce past.ledger keys st-after → (x : Entry) (o : WasRow names.rows files x) → is_file_of names.rows st.zone o.old ≡ true → Going names.rows st o.old w → Going rows-after st-after x retires
   going-st c x o file (inl (inl done)) = inl (inl (done-after c x o done))
   going-st c x o file (inl (inr some)) = inl (inr (some-failed (inr some)))
   going-st c x o file (inr (inr ahead)) = inr (inr (subst (λ (p : List (List ℕ)). is_after w.cursor p ≡ true) (sym (o.place st.zone)) ahead))
@@ -236,7 +236,7 @@ module _ (past : Past) (keys : List KeyRow) (names : NameTable) (walks : List Wa
 
   -- walks are covered with the rows afterwards
 
-  order-later : (zone : ℕ) (bs : List WalkedBatch) → InOrder names.rows zone bs → InOrder rows-after zone bs
+  order-later : (zone : ℕ) (bs : List WalkedBatch) → AreInWalkOrder names.rows zone bs → AreInWalkOrder rows-after zone bs
   order-later zone [] o = o
   order-later zone (b ∷ bs) o = (
     λ c x i j file m. let k = was x j in
@@ -264,7 +264,7 @@ module _ (past : Past) (keys : List KeyRow) (names : NameTable) (walks : List Wa
 
   -- each status afterwards
 
-  going-after : (s : StatusRow) (x : Entry) → FromStatus s → Counts past.ledger keys s → s.completed ≡ false → In x rows-after → WasThere past.starts s.session x.row.id → Going rows-after s x (walk_of walks-later s)
+  going-after : (s : StatusRow) (x : Entry) → FromStatus s → IsInForce past.ledger keys s → s.completed ≡ false → In x rows-after → WasThere past.starts s.session x.row.id → Going rows-after s x (walk_of walks-later s)
   going-after s x (Other i other) c goes j there =
       let o = was x j in
       let before = was-there s.session x o there in
@@ -275,8 +275,8 @@ module _ (past : Past) (keys : List KeyRow) (names : NameTable) (walks : List Wa
       (subst (Going rows-after st-after x) (sym retired-walk)
       (going-st its x o (r.in_zone st o.old here o.member before) (subst (Going names.rows st o.old) walk-is (r.going_on st o.old here (counts-st its) unended o.member before))))
     where
-      its : Counts past.ledger keys st-after
-      its = subst (Counts past.ledger keys) is c
+      its : IsInForce past.ledger keys st-after
+      its = subst (IsInForce past.ledger keys) is c
 
       o : WasRow names.rows files x
       o = was x j
@@ -284,14 +284,14 @@ module _ (past : Past) (keys : List KeyRow) (names : NameTable) (walks : List Wa
       before : WasThere past.starts st.session o.old.row.id
       before = was-there st.session x o (subst (λ (u : StatusRow). WasThere past.starts u.session x.row.id) is there)
 
-  completed-after : (s : StatusRow) (x : Entry) → FromStatus s → Counts past.ledger keys s → s.completed ≡ true → In x rows-after → WasThere past.starts s.session x.row.id → IsDone s x
+  completed-after : (s : StatusRow) (x : Entry) → FromStatus s → IsInForce past.ledger keys s → s.completed ≡ true → In x rows-after → WasThere past.starts s.session x.row.id → IsFileDone s x
   completed-after s x (Other i other) c end j there =
       let o = was x j in
       let before = was-there s.session x o there in
-      subst (IsDone s) (sym (stays s x i other o (r.in_zone s o.old i o.member before))) (r.completed s o.old i c end o.member before)
+      subst (IsFileDone s) (sym (stays s x i other o (r.in_zone s o.old i o.member before))) (r.completed s o.old i c end o.member before)
   completed-after s x (Counted is) c end j there = let f : true ≡ false = sym end ∙ ap (λ (u : StatusRow). u.completed) is ∙ unended in absurd cc
 
-  still-after : (s : StatusRow) (x : Entry) (b : WalkedBatch) (y : Sent) → FromStatus s → Counts past.ledger keys s → s.completed ≡ false → In b (walk_of walks-later s).batches → b.outstanding ≡ true → In y b.sent
+  still-after : (s : StatusRow) (x : Entry) (b : WalkedBatch) (y : Sent) → FromStatus s → IsInForce past.ledger keys s → s.completed ≡ false → In b (walk_of walks-later s).batches → b.outstanding ≡ true → In y b.sent
       → In x rows-after → is_file_of rows-after s.zone x ≡ true → x.row.id ≡ y.id → StillSent s x y
   still-after s x b y (Other i other) c goes k out m j file same =
       let o = was x j in
@@ -300,7 +300,7 @@ module _ (past : Past) (keys : List KeyRow) (names : NameTable) (walks : List Wa
       (r.still_sent s o.old b y i c goes (subst (λ (v : WalkState). In b v.batches) (same-walk s i other) k) out m o.member before (sym o.id ∙ same))
   still-after s x b y (Counted is) c goes k out m j file same =
       let o = was x j in
-      let its = subst (Counts past.ledger keys) is c in
+      let its = subst (IsInForce past.ledger keys) is c in
       let v = was-batch sent w b (subst (λ (u : WalkState). In b u.batches) (ap (walk_of walks-later) is ∙ retired-walk) k) in
       let before : is_file_of names.rows st.zone o.old ≡ true = sym (o.file st.zone) ∙ subst (λ (u : StatusRow). is_file_of rows-after u.zone x ≡ true) is file in
       subst (λ (u : StatusRow). StillSent u x y) (sym is)
@@ -409,7 +409,7 @@ module _ (past : Past) (keys : List KeyRow) (rows : List Entry) (st : StatusRow)
   in-note x file = subst (λ (n : ℕ). is_file_of rows n x ≡ true) zone file
 
   -- a key that came back is noted
-  came-noted : Counts past.ledger keys st → (y : Sent) (e : Encrypted) → CameFor note.sent edeks y e → IsNoted st e
+  came-noted : IsInForce past.ledger keys st → (y : Sent) (e : Encrypted) → CameFor note.sent edeks y e → IsNoted st e
   came-noted c y e came =
       let p = place-of note.sent edeks y e came in
       let b = back p.0 y e p.1 p.2 in
@@ -429,11 +429,11 @@ module _ (past : Past) (keys : List KeyRow) (rows : List Entry) (st : StatusRow)
       (subst (λ (z : Entry). is_file_of rows note.zone z ≡ true) is
       (and_from (is_some (edek_of d.still.entry.row.kind)) (same_id (zone_id rows d.still.entry.path) (Some note.zone)) (ap is_some d.still.has) (ap (λ (o : Option ℕ). same_id o (Some note.zone)) d.still.lies ∙ itself note.zone)))
 
-  changed-noted : Counts past.ledger keys st → AllNoted st files
+  changed-noted : IsInForce past.ledger keys st → AllNoted st files
   changed-noted c f i = let d = changed-delivered rows note.zone note.sent edeks f (to-changes f files i) in came-noted c d.file f.edek d.came
 
   -- a file that has the key that was sent has the one that came back, or gets it
-  still-sent : Counts past.ledger keys st → (x : Entry) (y : Sent) (e : Encrypted) → In x rows → is_file_of rows st.zone x ≡ true → x.row.id ≡ y.id → CameFor note.sent edeks y e → edek_of x.row.kind ≡ Some y.edek
+  still-sent : IsInForce past.ledger keys st → (x : Entry) (y : Sent) (e : Encrypted) → In x rows → is_file_of rows st.zone x ≡ true → x.row.id ≡ y.id → CameFor note.sent edeks y e → edek_of x.row.kind ≡ Some y.edek
       → IsReencrypted st x ⊎ ((f : FileKey) × In f files × (x.row.id ≡ f.id))
   still-sent c x y e j file at came its = go (same_edek y.edek e) refl
     where
@@ -469,7 +469,7 @@ covered-given-up past keys s note distinct is r =
 
 -- The files of a batch get the keys that came back for them, or all failed.
 pub covered-delivered : (past : Past) (keys : List KeyRow) (s : NameState) (reply : ReplyState) → InPlace s.table.rows → ((id : ℕ) (d f : Draw) → In (id, d) past.ledger → In (id, f) past.ledger → d ≡ f)
-    → FilesLinked past.ledger keys s.table → is_outstanding s reply.note ≡ true → Fits reply.note.sent reply.result → KeysCameBack past.ledger keys reply.note reply.result → CoveredBy past keys s.table s.walks
+    → FilesLinked past.ledger keys s.table → is_outstanding s reply.note ≡ true → FitsSent reply.note.sent reply.result → KeysCameBack past.ledger keys reply.note reply.result → CoveredBy past keys s.table s.walks
     → CoveredBy past keys (after_table s.table (update_op s reply.note (changes_of s.table.rows reply.note.zone reply.note.sent reply.result)))
     (walks_after (Some reply.note.sent) (update_op s reply.note (changes_of s.table.rows reply.note.zone reply.note.sent reply.result)) s.walks)
 covered-delivered past keys s reply good one linked is fits back r = go reply.result fits back
@@ -480,7 +480,7 @@ covered-delivered past keys s reply good one linked is fits back r = go reply.re
     here : In o.status s.table.statuses × (o.status.zone ≡ reply.note.zone)
     here = status-in s.table.statuses reply.note.zone o.status o.found
 
-    go : (result : BatchResult) → Fits reply.note.sent result → KeysCameBack past.ledger keys reply.note result
+    go : (result : BatchResult) → FitsSent reply.note.sent result → KeysCameBack past.ledger keys reply.note result
         → CoveredBy past keys (after_table s.table (update_op s reply.note (changes_of s.table.rows reply.note.zone reply.note.sent result)))
         (walks_after (Some reply.note.sent) (update_op s reply.note (changes_of s.table.rows reply.note.zone reply.note.sent result)) s.walks)
     go Refused fits back = covered-applied past keys s reply.note (all_failed reply.note.sent) o linked.distinct (brings-failed past keys s.table.rows o.status reply.note.sent) r

@@ -23,7 +23,7 @@ use Rattle.name_core.specs.State.{NameState, is_walk_of, walk_under, with_walk}
 use Rattle.name_core.specs.Walks.{going_on, or_new_walk, taken, walk_of}
 use Rattle.name_core.proofs.WalkLemmas.{of-session}
 use Rattle.name_core.proofs.WalkOrder.{some-taken, under-going, under-with, walk-follows}
-use Rattle.world_run.specs.Covered.{AllAfter, CoveredBy, InOrder, IsAhead, IsApart, IsAwaited, IsDone, NoneShared, WalkCovered, ids_sent}
+use Rattle.world_run.specs.Covered.{AreBatchesApart, AreInWalkOrder, AreSentAfter, CoveredBy, IsAhead, IsAwaited, IsFileDone, NoneShared, WalkCovered, ids_sent}
 use Rattle.world_run.specs.Ledger.{Draw, Past}
 use Rattle.world_run.specs.Linked.{FilesLinked}
 use Rattle.world_run.specs.Promise.{In, IsReencrypted}
@@ -140,15 +140,15 @@ taken-once (suc n) (e ∷ es) x r (inl is) j =
 taken-once (suc n) (e ∷ es) x r (inr i) j = taken-once n es x r.1 i j
 
 -- one more batch shares no file with the others, if each of them shares none with it
-shared-more : (b : WalkedBatch) (bs : List WalkedBatch) → ((c : WalkedBatch) → In c bs → IsApart c b) → NoneShared bs → NoneShared (bs ++ b ∷ [])
+shared-more : (b : WalkedBatch) (bs : List WalkedBatch) → ((c : WalkedBatch) → In c bs → AreBatchesApart c b) → NoneShared bs → NoneShared (bs ++ b ∷ [])
 shared-more b [] apart o = (λ c none. absurd none, tt)
 shared-more b (c ∷ cs) apart o = (
-  λ d i. elim (in-more d b cs i) [ inl old ↦ o.0 d old | inr is ↦ subst (IsApart c) (sym is) (apart c (inl refl)) ],
+  λ d i. elim (in-more d b cs i) [ inl old ↦ o.0 d old | inr is ↦ subst (AreBatchesApart c) (sym is) (apart c (inl refl)) ],
   shared-more b cs (λ d i. apart d (inr i)) o.1,
 )
 
 -- one more batch comes last, if its files come after each other
-order-more : (rows : List Entry) (zone : ℕ) (b : WalkedBatch) (bs : List WalkedBatch) → ((c : WalkedBatch) → In c bs → AllAfter rows zone c.last (b ∷ [])) → InOrder rows zone bs → InOrder rows zone (bs ++ b ∷ [])
+order-more : (rows : List Entry) (zone : ℕ) (b : WalkedBatch) (bs : List WalkedBatch) → ((c : WalkedBatch) → In c bs → AreSentAfter rows zone c.last (b ∷ [])) → AreInWalkOrder rows zone bs → AreInWalkOrder rows zone (bs ++ b ∷ [])
 order-more rows zone b [] after o = (λ c x none. absurd none, tt)
 order-more rows zone b (c ∷ cs) after o = (
   λ d x i j file m. elim (in-more d b cs i) [ inl old ↦ o.0 d x old j file m | inr is ↦ after c (inl refl) d x (inl is) j file m ],
@@ -234,7 +234,7 @@ module _ (past : Past) (keys : List KeyRow) (names : NameTable) (walks : List Wa
   -- each file of the zone that was awaited or ahead still is
 
   abbrev Going : StatusRow → Entry → WalkState → Type 0
-  Going s x v = IsDone s x ⊎ (IsAwaited v x ⊎ IsAhead names.rows s.zone v x)
+  Going s x v = IsFileDone s x ⊎ (IsAwaited v x ⊎ IsAhead names.rows s.zone v x)
 
   still-going : (x : Entry) → In x names.rows → is_file_of names.rows st.zone x ≡ true → Going st x w → Going st x grown
   still-going x i file (inl done) = inl done
@@ -299,7 +299,7 @@ module _ (past : Past) (keys : List KeyRow) (names : NameTable) (walks : List Wa
               (subst (In x) (walk-follows names.rows st.zone rules w.cursor size there) again))
 
       -- an earlier batch has not sent it
-      apart : Fits → (c : WalkedBatch) → In c w.batches → IsApart c batch
+      apart : Fits → (c : WalkedBatch) → In c w.batches → AreBatchesApart c batch
       apart k c i id m n =
           let y = in-map (λ (z : Sent). z.id) id batch.sent n in
           let f = in-filter-map sent_of y.0 files y.1 in

@@ -150,24 +150,24 @@ module _ (w : WorldState) (h : Hidden) (drawn : ℕ) (l : LinkedWorld w h) where
 
   -- calls of the key management service
 
-  wanted-later : (lines : List PropLine) (words : ℕ → ℕ) (now : ℕ) (wanted : Want) (fault : Type 0) (reply : Option KmsReply) (commands : List KeyCommand) (keys : ServiceState) → ServicesFit w
-      → WantActs lines w.keys words now wanted fault reply drawn commands keys → KeysLater w.keys.keys.table keys.keys.table
-  wanted-later lines words now want.Nothing fault reply commands keys fit n = subst (λ (s : ServiceState). KeysLater w.keys.keys.table s.keys.table) (sym n.same) (same-later w.keys.keys.table)
-  wanted-later lines words now (want.Generate name) fault reply commands keys fit a =
-      (user-state lines superuser w.keys words now (key_call.Generate name 1) fault a.reply drawn commands keys fit.keys a.serves).keys
-  wanted-later lines words now (want.Metadata name) fault reply commands keys fit a =
-      (user-state lines superuser w.keys words now (key_call.Metadata name) fault a.reply drawn commands keys fit.keys a.serves).keys
+  wanted-later : (lines : List PropLine) (words : ℕ → ℕ) (now : ℕ) (wanted : Want) (fault tells : Type 0) (reply : Option KmsReply) (commands : List KeyCommand) (keys : ServiceState) → ServicesFit w
+      → WantActs lines w.keys words now wanted fault tells reply drawn commands keys → KeysLater w.keys.keys.table keys.keys.table
+  wanted-later lines words now want.Nothing fault tells reply commands keys fit n = subst (λ (s : ServiceState). KeysLater w.keys.keys.table s.keys.table) (sym n.same) (same-later w.keys.keys.table)
+  wanted-later lines words now (want.Generate name) fault tells reply commands keys fit a =
+      (user-state lines superuser w.keys words now (key_call.Generate name 1) fault tells a.reply drawn commands keys fit.keys a.serves).keys
+  wanted-later lines words now (want.Metadata name) fault tells reply commands keys fit a =
+      (user-state lines superuser w.keys words now (key_call.Metadata name) fault tells a.reply drawn commands keys fit.keys a.serves).keys
 
-  by-draw : (lines : List PropLine) (words : ℕ → ℕ) (now : ℕ) (o : Option AskNote) (fault : Type 0) (outcome : Line) (logged : Acknowledged) (w' : WorldState) → ServicesFit w → DrawActs lines w words now o fault outcome drawn logged w' → Moved w'
-  by-draw lines words now None fault outcome logged w' fit u = unmoved-to w' u.same
-  by-draw lines words now (Some note) fault outcome logged w' fit (inl a) = subst Moved (sym a.left) (keyed a.keys (wanted-later lines words now note.want fault a.reply a.commands a.keys fit a.acts))
-  by-draw lines words now (Some note) fault outcome logged w' fit (inr u) = unmoved-to w' u.same
+  by-draw : (lines : List PropLine) (words : ℕ → ℕ) (now : ℕ) (o : Option AskNote) (fault tells : Type 0) (outcome : Line) (logged : Acknowledged) (w' : WorldState) → ServicesFit w → DrawActs lines w words now o fault tells outcome drawn logged w' → Moved w'
+  by-draw lines words now None fault tells outcome logged w' fit u = unmoved-to w' u.same
+  by-draw lines words now (Some note) fault tells outcome logged w' fit (inl a) = subst Moved (sym a.left) (keyed a.keys (wanted-later lines words now note.want fault tells a.reply a.commands a.keys fit a.acts))
+  by-draw lines words now (Some note) fault tells outcome logged w' fit (inr u) = unmoved-to w' u.same
 
-  by-serve : (lines : List PropLine) (words : ℕ → ℕ) (now : ℕ) (o : Option BatchNote) (fault : Type 0) (outcome : Line) (logged : Acknowledged) (w' : WorldState) → ServicesFit w → ServeActs lines w words now o fault outcome drawn logged w' → Moved w'
-  by-serve lines words now None fault outcome logged w' fit u = unmoved-to w' u.same
-  by-serve lines words now (Some batch) fault outcome logged w' fit (inl a) =
-      subst Moved (sym a.left) (keyed a.keys (user-state lines superuser w.keys words now (batch_call batch) fault a.reply drawn a.commands a.keys fit.keys a.serves).keys)
-  by-serve lines words now (Some batch) fault outcome logged w' fit (inr u) = unmoved-to w' u.same
+  by-serve : (lines : List PropLine) (words : ℕ → ℕ) (now : ℕ) (o : Option BatchNote) (fault tells : Type 0) (outcome : Line) (logged : Acknowledged) (w' : WorldState) → ServicesFit w → ServeActs lines w words now o fault tells outcome drawn logged w' → Moved w'
+  by-serve lines words now None fault tells outcome logged w' fit u = unmoved-to w' u.same
+  by-serve lines words now (Some batch) fault tells outcome logged w' fit (inl a) =
+      subst Moved (sym a.left) (keyed a.keys (user-state lines superuser w.keys words now (batch_call batch) fault tells a.reply drawn a.commands a.keys fit.keys a.serves).keys)
+  by-serve lines words now (Some batch) fault tells outcome logged w' fit (inr u) = unmoved-to w' u.same
 
   by-deposit : (words : ℕ → ℕ) (o : Option Ticket) (outcome : Line) (logged : Acknowledged) (w' : WorldState) → DepositActs w words o outcome drawn logged w' → Moved w'
   by-deposit words None outcome logged w' u = unmoved-to w' u.same
@@ -231,7 +231,7 @@ keeps-covered lines w words now e fault tells outcome drawn logged w' h knows fi
     path user c o s = by-path w h drawn l user c o fault outcome logged w' fit s
 
     go : (x : Event) → KnowsWorld x tells → Step lines w words now x fault tells outcome drawn logged w' → CoversWorld w' (hidden_after w words x outcome drawn w' h)
-    go (event.Kms user c) knows s = subst (Moved w h drawn l) (sym s.left) (keyed w h drawn l s.keys (user-state lines user w.keys words now c fault s.reply drawn s.commands s.keys fit.keys s.serves).keys)
+    go (event.Kms user c) knows s = subst (Moved w h drawn l) (sym s.left) (keyed w h drawn l s.keys (user-state lines user w.keys words now c fault tells s.reply drawn s.commands s.keys fit.keys s.serves).keys)
     go event.Ticket knows (inl g) = subst (Moved w h drawn l) (sym g.left) (ticketed w h drawn l (ticket_of w.keys.keys))
     go event.Ticket knows (inr u) = unmoved-to w h drawn l w' u.same
     go (event.Deposit number) knows s = place-moved (past_of (hidden_after w words (event.Deposit number) outcome drawn w' h)) (deposit-past w words h number drawn w' outcome) (by-deposit w h drawn l words (numbered w.kept.tickets number) outcome logged w' s)
@@ -253,11 +253,11 @@ keeps-covered lines w words now e fault tells outcome drawn logged w' h knows fi
     go (event.AskZone user p key) knows s = by-ask w h drawn l user (zone_with key) (read_path p) outcome w' s.1
     go (event.AskSubmit user p) knows s = by-ask w h drawn l user ask.Submit (read_path p) outcome w' s.1
     go (event.Draw number) knows s =
-        place-moved (past_of (hidden_after w words (event.Draw number) outcome drawn w' h)) (draw-past w words h number drawn w' outcome) (by-draw w h drawn l lines words now (numbered w.kept.notes number) fault outcome logged w' fit s)
+        place-moved (past_of (hidden_after w words (event.Draw number) outcome drawn w' h)) (draw-past w words h number drawn w' outcome) (by-draw w h drawn l lines words now (numbered w.kept.notes number) fault tells outcome logged w' fit s)
     go (event.Finish number) knows s = by-finish w words h number fault outcome drawn logged w' (numbered w.kept.replies number) fit l refl s
     go (event.Walk p) knows s = by-walk w h drawn l (read_path p) fault outcome logged w' fit rules s
     go (event.Serve number) knows s =
-        place-moved (past_of (hidden_after w words (event.Serve number) outcome drawn w' h)) (serve-past w words h number drawn w' outcome) (by-serve w h drawn l lines words now (numbered w.kept.batches number) fault outcome logged w' fit s)
+        place-moved (past_of (hidden_after w words (event.Serve number) outcome drawn w' h)) (serve-past w words h number drawn w' outcome) (by-serve w h drawn l lines words now (numbered w.kept.batches number) fault tells outcome logged w' fit s)
     go (event.Deliver number) knows s = by-delivery w h drawn l number (numbered w.kept.replies number) fault outcome logged w' fit refl s
     go (event.GiveUp number) knows s = by-giving-up w h drawn l (numbered w.kept.batches number) fault outcome logged w' fit s
 

@@ -34,7 +34,7 @@ use Rattle.world_run.specs.declared.kept.KeptReply.TheVariants.{ToAsk, ToBatch}
 use Rattle.world_run.specs.Acknowledged.{Acknowledged, HoldsLogs, Survives}
 use Rattle.world_run.specs.Does.{Happens}
 use Rattle.world_run.specs.Own.{OwnKeysOfEvent, OwnOfDelivery, OwnOfEvent, OwnOfGivingUp, OwnOfPath, OwnOfReply, OwnOfWalkAt}
-use Rattle.world_run.specs.Keeps.{Fails, KnowsWorld, RestsNow, SoundFrom, Steps, SurvivesThrough}
+use Rattle.world_run.specs.Keeps.{FailsToRestart, KnowsWorld, RestsNow, SoundFrom, Steps, SurvivesThrough}
 use Rattle.world_run.specs.Ledger.{Hidden, Past, behind_words, hidden_after, past_of}
 use Rattle.world_run.specs.Linked.{LinkedWorld, ServicesFit, SoundFiles}
 use Rattle.world_run.specs.RenamePaths.{read_rename_paths, rename_along}
@@ -243,7 +243,7 @@ steps lines old new r words now e outcome r' words' keys_file names_file fit key
 -- the answer of step, by the event that happened
 pub step-result : (old new : DiskState) (r : RunningWorld) (words : ℕ → ℕ) (now : ℕ) (e : Event) (result : Result Line WorldFault) (r' : RunningWorld) (words' : ℕ → ℕ) → r.keys.store.log.file ≡ 0 → r.names.store.log.log.file ≡ 1
     → ServicesFit (world_of r) → r'.keys.store.log.file ≡ 0 → r'.names.store.log.log.file ≡ 1 → ServicesFit (world_of r')
-    → MatchResult result (λ outcome. (lines : List PropLine) → AreListsOf r.keys.acls lines → Happens lines old new r words now e outcome r' words') (λ fault. Fails old new r words e fault.file fault.fault r' words')
-    → MatchResult result (λ outcome. (lines : List PropLine) → AreListsOf r.keys.acls lines → Steps lines old new r words now e outcome r' words') (λ fault. Fails old new r words e fault.file fault.fault r' words')
+    → MatchResult result (λ outcome. (lines : List PropLine) → AreListsOf r.keys.acls lines → Happens lines old new r words now e outcome r' words') (λ fault. FailsToRestart old new r words e fault.file fault.fault r' words')
+    → MatchResult result (λ outcome. (lines : List PropLine) → AreListsOf r.keys.acls lines → Steps lines old new r words now e outcome r' words') (λ fault. FailsToRestart old new r words e fault.file fault.fault r' words')
 step-result old new r words now e (Ok outcome) r' words' keys_file names_file fit keys_file' names_file' fit' happens = λ lines lists. steps lines old new r words now e outcome r' words' keys_file names_file fit keys_file' names_file' fit' (happens lines lists)
 step-result old new r words now e (Err fault) r' words' keys_file names_file fit keys_file' names_file' fit' fails = fails

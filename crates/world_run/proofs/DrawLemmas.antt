@@ -15,7 +15,7 @@ use Rattle.kms_calls.specs.declared.calls.KmsRefusal.{KmsRefusal}
 use Rattle.kms_calls.specs.declared.calls.KmsRefusal.TheVariants.{NoSuchKey, TooManyAsked}
 use Rattle.kms_calls.specs.declared.calls.KmsReply.{KmsReply}
 use Rattle.kms_calls.specs.declared.calls.KmsReply.TheVariants as reply
-use Rattle.key_rows.specs.Sound.{IsRow, IsTable, NamesOnce, Rising}
+use Rattle.key_rows.specs.Sound.{AreRowsRising, IsKeyTable, IsRow, NamesOnce}
 use Rattle.key_rows.specs.Table.{Table, current_of, find_name, is_length, is_named, material_of}
 use Rattle.kms_core.specs.Calls.{KmsActs, NoRoom, Plain, birth_of, causes, current_material, current_version, deed, first_cause, generate_causes, generated, ready_of, row_of, unless_refused}
 use Rattle.kms_core.specs.Draws.{drawn as drawn_bytes, drawn_dek, drawn_edek, drawn_edeks, drawn_iv, place_of_draw, words_of_draw}
@@ -34,12 +34,12 @@ use Rattle.world_run.proofs.QueueLaters.{handed-ready}
 
 -- members of a table of keys
 
-rising-above : (low top : ℕ) (rows : List KeyRow) → Rising low rows top → (x : KeyRow) → In x rows → low < x.birth
+rising-above : (low top : ℕ) (rows : List KeyRow) → AreRowsRising low rows top → (x : KeyRow) → In x rows → low < x.birth
 rising-above low top [] r x i = absurd i
 rising-above low top (y ∷ ys) r x (inl is) = subst (λ (z : KeyRow). low < z.birth) (sym is) r.0
 rising-above low top (y ∷ ys) r x (inr i) = let h = rising-above y.birth top ys r.1 x i in omega (arith, h, r.0)
 
-pub rising-once : (low top : ℕ) (rows : List KeyRow) → Rising low rows top → (x y : KeyRow) → In x rows → In y rows → x.birth ≡ y.birth → x ≡ y
+pub rising-once : (low top : ℕ) (rows : List KeyRow) → AreRowsRising low rows top → (x y : KeyRow) → In x rows → In y rows → x.birth ≡ y.birth → x ≡ y
 rising-once low top [] r x y i j same = absurd i
 rising-once low top (z ∷ zs) r x y (inl a) (inl b) same = a ∙ sym b
 rising-once low top (z ∷ zs) r x y (inl a) (inr j) same =
@@ -219,16 +219,16 @@ pub record FreshKey (s : KmsState) (words : ℕ → ℕ) (place : ℕ) (name : L
   pub born : (draw_of s words place name).birth ≤ s.table.greatest
   pub recent : 2 ^ 32 ≤ (draw_of s words place name).birth
 
-pub rising-most : (low top : ℕ) (rows : List KeyRow) → Rising low rows top → (x : KeyRow) → In x rows → x.birth ≤ top
+pub rising-most : (low top : ℕ) (rows : List KeyRow) → AreRowsRising low rows top → (x : KeyRow) → In x rows → x.birth ≤ top
 rising-most low top [] r x i = absurd i
 rising-most low top (y ∷ ys) r x (inl is) = subst (λ (z : KeyRow). z.birth ≤ top) (sym is) (least y.birth top ys r.1)
   where
-    least : (b t : ℕ) (zs : List KeyRow) → Rising b zs t → b ≤ t
+    least : (b t : ℕ) (zs : List KeyRow) → AreRowsRising b zs t → b ≤ t
     least b t [] r = r
     least b t (z ∷ zs) r = let h = least z.birth t zs r.1 in omega (arith, h, r.0)
 rising-most low top (y ∷ ys) r x (inr i) = rising-most y.birth top ys r.1 x i
 
-pub fresh-key : (s : KmsState) (words : ℕ → ℕ) (place now : ℕ) (name : List ℕ) (e : Edek) (drawn : ℕ) (s' : KmsState) → IsTable s.table
+pub fresh-key : (s : KmsState) (words : ℕ → ℕ) (place now : ℕ) (name : List ℕ) (e : Edek) (drawn : ℕ) (s' : KmsState) → IsKeyTable s.table
     → KmsActs s words now (call.Generate name 1) (reply.Ready (e ∷ [])) drawn s' → OneDrawn s words name e drawn s' → FreshKey s words place name e
 fresh-key s words place now name e drawn s' table acts one =
     let key_now = standing_key s name table one.stands in

@@ -18,7 +18,7 @@ use Rattle.hk_events.specs.declared.event.Event.TheVariants as event
 use Rattle.hk_events.specs.declared.event.Line.{Line}
 use Rattle.hk_events.specs.declared.event.Line.TheVariants as line
 use Rattle.world_run.specs.Acknowledged.{Acknowledged, HoldsLogs, also}
-use Rattle.world_run.specs.Drives.{Course, Drives, EndsAs, FirstSettles, FirstWalks, IsCourse, Leading, Leads, NoneFails, Standing, add_batch, batches_in, event_after, files_left, next_event, outstanding_in, result_of, standing_after}
+use Rattle.world_run.specs.Drives.{Course, Drives, EndsAs, FirstSettles, FirstWalks, IsCourse, Leads, NoneFails, Standing, WorldLeading, add_batch, batches_in, event_after, files_left, next_event, outstanding_in, result_of, standing_after}
 use Rattle.world_run.specs.Keeps.{is_restart}
 use Rattle.world_run.specs.Linked.{ServicesFit}
 use Rattle.world_run.specs.Step.{Step}
@@ -50,7 +50,7 @@ on : (found : NameState) (zone : NPath) (count : ℕ) (lines : List PropLine) (w
     → is_relative zone ≡ true → IsNames w'.names → next_event (path_text zone) before ≡ Some e → SoFar found zone count w before → Step lines w words now e fault tells answer drawn logged w' → GoesOn found zone count before w' answer
 on found zone count lines w words now (line.Batch number files) e fault tells answer drawn logged w' ruled names is so step =
     let serves = subst (λ (x : Event). Step lines w words now x fault tells answer drawn logged w') (sym (some-is (event.Serve number) e is)) step in
-    record { so_far = serve-so-far found zone count lines w words now number files fault answer drawn logged w' so serves; fails_none = λ other keys delivered replied was. absurd cc }
+    record { so_far = serve-so-far found zone count lines w words now number files fault tells answer drawn logged w' so serves; fails_none = λ other keys delivered replied was. absurd cc }
 on found zone count lines w words now (line.Replied number reply) e fault tells answer drawn logged w' ruled names is so step =
     deliver-so-far found zone count w number reply fault answer drawn logged w' so (subst (λ (x : Event). Step lines w words now x fault tells answer drawn logged w') (sym (some-is (event.Deliver number) e is)) step)
 on found zone count lines w words now (line.Delivered delivered) e fault tells answer drawn logged w' ruled names is so step =
@@ -120,30 +120,30 @@ abbrev pub SoFarOf : {D W : Type 0} → NPath → Standing D W → Course D W �
 SoFarOf zone a [] = ⊤
 SoFarOf zone a (p ∷ earlier) = (kept : Bool) × SoFar (settled kept (world_of a.world).names) zone (batches_in (p ∷ earlier)) (world_of p.after.world) p.answer × FirstSettles kept zone a (p ∷ earlier)
 
-pub record Runs {D W : Type 0} (leads : Leading D W) (zone : NPath) (a : Standing D W) (course : Course D W) : Type 0 where
+pub record Runs {D W : Type 0} (leads : WorldLeading D W) (zone : NPath) (a : Standing D W) (course : Course D W) : Type 0 where
   pub is_course : IsCourse leads (path_text zone) a course
   pub none_fails : NoneFails course
   pub so_far : SoFarOf zone a course
 
 -- this event comes next
-pub record Comes {D W : Type 0} (leads : Leading D W) (zone : NPath) (a : Standing D W) (e : Event) (b : Standing D W) : Type 0 where
+pub record Comes {D W : Type 0} (leads : WorldLeading D W) (zone : NPath) (a : Standing D W) (e : Event) (b : Standing D W) : Type 0 where
   pub course : Course D W
   pub runs : Runs leads zone a course
   pub last : standing_after a course ≡ b
   pub event_is : event_after (path_text zone) course ≡ Some e
 
 -- this was the last answer
-pub record Came {D W : Type 0} (leads : Leading D W) (zone : NPath) (a : Standing D W) (answer : Line) (b : Standing D W) : Type 0 where
+pub record Came {D W : Type 0} (leads : WorldLeading D W) (zone : NPath) (a : Standing D W) (answer : Line) (b : Standing D W) : Type 0 where
   pub earlier : Course D W
   pub event : Event
   pub runs : Runs leads zone a (record { event = event; answer = answer; after = b } ∷ earlier)
 
 -- a drive begins with a walk
-pub begins : {D W : Type 0} (leads : Leading D W) (zone : NPath) (a : Standing D W) → Comes leads zone a (event.Walk (path_text zone)) a
+pub begins : {D W : Type 0} (leads : WorldLeading D W) (zone : NPath) (a : Standing D W) → Comes leads zone a (event.Walk (path_text zone)) a
 begins leads zone a = record { course = []; runs = record { is_course = tt; none_fails = tt; so_far = tt }; last = refl; event_is = refl }
 
 -- an event follows the last answer
-pub comes-next : {D W : Type 0} (leads : Leading D W) (zone : NPath) (a : Standing D W) (answer : Line) (e : Event) (b : Standing D W) → Came leads zone a answer b → next_event (path_text zone) answer ≡ Some e → Comes leads zone a e b
+pub comes-next : {D W : Type 0} (leads : WorldLeading D W) (zone : NPath) (a : Standing D W) (answer : Line) (e : Event) (b : Standing D W) → Came leads zone a answer b → next_event (path_text zone) answer ≡ Some e → Comes leads zone a e b
 comes-next leads zone a answer e b came is = record { course = record { event = came.event; answer = answer; after = b } ∷ came.earlier; runs = came.runs; last = refl; event_is = is }
 
 -- an event happens

@@ -244,12 +244,12 @@ kept-under : {X : Type 0} (xs : List X) (number : ℕ) (x : X) (P : Option X →
 kept-under xs number x P is p = subst P is p
 
 -- the call for the batch that was taken leaves the namesystem as it is
-pub serve-so-far : (found : NameState) (zone : NPath) (count : ℕ) (lines : List PropLine) (w : WorldState) (words : ℕ → ℕ) (now number files : ℕ) (fault : Type 0) (answer : Line) (drawn : ℕ) (logged : Acknowledged) (w' : WorldState)
-    → SoFar found zone count w (line.Batch number files) → ServeActs lines w words now (numbered w.kept.batches number) fault answer drawn logged w' → SoFar found zone (add_batch answer count) w' answer
-serve-so-far found zone count lines w words now number files fault answer drawn logged w' so serves =
-    go (kept-under w.kept.batches number so.after.note (λ o. ServeActs lines w words now o fault answer drawn logged w') so.after.kept_is serves)
+pub serve-so-far : (found : NameState) (zone : NPath) (count : ℕ) (lines : List PropLine) (w : WorldState) (words : ℕ → ℕ) (now number files : ℕ) (fault tells : Type 0) (answer : Line) (drawn : ℕ) (logged : Acknowledged) (w' : WorldState)
+    → SoFar found zone count w (line.Batch number files) → ServeActs lines w words now (numbered w.kept.batches number) fault tells answer drawn logged w' → SoFar found zone (add_batch answer count) w' answer
+serve-so-far found zone count lines w words now number files fault tells answer drawn logged w' so serves =
+    go (kept-under w.kept.batches number so.after.note (λ o. ServeActs lines w words now o fault tells answer drawn logged w') so.after.kept_is serves)
   where
-    go : ServeActs lines w words now (Some so.after.note) fault answer drawn logged w' → SoFar found zone (add_batch answer count) w' answer
+    go : ServeActs lines w words now (Some so.after.note) fault tells answer drawn logged w' → SoFar found zone (add_batch answer count) w' answer
     go (inr r) = subst (λ (l : Line). SoFar found zone (add_batch l count) w' l) (sym r.reply_is) (record { few = so.few; after = tt })
     go (inl s) =
         subst (λ (l : Line). SoFar found zone (add_batch l count) w' l) (sym s.reply_is)

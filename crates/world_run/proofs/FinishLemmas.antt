@@ -23,7 +23,7 @@ use Rattle.name_store.specs.Causes.{directory_causes, id_at, mark_at, row_causes
 use Rattle.zone_table.specs.declared.statuses.StatusRow.{StatusRow}
 use Rattle.zone_table.specs.Statuses.{zone_goes_on}
 use Rattle.name_store.proofs.CauseLemmas.{clear, none-of-both}
-use Rattle.name_core.specs.State.{IsNames, IsRising, NameService, next_id, settled}
+use Rattle.name_core.specs.State.{AreAsksRising, IsNames, NameService, next_id, settled}
 use Rattle.world_run.specs.declared.kept.KeptReply.{KeptReply}
 use Rattle.world_run.specs.declared.kept.KeptReply.TheVariants.{ToAsk, ToBatch}
 use Rattle.reenc_update.specs.declared.reply.BatchResult.{BatchResult}
@@ -60,7 +60,7 @@ open-in (b ∷ asks) id a h = go (b.id == id) refl (open-in asks id a) h
     go false same ih h = let q = ih h in (inr q.0, q.1)
 
 -- after it is closed no open ask has the id
-without-apart : (asks : List OpenAsk) (id : ℕ) → IsRising asks → (b : OpenAsk) → In b (without asks id) → b.id ≡ id → ⊥
+without-apart : (asks : List OpenAsk) (id : ℕ) → AreAsksRising asks → (b : OpenAsk) → In b (without asks id) → b.id ≡ id → ⊥
 without-apart [] id r b i same = absurd i
 without-apart (a ∷ asks) id r b i same = go (a.id == id) refl i (without-apart asks id r.1 b)
   where
@@ -95,7 +95,7 @@ one-kept : (keys : List KeyRow) (replies : List KeptReply) (replied : List (Opti
 one-kept keys replies replied r q d l at other = some-is r q (sym at.1 ∙ ap (numbered replies) (l.one_reply at.0 other.0 d at.2 other.2) ∙ other.1)
 
 pub entered-ledger : (enter : Bool) (ledger : Ledger) (keys : List KeyRow) (replies : List KeptReply) (replied : List (Option Draw)) (asks : List OpenAsk) (a : OpenAsk) (ask_id : ℕ) (answer : KeyAnswer) (o : Option Draw) (next : ℕ)
-    → In a asks → a.id ≡ ask_id → a.id < next → 2 ^ 32 ≤ a.id → IsRising asks → Replied replies replied (ToAsk ask_id answer) o → RepliesLinked keys replies replied
+    → In a asks → a.id ≡ ask_id → a.id < next → 2 ^ 32 ≤ a.id → AreAsksRising asks → Replied replies replied (ToAsk ask_id answer) o → RepliesLinked keys replies replied
     → LedgerFits ledger replies replied asks next → LedgerFits (with_entry enter ask_id o ledger) replies replied (without asks a.id) next
 entered-ledger enter ledger keys replies replied asks a ask_id answer o next member same low recent rising at l g =
     record {

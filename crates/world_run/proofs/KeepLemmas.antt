@@ -55,14 +55,15 @@ use Rattle.world_run.specs.Step.{DrawActs, FinishReply, Step, WantActs, delete_w
 use Rattle.world_run.specs.Keeps.{KnowsWorld}
 use Rattle.reenc_walk.specs.Walks.{WalkState}
 use Rattle.world_run.specs.Covered.{CoveredBy}
-use Rattle.world_run.specs.Ledger.{Draw, Hidden, Past, Starts, draw_noted, draw_of, draw_answered, entered, enters, entry_of, entry_under, first_of, hidden_after, id_of_reply, left_in, makes_entry, moved_on, past_of, starts_of}
+use Rattle.world_run.specs.Ledger.{Draw, Hidden, Past, FilesAtSubmission, draw_noted, draw_of, draw_answered, entered, enters, entry_of, entry_under, first_of, hidden_after, id_of_reply, left_in, makes_entry, moved_on, past_of, starts_of}
 use Rattle.world_run.specs.Promise.{FilesOpen, In, ZoneFilesOpen}
-use Rattle.world_run.specs.Linked.{DrawsApart, FilesLinked, IsDrawn, IsOldBirth, KeyLinked, LedgerFits, LinkedDraws, LinkedTables, LinkedWorld, OpensTo, ReadyLinked, ServicesFit, WordsApart, given}
+use Rattle.world_run.specs.Linked.{AreDrawsApart, FilesLinked, IsDrawn, IsOldBirth, KeyLinked, LedgerFits, LinkedDraws, LinkedTables, LinkedWorld, OpensTo, ReadyLinked, ServicesFit, WordsApart, given}
 use Rattle.world_run.proofs.CoveredEnds.{covered-completed}
 use Rattle.world_run.proofs.CoveredKeys.{covered-keys}
 use Rattle.world_run.proofs.DrawLemmas.{OneDrawn, OneTaken, fresh-key, generate-one, meta-answers, opens-among, opens-named, words-of-dek}
 use Rattle.world_run.proofs.FinishLemmas.{Answered, entered-files, entered_in, finish-drawn, finish-fits, finish-new, linked-finished, linked-unentered, open-in, unentered, with_entry}
 use Rattle.world_run.proofs.Laters.{later-settled, may-wait, names-with}
+use Rattle.kms_core.proofs.MemoryReads.{acts-from-memory}
 use Rattle.world_run.proofs.Members.{in-append, numbered-beside, numbered-in, some-is}
 use Rattle.world_run.proofs.PairLemmas.{in-drop, pairs-first, pairs-none}
 use Rattle.world_run.proofs.RowsAfter.{files-after}
@@ -181,53 +182,53 @@ module _ (w : WorldState) (h : Hidden) (words : ℕ → ℕ) (now : ℕ) (note :
 
 -- the reply to the call that was wanted, by the verdict on the superuser
 
-generate-keeps : (w : WorldState) (h : Hidden) (words : ℕ → ℕ) (now : ℕ) (note : AskNote) (name : KeyName) (fault : Type 0) (reply : KmsReply) (drawn : ℕ) (logged : List KeyCommand) (keys : ServiceState) (v : Result Shown Denied)
-    → ServicesFit w → LinkedDraws w h → ServesUnder v w.keys words now (key_call.Generate name 1) fault reply drawn logged keys → AfterDraw w words h note drawn keys (want.Generate name) (Some reply)
-generate-keeps w h words now note name fault reply drawn logged keys (Ok shown) fit l p =
+generate-keeps : (w : WorldState) (h : Hidden) (words : ℕ → ℕ) (now : ℕ) (note : AskNote) (name : KeyName) (fault tells : Type 0) (reply : KmsReply) (drawn : ℕ) (logged : List KeyCommand) (keys : ServiceState) (v : Result Shown Denied)
+    → ServicesFit w → LinkedDraws w h → ServesUnder v w.keys words now (key_call.Generate name 1) fault tells reply drawn logged keys → AfterDraw w words h note drawn keys (want.Generate name) (Some reply)
+generate-keeps w h words now note name fault tells reply drawn logged keys (Ok shown) fit l p =
     subst (λ (s : ServiceState). AfterDraw w words h note drawn s (want.Generate name) (Some reply)) (sym p.serves.left)
     (subst (λ (r : KmsReply). AfterDraw w words h note drawn (record w.keys { keys = p.serves.changed }) (want.Generate name) (Some r)) (sym p.reply_is)
     (made-keeps w h words now note name p.reply drawn p.serves.changed fit l p.serves.acts))
-generate-keeps w h words now note name fault reply drawn logged keys (Err denied) fit l d =
+generate-keeps w h words now note name fault tells reply drawn logged keys (Err denied) fit l d =
     subst (λ (s : ServiceState). AfterDraw w words h note drawn s (want.Generate name) (Some reply)) (sym d.same)
     (subst (λ (r : KmsReply). AfterDraw w words h note drawn w.keys (want.Generate name) (Some r)) (sym d.reply_is)
     (unkeyed-same w h words note (want.Generate name) (Some (key_reply.Refused (key_refusal.Denied denied.table denied.op))) drawn l refl refl))
 
-metadata-keeps : (w : WorldState) (h : Hidden) (words : ℕ → ℕ) (now : ℕ) (note : AskNote) (name : KeyName) (fault : Type 0) (reply : KmsReply) (drawn : ℕ) (logged : List KeyCommand) (keys : ServiceState) (v : Result Shown Denied)
-    → LinkedDraws w h → ServesUnder v w.keys words now (key_call.Metadata name) fault reply drawn logged keys → AfterDraw w words h note drawn keys (want.Metadata name) (Some reply)
-metadata-keeps w h words now note name fault reply drawn logged keys (Ok shown) l p =
+metadata-keeps : (w : WorldState) (h : Hidden) (words : ℕ → ℕ) (now : ℕ) (note : AskNote) (name : KeyName) (fault tells : Type 0) (reply : KmsReply) (drawn : ℕ) (logged : List KeyCommand) (keys : ServiceState) (v : Result Shown Denied)
+    → LinkedDraws w h → ServesUnder v w.keys words now (key_call.Metadata name) fault tells reply drawn logged keys → AfterDraw w words h note drawn keys (want.Metadata name) (Some reply)
+metadata-keeps w h words now note name fault tells reply drawn logged keys (Ok shown) l p =
     subst (λ (s : ServiceState). AfterDraw w words h note drawn s (want.Metadata name) (Some reply)) (sym p.serves.same)
     (subst (λ (r : KmsReply). AfterDraw w words h note drawn w.keys (want.Metadata name) (Some r)) (sym p.reply_is)
-    (unkeyed-same w h words note (want.Metadata name) (Some p.reply) drawn l (meta-answers w.keys.keys words now name p.reply drawn w.keys.keys p.serves.acts) refl))
-metadata-keeps w h words now note name fault reply drawn logged keys (Err denied) l d =
+    (unkeyed-same w h words note (want.Metadata name) (Some p.reply) drawn l (meta-answers w.keys.keys words now name p.reply drawn w.keys.keys (acts-from-memory w.keys words now (key_call.Metadata name) fault tells p.reply drawn logged keys refl p.serves)) refl))
+metadata-keeps w h words now note name fault tells reply drawn logged keys (Err denied) l d =
     subst (λ (s : ServiceState). AfterDraw w words h note drawn s (want.Metadata name) (Some reply)) (sym d.same)
     (subst (λ (r : KmsReply). AfterDraw w words h note drawn w.keys (want.Metadata name) (Some r)) (sym d.reply_is)
     (unkeyed-same w h words note (want.Metadata name) (Some (key_reply.Refused (key_refusal.Denied denied.table denied.op))) drawn l refl refl))
 
-want-keeps : (lines : List PropLine) (w : WorldState) (h : Hidden) (words : ℕ → ℕ) (now : ℕ) (note : AskNote) (fault : Type 0) (reply : Option KmsReply) (drawn : ℕ) (logged : List KeyCommand) (keys : ServiceState) (wanted : Want)
-    → ServicesFit w → LinkedDraws w h → WantActs lines w.keys words now wanted fault reply drawn logged keys → AfterDraw w words h note drawn keys wanted reply
-want-keeps lines w h words now note fault reply drawn logged keys want.Nothing fit l a =
+want-keeps : (lines : List PropLine) (w : WorldState) (h : Hidden) (words : ℕ → ℕ) (now : ℕ) (note : AskNote) (fault tells : Type 0) (reply : Option KmsReply) (drawn : ℕ) (logged : List KeyCommand) (keys : ServiceState) (wanted : Want)
+    → ServicesFit w → LinkedDraws w h → WantActs lines w.keys words now wanted fault tells reply drawn logged keys → AfterDraw w words h note drawn keys wanted reply
+want-keeps lines w h words now note fault tells reply drawn logged keys want.Nothing fit l a =
     subst (λ (s : ServiceState). AfterDraw w words h note drawn s want.Nothing reply) (sym a.same)
     (subst (λ (r : Option KmsReply). AfterDraw w words h note drawn w.keys want.Nothing r) (sym a.reply_is) (unkeyed-same w h words note want.Nothing None drawn l refl refl))
-want-keeps lines w h words now note fault reply drawn logged keys (want.Generate name) fit l a =
+want-keeps lines w h words now note fault tells reply drawn logged keys (want.Generate name) fit l a =
     subst (λ (r : Option KmsReply). AfterDraw w words h note drawn keys (want.Generate name) r) (sym a.reply_is)
-    (generate-keeps w h words now note name fault a.reply drawn logged keys (verdict lines superuser (key_call.Generate name 1)) fit l a.serves)
-want-keeps lines w h words now note fault reply drawn logged keys (want.Metadata name) fit l a =
+    (generate-keeps w h words now note name fault tells a.reply drawn logged keys (verdict lines superuser (key_call.Generate name 1)) fit l a.serves)
+want-keeps lines w h words now note fault tells reply drawn logged keys (want.Metadata name) fit l a =
     subst (λ (r : Option KmsReply). AfterDraw w words h note drawn keys (want.Metadata name) r) (sym a.reply_is)
-    (metadata-keeps w h words now note name fault a.reply drawn logged keys (verdict lines superuser (key_call.Metadata name)) l a.serves)
+    (metadata-keeps w h words now note name fault tells a.reply drawn logged keys (verdict lines superuser (key_call.Metadata name)) l a.serves)
 
-draw-keeps : (lines : List PropLine) (w : WorldState) (h : Hidden) (words : ℕ → ℕ) (now number : ℕ) (fault : Type 0) (outcome : Line) (drawn : ℕ) (logged : Acknowledged) (w' : WorldState) (o : Option AskNote) → ServicesFit w → LinkedDraws w h
-    → numbered w.kept.notes number ≡ o → DrawActs lines w words now o fault outcome drawn logged w' → StaysLinked h w' (hidden_after w words (event.Draw number) outcome drawn w' h)
-draw-keeps lines w h words now number fault outcome drawn logged w' None fit l is u =
+draw-keeps : (lines : List PropLine) (w : WorldState) (h : Hidden) (words : ℕ → ℕ) (now number : ℕ) (fault tells : Type 0) (outcome : Line) (drawn : ℕ) (logged : Acknowledged) (w' : WorldState) (o : Option AskNote) → ServicesFit w → LinkedDraws w h
+    → numbered w.kept.notes number ≡ o → DrawActs lines w words now o fault tells outcome drawn logged w' → StaysLinked h w' (hidden_after w words (event.Draw number) outcome drawn w' h)
+draw-keeps lines w h words now number fault tells outcome drawn logged w' None fit l is u =
     subst (λ (t : Line). StaysLinked h w' (hidden_after w words (event.Draw number) t drawn w' h)) (sym u.reply_is)
     (subst (λ (v : WorldState). StaysLinked h v (moved_on w.keys.keys.ready.queues v.keys.keys.ready.queues drawn h)) (sym u.same) (linked-still w h drawn l, apart-moved w.keys.keys.ready.queues w.keys.keys.ready.queues drawn h))
-draw-keeps lines w h words now number fault outcome drawn logged w' (Some note) fit l is (inr u) =
+draw-keeps lines w h words now number fault tells outcome drawn logged w' (Some note) fit l is (inr u) =
     subst (λ (t : Line). StaysLinked h w' (hidden_after w words (event.Draw number) t drawn w' h)) (sym u.reply_is)
     (subst (λ (v : WorldState). StaysLinked h v (moved_on w.keys.keys.ready.queues v.keys.keys.ready.queues drawn h)) (sym u.same) (linked-still w h drawn l, apart-moved w.keys.keys.ready.queues w.keys.keys.ready.queues drawn h))
-draw-keeps lines w h words now number fault outcome drawn logged w' (Some note) fit l is (inl a) =
+draw-keeps lines w h words now number fault tells outcome drawn logged w' (Some note) fit l is (inl a) =
     subst (λ (t : Line). StaysLinked h w' (hidden_after w words (event.Draw number) t drawn w' h)) (sym a.reply_is)
     (subst (λ (q : Option AskNote). StaysLinked h w' (AfterReply h w.keys.keys.ready.queues w'.keys.keys.ready.queues drawn (draw_noted w.keys.keys words h q a.reply))) (sym is)
     (subst (λ (v : WorldState). StaysLinked h v (AfterReply h w.keys.keys.ready.queues v.keys.keys.ready.queues drawn (draw_answered w.keys.keys words h note.want a.reply))) (sym a.left)
-    (want-keeps lines w h words now note fault a.reply drawn a.commands a.keys note.want fit l a.acts)))
+    (want-keeps lines w h words now note fault tells a.reply drawn a.commands a.keys note.want fit l a.acts)))
 
 -- finishes
 
@@ -352,7 +353,7 @@ finish-reply-keeps w words h number fault outcome drawn logged w' (Some (ToAsk a
 pub keeps-linked : (lines : List PropLine) (w : WorldState) (words : ℕ → ℕ) (now : ℕ) (e : Event) (fault tells : Type 0) (outcome : Line) (drawn : ℕ) (logged : Acknowledged) (w' : WorldState) (h : Hidden) → KnowsWorld e tells → ServicesFit w
     → Step lines w words now e fault tells outcome drawn logged w' → LinkedDraws w h → LinkedDraws w' (hidden_after w words e outcome drawn w' h)
 keeps-linked lines w words now (event.Kms user c) fault tells outcome drawn logged w' h knows fit s l =
-    subst (StillLinked w h drawn) (sym s.left) (linked-keys w h s.keys drawn (user-state lines user w.keys words now c fault s.reply drawn s.commands s.keys fit.keys s.serves) l)
+    subst (StillLinked w h drawn) (sym s.left) (linked-keys w h s.keys drawn (user-state lines user w.keys words now c fault tells s.reply drawn s.commands s.keys fit.keys s.serves) l)
 keeps-linked lines w words now event.Ticket fault tells outcome drawn logged w' h knows fit s l = ticket-keeps w h outcome drawn logged w' fit.keys l s
 keeps-linked lines w words now (event.Deposit number) fault tells outcome drawn logged w' h knows fit s l = (deposit-keeps w h words number outcome drawn logged w' (numbered w.kept.tickets number) fit.keys l refl s).0
 keeps-linked lines w words now event.RestartKms fault tells outcome drawn logged w' h knows fit s l =
@@ -375,16 +376,16 @@ keeps-linked lines w words now (event.Zones user) fault tells outcome drawn logg
 keeps-linked lines w words now (event.AskCreate user p) fault tells outcome drawn logged w' h knows fit s l = ask-at-keeps w h user ask.Create (read_path p) outcome drawn w' l s.1
 keeps-linked lines w words now (event.AskZone user p key) fault tells outcome drawn logged w' h knows fit s l = ask-at-keeps w h user (zone_with key) (read_path p) outcome drawn w' l s.1
 keeps-linked lines w words now (event.AskSubmit user p) fault tells outcome drawn logged w' h knows fit s l = ask-at-keeps w h user ask.Submit (read_path p) outcome drawn w' l s.1
-keeps-linked lines w words now (event.Draw number) fault tells outcome drawn logged w' h knows fit s l = (draw-keeps lines w h words now number fault outcome drawn logged w' (numbered w.kept.notes number) fit l refl s).0
+keeps-linked lines w words now (event.Draw number) fault tells outcome drawn logged w' h knows fit s l = (draw-keeps lines w h words now number fault tells outcome drawn logged w' (numbered w.kept.notes number) fit l refl s).0
 keeps-linked lines w words now (event.Finish number) fault tells outcome drawn logged w' h knows fit s l = finish-reply-keeps w words h number fault outcome drawn logged w' (numbered w.kept.replies number) fit.names l refl s
 keeps-linked lines w words now (event.Walk p) fault tells outcome drawn logged w' h knows fit s l = walk-at-keeps w h (read_path p) fault outcome drawn logged w' fit.names l s
-keeps-linked lines w words now (event.Serve number) fault tells outcome drawn logged w' h knows fit s l = (serve-keeps lines w h words now number fault outcome drawn logged w' (numbered w.kept.batches number) fit l refl s).0
+keeps-linked lines w words now (event.Serve number) fault tells outcome drawn logged w' h knows fit s l = (serve-keeps lines w h words now number fault tells outcome drawn logged w' (numbered w.kept.batches number) knows fit l refl s).0
 keeps-linked lines w words now (event.Deliver number) fault tells outcome drawn logged w' h knows fit s l = deliver-keeps w h number (numbered w.kept.replies number) fault outcome drawn logged w' fit.names l refl s
 keeps-linked lines w words now (event.GiveUp number) fault tells outcome drawn logged w' h knows fit s l = give-up-keeps w h (numbered w.kept.batches number) fault outcome drawn logged w' fit.names l s
 
 -- draws that were apart
 
-apart-finish : (before after : List Queue) (h : Hidden) (drawn : ℕ) (enter : Bool) (kept : Option KeptReply) (o : Option (Option Draw)) (starts : Starts) → ((x : Option Draw) → o ≡ Some x → In x h.replied) → WordsApart h
+apart-finish : (before after : List Queue) (h : Hidden) (drawn : ℕ) (enter : Bool) (kept : Option KeptReply) (o : Option (Option Draw)) (starts : FilesAtSubmission) → ((x : Option Draw) → o ≡ Some x → In x h.replied) → WordsApart h
     → WordsApart (record (moved_on before after drawn h) { ledger = h.ledger ++ entered enter (entry_of kept o); starts = starts })
 apart-finish before after h drawn enter kept o starts is_kept f = apart-fewer h then was (omega arith) f
   where
@@ -404,9 +405,9 @@ apart-finish before after h drawn enter kept o starts is_kept f = apart-fewer h 
     was d (inl (id, i)) = elim (in-append (id, d) h.ledger (entered enter (entry_of kept o)) i) [ inl old ↦ inl (id, old) | inr new ↦ inr (inl (drew d id enter kept o is_kept new)) ]
     was d (inr i) = drawn-moved before after drawn h d (inr i)
 
-words-stay : (lines : List PropLine) (w : WorldState) (words : ℕ → ℕ) (now : ℕ) (e : Event) (fault tells : Type 0) (outcome : Line) (drawn : ℕ) (logged : Acknowledged) (w' : WorldState) (h : Hidden) → ServicesFit w
+words-stay : (lines : List PropLine) (w : WorldState) (words : ℕ → ℕ) (now : ℕ) (e : Event) (fault tells : Type 0) (outcome : Line) (drawn : ℕ) (logged : Acknowledged) (w' : WorldState) (h : Hidden) → KnowsWorld e tells → ServicesFit w
     → Step lines w words now e fault tells outcome drawn logged w' → LinkedDraws w h → WordsApart h → WordsApart (hidden_after w words e outcome drawn w' h)
-words-stay lines w words now e fault tells outcome drawn logged w' h fit s l f = go e s
+words-stay lines w words now e fault tells outcome drawn logged w' h knows fit s l f = go e knows s
   where
     before : List Queue
     before = w.keys.keys.ready.queues
@@ -417,37 +418,37 @@ words-stay lines w words now e fault tells outcome drawn logged w' h fit s l f =
     moved : WordsApart (moved_on before after drawn h)
     moved = apart-moved before after drawn h f
 
-    go : (e : Event) → Step lines w words now e fault tells outcome drawn logged w' → WordsApart (hidden_after w words e outcome drawn w' h)
-    go (event.Kms user c) s = moved
-    go event.Ticket s = moved
-    go (event.Deposit number) s = (deposit-keeps w h words number outcome drawn logged w' (numbered w.kept.tickets number) fit.keys l refl s).1 f
-    go event.RestartKms s = moved
-    go event.RestartName s = moved
-    go (event.Mkdir user p) s = moved
-    go (event.Delete user p recursive) s = moved
-    go (event.Rename user p q) s = moved
-    go (event.Info user p) s = moved
-    go (event.List user p) s = moved
-    go (event.Allow user p) s = moved
-    go (event.Disallow user p) s = moved
-    go (event.Snap user p name) s = moved
-    go (event.Unsnap user p name) s = moved
-    go (event.Cancel user p) s = moved
-    go (event.Status user p) s = moved
-    go (event.Zones user) s = moved
-    go (event.AskCreate user p) s = moved
-    go (event.AskZone user p key) s = moved
-    go (event.AskSubmit user p) s = moved
-    go (event.Draw number) s = (draw-keeps lines w h words now number fault outcome drawn logged w' (numbered w.kept.notes number) fit l refl s).1 f
-    go (event.Finish number) s =
+    go : (e : Event) → KnowsWorld e tells → Step lines w words now e fault tells outcome drawn logged w' → WordsApart (hidden_after w words e outcome drawn w' h)
+    go (event.Kms user c) knows s = moved
+    go event.Ticket knows s = moved
+    go (event.Deposit number) knows s = (deposit-keeps w h words number outcome drawn logged w' (numbered w.kept.tickets number) fit.keys l refl s).1 f
+    go event.RestartKms knows s = moved
+    go event.RestartName knows s = moved
+    go (event.Mkdir user p) knows s = moved
+    go (event.Delete user p recursive) knows s = moved
+    go (event.Rename user p q) knows s = moved
+    go (event.Info user p) knows s = moved
+    go (event.List user p) knows s = moved
+    go (event.Allow user p) knows s = moved
+    go (event.Disallow user p) knows s = moved
+    go (event.Snap user p name) knows s = moved
+    go (event.Unsnap user p name) knows s = moved
+    go (event.Cancel user p) knows s = moved
+    go (event.Status user p) knows s = moved
+    go (event.Zones user) knows s = moved
+    go (event.AskCreate user p) knows s = moved
+    go (event.AskZone user p key) knows s = moved
+    go (event.AskSubmit user p) knows s = moved
+    go (event.Draw number) knows s = (draw-keeps lines w h words now number fault tells outcome drawn logged w' (numbered w.kept.notes number) fit l refl s).1 f
+    go (event.Finish number) knows s =
         apart-finish before after h drawn (enters (id_of_reply (numbered w.kept.replies number)) outcome w'.names) (numbered w.kept.replies number) (numbered h.replied number) _ (λ x at. numbered-in h.replied number x at) f
-    go (event.Walk p) s = moved
-    go (event.Serve number) s = (serve-keeps lines w h words now number fault outcome drawn logged w' (numbered w.kept.batches number) fit l refl s).1 f
-    go (event.Deliver number) s = moved
-    go (event.GiveUp number) s = moved
+    go (event.Walk p) knows s = moved
+    go (event.Serve number) knows s = (serve-keeps lines w h words now number fault tells outcome drawn logged w' (numbered w.kept.batches number) knows fit l refl s).1 f
+    go (event.Deliver number) knows s = moved
+    go (event.GiveUp number) knows s = moved
 
 -- and the draws of two files are apart, if each file has a draw of its own
-pub files-apart : (h : Hidden) (replies : List KeptReply) (asks : List OpenAsk) (next : ℕ) → LedgerFits h.ledger replies h.replied asks next → WordsApart h → DrawsApart h
+pub files-apart : (h : Hidden) (replies : List KeptReply) (asks : List OpenAsk) (next : ℕ) → LedgerFits h.ledger replies h.replied asks next → WordsApart h → AreDrawsApart h
 files-apart h replies asks next fits f = record {
   words = f;
   files = record {
@@ -458,14 +459,14 @@ files-apart h replies asks next fits f = record {
   };
 }
 
-pub world-apart : (w : WorldState) (h : Hidden) → LinkedDraws w h → WordsApart h → DrawsApart h
+pub world-apart : (w : WorldState) (h : Hidden) → LinkedDraws w h → WordsApart h → AreDrawsApart h
 world-apart w h l f = files-apart h w.kept.replies w.names.names.asks (next_id w.names.names) l.ledger f
 
 pub draws-stay : (lines : List PropLine) (w : WorldState) (words : ℕ → ℕ) (now : ℕ) (e : Event) (fault tells : Type 0) (outcome : Line) (drawn : ℕ) (logged : Acknowledged) (w' : WorldState) (h : Hidden) → KnowsWorld e tells → ServicesFit w
-    → Step lines w words now e fault tells outcome drawn logged w' → LinkedDraws w h → WordsApart h → DrawsApart (hidden_after w words e outcome drawn w' h)
+    → Step lines w words now e fault tells outcome drawn logged w' → LinkedDraws w h → WordsApart h → AreDrawsApart (hidden_after w words e outcome drawn w' h)
 draws-stay lines w words now e fault tells outcome drawn logged w' h knows fit s l f =
     world-apart w' (hidden_after w words e outcome drawn w' h) (keeps-linked lines w words now e fault tells outcome drawn logged w' h knows fit s l)
-    (words-stay lines w words now e fault tells outcome drawn logged w' h fit s l f)
+    (words-stay lines w words now e fault tells outcome drawn logged w' h knows fit s l f)
 
 -- the promise
 

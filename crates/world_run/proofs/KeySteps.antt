@@ -100,15 +100,15 @@ module _ (s : KmsState) (words : ℕ → ℕ) (now : ℕ) where
   began (key_call.Reencrypt name sent) below = (same-later s.table, tt)
   began (key_call.Batch name sent) below = (same-later s.table, tt)
 
-serves-on : (s : ServiceState) (words : ℕ → ℕ) (now : ℕ) (c : KmsCall) (fault : Type 0) (reply : KmsReply) (drawn : ℕ) (logged : List KeyCommand) (s' : ServiceState) → KmsServes s words now c fault reply drawn logged s' → KeepsBirths s → StepsOn s s'
-serves-on s words now c fault reply drawn logged s' serves k =
+serves-on : (s : ServiceState) (words : ℕ → ℕ) (now : ℕ) (c : KmsCall) (fault tells : Type 0) (reply : KmsReply) (drawn : ℕ) (logged : List KeyCommand) (s' : ServiceState) → KmsServes s words now c fault tells reply drawn logged s' → KeepsBirths s → StepsOn s s'
+serves-on s words now c fault tells reply drawn logged s' serves k =
     let rest = go (kind c) refl serves in
-    (rest.0, record { ready = serves_keeps_ready s words now c fault reply drawn logged s' serves k.ready; waits = rest.1 })
+    (rest.0, record { ready = serves_keeps_ready s words now c fault tells reply drawn logged s' serves k.ready; waits = rest.1 })
   where
     Rest : ServiceState → Type 0
     Rest t = KeysLater s.keys.table t.keys.table × IfSome t.pending (MakesNew t.keys.table)
 
-    go : (x : Kind) → kind c ≡ x → ServesBy x s words now c fault reply drawn logged s' → Rest s'
+    go : (x : Kind) → kind c ≡ x → ServesBy x s words now c fault tells reply drawn logged s' → Rest s'
     go Reading is r = subst Rest (sym r.same) (same-later s.keys.table, k.waits)
     go Working is r = subst Rest (sym (works_only s words now c reply drawn logged s' is r)) (same-later s.keys.table, k.waits)
     go Committing is (inl u) = subst Rest (sym u.same) (same-later s.keys.table, k.waits)
@@ -121,12 +121,12 @@ serves-on s words now c fault reply drawn logged s' serves k =
         let b = began (settled kept s) words now c before.births in
         subst Rest (sym u.left) (then-later s.keys.table (settled kept s).table (deed (settled kept s) words now c).state.table (settled-later kept s k) b.0, b.1)
 
-user-on : (lines : List PropLine) (user : Text) (s : ServiceState) (words : ℕ → ℕ) (now : ℕ) (c : KmsCall) (fault : Type 0) (reply : KmsReply) (drawn : ℕ) (logged : List KeyCommand) (s' : ServiceState)
-    → ServesUser lines user s words now c fault reply drawn logged s' → KeepsBirths s → StepsOn s s'
-user-on lines user s words now c fault reply drawn logged s' serves k = by-verdict (verdict lines user c) serves
+user-on : (lines : List PropLine) (user : Text) (s : ServiceState) (words : ℕ → ℕ) (now : ℕ) (c : KmsCall) (fault tells : Type 0) (reply : KmsReply) (drawn : ℕ) (logged : List KeyCommand) (s' : ServiceState)
+    → ServesUser lines user s words now c fault tells reply drawn logged s' → KeepsBirths s → StepsOn s s'
+user-on lines user s words now c fault tells reply drawn logged s' serves k = by-verdict (verdict lines user c) serves
   where
-    by-verdict : (v : Result Shown Denied) → ServesUnder v s words now c fault reply drawn logged s' → StepsOn s s'
-    by-verdict (Ok shown) p = serves-on s words now c fault p.reply drawn logged s' p.serves k
+    by-verdict : (v : Result Shown Denied) → ServesUnder v s words now c fault tells reply drawn logged s' → StepsOn s s'
+    by-verdict (Ok shown) p = serves-on s words now c fault tells p.reply drawn logged s' p.serves k
     by-verdict (Err denied) d = stays s s' d.same k
 
 -- an event
@@ -156,7 +156,7 @@ known-world (event.AskSubmit user path) T t = tt
 known-world (event.Draw n) T t = tt
 known-world (event.Finish n) T t = tt
 known-world (event.Walk path) T t = tt
-known-world (event.Serve n) T t = tt
+known-world (event.Serve n) T t = t
 known-world (event.Deliver n) T t = tt
 known-world (event.GiveUp n) T t = tt
 
@@ -184,16 +184,16 @@ module _ (w : WorldState) (k : KeepsBirths w.keys) where
       noted (Ok note) v = refl
       noted (Err why) v = refl
 
-  by-want : (lines : List PropLine) (words : ℕ → ℕ) (now : ℕ) (wanted : Want) (fault : Type 0) (reply : Option KmsReply) (drawn : ℕ) (commands : List KeyCommand) (keys : ServiceState)
-      → WantActs lines w.keys words now wanted fault reply drawn commands keys → StepsOn w.keys keys
-  by-want lines words now want.Nothing fault reply drawn commands keys n = stays w.keys keys n.same k
-  by-want lines words now (want.Generate name) fault reply drawn commands keys a = user-on lines superuser w.keys words now (key_call.Generate name 1) fault a.reply drawn commands keys a.serves k
-  by-want lines words now (want.Metadata name) fault reply drawn commands keys a = user-on lines superuser w.keys words now (key_call.Metadata name) fault a.reply drawn commands keys a.serves k
+  by-want : (lines : List PropLine) (words : ℕ → ℕ) (now : ℕ) (wanted : Want) (fault tells : Type 0) (reply : Option KmsReply) (drawn : ℕ) (commands : List KeyCommand) (keys : ServiceState)
+      → WantActs lines w.keys words now wanted fault tells reply drawn commands keys → StepsOn w.keys keys
+  by-want lines words now want.Nothing fault tells reply drawn commands keys n = stays w.keys keys n.same k
+  by-want lines words now (want.Generate name) fault tells reply drawn commands keys a = user-on lines superuser w.keys words now (key_call.Generate name 1) fault tells a.reply drawn commands keys a.serves k
+  by-want lines words now (want.Metadata name) fault tells reply drawn commands keys a = user-on lines superuser w.keys words now (key_call.Metadata name) fault tells a.reply drawn commands keys a.serves k
 
-  by-draw : (lines : List PropLine) (words : ℕ → ℕ) (now : ℕ) (o : Option AskNote) (fault : Type 0) (outcome : Line) (drawn : ℕ) (logged : Acknowledged) (w' : WorldState) → DrawActs lines w words now o fault outcome drawn logged w' → On w'
-  by-draw lines words now None fault outcome drawn logged w' u = same w' w u.same refl
-  by-draw lines words now (Some note) fault outcome drawn logged w' (inl a) = left w' _ a.left (by-want lines words now note.want fault a.reply drawn a.commands a.keys a.acts)
-  by-draw lines words now (Some note) fault outcome drawn logged w' (inr u) = same w' w u.same refl
+  by-draw : (lines : List PropLine) (words : ℕ → ℕ) (now : ℕ) (o : Option AskNote) (fault tells : Type 0) (outcome : Line) (drawn : ℕ) (logged : Acknowledged) (w' : WorldState) → DrawActs lines w words now o fault tells outcome drawn logged w' → On w'
+  by-draw lines words now None fault tells outcome drawn logged w' u = same w' w u.same refl
+  by-draw lines words now (Some note) fault tells outcome drawn logged w' (inl a) = left w' _ a.left (by-want lines words now note.want fault tells a.reply drawn a.commands a.keys a.acts)
+  by-draw lines words now (Some note) fault tells outcome drawn logged w' (inr u) = same w' w u.same refl
 
   by-finish : (o : Option KeptReply) (fault : Type 0) (outcome : Line) (drawn : ℕ) (logged : Acknowledged) (w' : WorldState) → FinishReply w o fault outcome drawn logged w' → On w'
   by-finish None fault outcome drawn logged w' u = same w' w u.same refl
@@ -211,10 +211,10 @@ module _ (w : WorldState) (k : KeepsBirths w.keys) where
       walked (Ok walk.Completed) v = refl
       walked (Err why) v = refl
 
-  by-serve : (lines : List PropLine) (words : ℕ → ℕ) (now : ℕ) (o : Option BatchNote) (fault : Type 0) (outcome : Line) (drawn : ℕ) (logged : Acknowledged) (w' : WorldState) → ServeActs lines w words now o fault outcome drawn logged w' → On w'
-  by-serve lines words now None fault outcome drawn logged w' u = same w' w u.same refl
-  by-serve lines words now (Some batch) fault outcome drawn logged w' (inl a) = left w' _ a.left (user-on lines superuser w.keys words now (batch_call batch) fault a.reply drawn a.commands a.keys a.serves k)
-  by-serve lines words now (Some batch) fault outcome drawn logged w' (inr u) = same w' w u.same refl
+  by-serve : (lines : List PropLine) (words : ℕ → ℕ) (now : ℕ) (o : Option BatchNote) (fault tells : Type 0) (outcome : Line) (drawn : ℕ) (logged : Acknowledged) (w' : WorldState) → ServeActs lines w words now o fault tells outcome drawn logged w' → On w'
+  by-serve lines words now None fault tells outcome drawn logged w' u = same w' w u.same refl
+  by-serve lines words now (Some batch) fault tells outcome drawn logged w' (inl a) = left w' _ a.left (user-on lines superuser w.keys words now (batch_call batch) fault tells a.reply drawn a.commands a.keys a.serves k)
+  by-serve lines words now (Some batch) fault tells outcome drawn logged w' (inr u) = same w' w u.same refl
 
   by-delivery : (o : Option KeptReply) (fault : Type 0) (outcome : Line) (drawn : ℕ) (logged : Acknowledged) (w' : WorldState) → DeliverReply w o fault outcome drawn logged w' → On w'
   by-delivery None fault outcome drawn logged w' u = same w' w u.same refl
@@ -243,7 +243,7 @@ module _ (w : WorldState) (k : KeepsBirths w.keys) where
 
 pub step-on : (lines : List PropLine) (w : WorldState) (words : ℕ → ℕ) (now : ℕ) (e : Event) (fault tells : Type 0) (outcome : Line) (drawn : ℕ) (logged : Acknowledged) (w' : WorldState) → KnowsWorld e tells
     → Step lines w words now e fault tells outcome drawn logged w' → KeepsBirths w.keys → StepsOn w.keys w'.keys
-step-on lines w words now (event.Kms user c) fault tells outcome drawn logged w' knows s k = left w k w' _ s.left (user-on lines user w.keys words now c fault s.reply drawn s.commands s.keys s.serves k)
+step-on lines w words now (event.Kms user c) fault tells outcome drawn logged w' knows s k = left w k w' _ s.left (user-on lines user w.keys words now c fault tells s.reply drawn s.commands s.keys s.serves k)
 step-on lines w words now event.Ticket fault tells outcome drawn logged w' knows (inl g) k = by-ticket w k (ticket_of w.keys.keys) w' g.left
 step-on lines w words now event.Ticket fault tells outcome drawn logged w' knows (inr full) k = same w k w' w full.same refl
 step-on lines w words now (event.Deposit number) fault tells outcome drawn logged w' knows s k = by-deposit w k words (numbered w.kept.tickets number) outcome drawn logged w' s
@@ -264,9 +264,9 @@ step-on lines w words now (event.Zones user) fault tells outcome drawn logged w'
 step-on lines w words now (event.AskCreate user p) fault tells outcome drawn logged w' knows s k = by-ask w k user ask.Create (read_path p) outcome w' s.1
 step-on lines w words now (event.AskZone user p key) fault tells outcome drawn logged w' knows s k = by-ask w k user (zone_with key) (read_path p) outcome w' s.1
 step-on lines w words now (event.AskSubmit user p) fault tells outcome drawn logged w' knows s k = by-ask w k user ask.Submit (read_path p) outcome w' s.1
-step-on lines w words now (event.Draw number) fault tells outcome drawn logged w' knows s k = by-draw w k lines words now (numbered w.kept.notes number) fault outcome drawn logged w' s
+step-on lines w words now (event.Draw number) fault tells outcome drawn logged w' knows s k = by-draw w k lines words now (numbered w.kept.notes number) fault tells outcome drawn logged w' s
 step-on lines w words now (event.Finish number) fault tells outcome drawn logged w' knows s k = by-finish w k (numbered w.kept.replies number) fault outcome drawn logged w' s
 step-on lines w words now (event.Walk p) fault tells outcome drawn logged w' knows s k = by-walk w k (read_path p) fault outcome drawn logged w' s
-step-on lines w words now (event.Serve number) fault tells outcome drawn logged w' knows s k = by-serve w k lines words now (numbered w.kept.batches number) fault outcome drawn logged w' s
+step-on lines w words now (event.Serve number) fault tells outcome drawn logged w' knows s k = by-serve w k lines words now (numbered w.kept.batches number) fault tells outcome drawn logged w' s
 step-on lines w words now (event.Deliver number) fault tells outcome drawn logged w' knows s k = by-delivery w k (numbered w.kept.replies number) fault outcome drawn logged w' s
 step-on lines w words now (event.GiveUp number) fault tells outcome drawn logged w' knows s k = by-giving-up w k (numbered w.kept.batches number) fault outcome drawn logged w' s

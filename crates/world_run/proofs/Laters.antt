@@ -11,7 +11,7 @@ use Rattle.hk_base.specs.declared.names.Edek.{Edek}
 use Rattle.key_rows.specs.declared.rows.KeyRow.{KeyRow}
 use Rattle.key_rows.specs.declared.rows.KeyCommand.{KeyCommand}
 use Rattle.key_rows.specs.declared.rows.KeyCommand.TheVariants.{Opened, Create, Roll, Delete}
-use Rattle.key_rows.specs.Sound.{IsTable, NamesOnce}
+use Rattle.key_rows.specs.Sound.{IsKeyTable, NamesOnce}
 use Rattle.key_rows.specs.Table.{Table, after, applies, find_name, is_born, is_length, material_of, no_keys, opening_of, rolled, with_material}
 use Rattle.key_rows.proofs.TableLemmas.{sound_create, sound_delete, sound_roll}
 use Rattle.kms_store.specs.Replay.{HasRoomForBirths, key_replay}
@@ -233,13 +233,13 @@ later-opened all t = later-by t (next_opening t) (omega arith)
 
 -- tables in which no two keys have one name
 
-names-behind : (t : Table) (c : KeyCommand) → IsTable t → applies t c ≡ true → NamesOnce (after t c).rows
+names-behind : (t : Table) (c : KeyCommand) → IsKeyTable t → applies t c ≡ true → NamesOnce (after t c).rows
 names-behind t (Opened opening) is may = is.names
 names-behind t (Create birth name bits description created material) is may = (sound_create t birth name bits description created material is may).names
 names-behind t (Roll birth number material) is may = (sound_roll t birth number material is may).names
 names-behind t (Delete birth) is may = (sound_delete t birth is).names
 
-pub names-with : (found : Bool) (more : Option KeyCommand) (t : Table) → IsTable t → Applies t more → NamesOnce (settled_table found more t).rows
+pub names-with : (found : Bool) (more : Option KeyCommand) (t : Table) → IsKeyTable t → Applies t more → NamesOnce (settled_table found more t).rows
 names-with found None t is may = is.names
 names-with true (Some c) t is may = names-behind t c is may
 names-with false (Some c) t is may = is.names

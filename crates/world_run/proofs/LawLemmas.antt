@@ -9,7 +9,7 @@ use Rattle.inode_tree.specs.Rows.{Entry, root_only}
 use Rattle.key_rows.specs.declared.rows.KeyCommand.{KeyCommand}
 use Rattle.key_rows.specs.declared.rows.KeyCommand.TheVariants.{Opened, Create, Roll, Delete}
 use Rattle.key_rows.specs.Records.{HasSpelling}
-use Rattle.key_rows.specs.Sound.{IsTable}
+use Rattle.key_rows.specs.Sound.{IsKeyTable}
 use Rattle.key_rows.specs.Table.{Table, after, applies, no_keys}
 use Rattle.key_rows.proofs.TableLemmas.{sound_create, sound_delete, sound_roll}
 use Rattle.kms_store.specs.Replay.{key_replay}
@@ -78,21 +78,21 @@ sound-whole past c at s = (not_damaged (c 0) s.commands s.more s.table at s.keys
 
 -- the tables that are found
 
-table-after : (t : Table) (c : KeyCommand) → HasSpelling c → IsTable t → applies t c ≡ true → IsTable (after t c)
+table-after : (t : Table) (c : KeyCommand) → HasSpelling c → IsKeyTable t → applies t c ≡ true → IsKeyTable (after t c)
 table-after t (Opened opening) spelled is may = record { opening = spelled; few = is.few; births = is.births; names = is.names; rows = is.rows }
 table-after t (Create birth name bits description created material) spelled is may = sound_create t birth name bits description created material is may
 table-after t (Roll birth number material) spelled is may = sound_roll t birth number material is may
 table-after t (Delete birth) spelled is may = sound_delete t birth is
 
-pub replayed-table : (t u : Table) (commands : List KeyCommand) → AllByRecursion HasSpelling commands → IsTable t → key_replay t commands ≡ Some u → IsTable u
-replayed-table t u [] spelled is made = let same : t ≡ u = cc made in subst IsTable same is
+pub replayed-table : (t u : Table) (commands : List KeyCommand) → AllByRecursion HasSpelling commands → IsKeyTable t → key_replay t commands ≡ Some u → IsKeyTable u
+replayed-table t u [] spelled is made = let same : t ≡ u = cc made in subst IsKeyTable same is
 replayed-table t u (c ∷ commands) spelled is made = go (applies t c) refl (λ may. replayed-table (after t c) u commands spelled.1 (table-after t c spelled.0 is may)) made
   where
-    go : (b : Bool) → applies t c ≡ b → (applies t c ≡ true → key_replay (after t c) commands ≡ Some u → IsTable u) → (if b then key_replay (after t c) commands else None) ≡ Some u → IsTable u
+    go : (b : Bool) → applies t c ≡ b → (applies t c ≡ true → key_replay (after t c) commands ≡ Some u → IsKeyTable u) → (if b then key_replay (after t c) commands else None) ≡ Some u → IsKeyTable u
     go true may rest made = rest may made
     go false may rest made = absurd (cc made)
 
-pub no-keys-table : IsTable no_keys
+pub no-keys-table : IsKeyTable no_keys
 no-keys-table = record { opening = omega arith; few = omega arith; births = omega arith; names = tt; rows = tt }
 
 pub sound-open : SoundFilesOpen

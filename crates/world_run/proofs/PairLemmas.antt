@@ -3,7 +3,7 @@ use Rattle.std.proofs.Common.{◌≡◌, inl, inr, ℕ, zero, suc, ◌-◌, ◌<
 use Rattle.std.specs.Prelude.{drop}
 use Rattle.std.specs.List.{AllByRecursion}
 use Rattle.world_run.specs.Ledger.{Draw}
-use Rattle.world_run.specs.Linked.{IsRising, Pairs}
+use Rattle.world_run.specs.Linked.{AreDrawsRising, Pairs}
 use Rattle.world_run.specs.Promise.{In}
 use Rattle.world_run.proofs.Members.{each-in}
 
@@ -92,7 +92,7 @@ all-drop P zero ds each = each
 all-drop P (suc n) [] each = each
 all-drop P (suc n) (d ∷ ds) each = all-drop P n ds each.1
 
-pub rising-drop : (n : ℕ) (ds : List Draw) → IsRising ds → IsRising (drop n ds)
+pub rising-drop : (n : ℕ) (ds : List Draw) → AreDrawsRising ds → AreDrawsRising (drop n ds)
 rising-drop zero ds r = r
 rising-drop (suc n) [] r = r
 rising-drop (suc n) (d ∷ ds) r = rising-drop n ds r.1
@@ -102,10 +102,10 @@ all-more P [] d each p = (p, tt)
 all-more P (e ∷ ds) d each p = (each.0, all-more P ds d each.1 p)
 
 -- a draw after all others
-pub rising-more : (ds : List Draw) (d : Draw) → IsRising ds → ((f : Draw) → In f ds → f.place < d.place) → IsRising (ds ++ d ∷ [])
+pub rising-more : (ds : List Draw) (d : Draw) → AreDrawsRising ds → ((f : Draw) → In f ds → f.place < d.place) → AreDrawsRising (ds ++ d ∷ [])
 rising-more [] d r over = (tt, tt)
 rising-more (e ∷ ds) d r over = (all-more (λ (f : Draw). e.place < f.place) ds d r.0 (over e (inl refl)), rising-more ds d r.1 (λ f i. over f (inr i)))
 
 -- the first draw is none of the others
-pub first-once : (d : Draw) (ds : List Draw) → IsRising (d ∷ ds) → In d ds → ⊥
+pub first-once : (d : Draw) (ds : List Draw) → AreDrawsRising (d ∷ ds) → In d ds → ⊥
 first-once d ds r i = let h = each-in (λ (f : Draw). d.place < f.place) ds d r.0 i in omega (arith, h)

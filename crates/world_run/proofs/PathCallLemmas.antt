@@ -16,7 +16,7 @@ use Rattle.hk_events.specs.declared.event.Event.TheVariants as event
 use Rattle.hk_events.specs.declared.event.Line.{Line}
 use Rattle.hk_events.specs.declared.event.Line.TheVariants as line
 use Rattle.world_run.specs.Does.{CallHappens, Happens, PathHappens}
-use Rattle.world_run.specs.PathCalls.{IsRead, ReadsCall, path_call}
+use Rattle.world_run.specs.PathCalls.{IsPathCallRead, ReadsCall, path_call}
 use Rattle.world_run.specs.RenamePaths.{read_rename_paths, rename_along}
 use Rattle.world_run.specs.SnapPaths.{read_snap_path, snap_at, unsnap_at}
 use Rattle.world_run.specs.Step.{delete_with, unread_reply}
@@ -26,10 +26,10 @@ use Rattle.world_run.proofs.StepLemmas.{path-called, path-unread}
 
 -- a reading of bytes, as that of a call
 
-pub is-read : {X : Type 0} (c : X → NameCall) (o : Option X) (x : X) → o ≡ Some x → IsRead (option_map c o) (Ok (c x))
-is-read {X = X} c o x is = subst (λ (y : Option X). IsRead (option_map c y) (Ok (c x))) (sym is) (inl refl)
+pub is-read : {X : Type 0} (c : X → NameCall) (o : Option X) (x : X) → o ≡ Some x → IsPathCallRead (option_map c o) (Ok (c x))
+is-read {X = X} c o x is = subst (λ (y : Option X). IsPathCallRead (option_map c y) (Ok (c x))) (sym is) (inl refl)
 
-pub not-read : {X : Type 0} (c : X → NameCall) (o : Option X) (fault : PathFault) → (fault ≡ BadPath → o ≡ None) → (o ≡ None → fault ≡ BadPath) → IsRead (option_map c o) (Err fault)
+pub not-read : {X : Type 0} (c : X → NameCall) (o : Option X) (fault : PathFault) → (fault ≡ BadPath → o ≡ None) → (o ≡ None → fault ≡ BadPath) → IsPathCallRead (option_map c o) (Err fault)
 not-read c None fault bad only = ap Err (only refl)
 not-read c (Some x) BadPath bad only = absurd (cc (bad refl))
 not-read c (Some x) NoMemory bad only = inr refl
@@ -84,7 +84,7 @@ module _ (lines : List PropLine) (old new : DiskState) (w w' : RunningWorld) (wo
   pub call-made : (e : Event) (user : Text) (made : NameCall) (outcome : Line) → ReadsCall e user (Ok made) → CallHappens old new w user made outcome w' → Happens lines old new w words now e outcome w' words
   call-made e user made outcome reads h = path-happens e user reads.0 outcome reads.1 (path-called old new w w' user the_call reads.0 made outcome (go reads.0 reads.2) h)
     where
-      go : (read : Option NameCall) → IsRead read (Ok made) → read ≡ Some made
+      go : (read : Option NameCall) → IsPathCallRead read (Ok made) → read ≡ Some made
       go None is = absurd (cc is)
       go (Some it) (inl is) = cc is
       go (Some it) (inr is) = absurd (cc is)
@@ -95,12 +95,12 @@ pub call-unread : (lines : List PropLine) (d : DiskState) (w w' : RunningWorld) 
 call-unread lines d w w' words now e user fault outcome reads same is =
     path-happens lines d d w w' words now e user reads.0 (line.Name outcome) reads.1 (path-unread d w w' user the_call reads.0 fault outcome same is (bad reads.0 fault reads.2) (only reads.0 fault reads.2))
   where
-    bad : (read : Option NameCall) (f : PathFault) → IsRead read (Err f) → f ≡ BadPath → read ≡ None
+    bad : (read : Option NameCall) (f : PathFault) → IsPathCallRead read (Err f) → f ≡ BadPath → read ≡ None
     bad None f is b = refl
     bad (Some it) f (inl is) b = absurd (cc is)
     bad (Some it) BadPath (inr is) b = absurd (cc is)
     bad (Some it) NoMemory (inr is) b = absurd (cc b)
 
-    only : (read : Option NameCall) (f : PathFault) → IsRead read (Err f) → read ≡ None → f ≡ BadPath
+    only : (read : Option NameCall) (f : PathFault) → IsPathCallRead read (Err f) → read ≡ None → f ≡ BadPath
     only None f is n = cc is
     only (Some it) f is n = absurd (cc n)

@@ -17,11 +17,11 @@ use Rattle.prop_text.specs.SizeValues.{SizeValues}
 use Rattle.world_run.specs.declared.fault.WorldFault.{WorldFault}
 use Rattle.world_run.specs.Acknowledged.{also}
 use Rattle.world_run.specs.Drives.{Course, Drives, IsCourse, Leads, Standing, standing_after}
-use Rattle.world_run.specs.Keeps.{Begins, Fails, Steps}
+use Rattle.world_run.specs.Keeps.{BeginsFirstWorld, FailsToRestart, Steps}
 use Rattle.world_run.specs.World.{RunningWorld}
 use Rattle.world_run.specs.Ready.{IsReady}
 
-pub ready-at-start : (sizes : SizeValues) (lines : List PropLine) (old new : DiskState) (r : RunningWorld) → Tells old → Begins sizes old new r → AreListsOf r.keys.acls lines → (lines : List PropLine) × IsReady lines new r
+pub ready-at-start : (sizes : SizeValues) (lines : List PropLine) (old new : DiskState) (r : RunningWorld) → Tells old → BeginsFirstWorld sizes old new r → AreListsOf r.keys.acls lines → (lines : List PropLine) × IsReady lines new r
 ready-at-start sizes lines old new r telling begins lists =
     let logs = begins.log telling in (
       lines,
@@ -44,7 +44,7 @@ ready-then lines old new r words now e answer r' words' ready s = record {
 
 pub ready-after-step : (old new : DiskState) (r : RunningWorld) (words : ℕ → ℕ) (now : ℕ) (e : Event) (outcome : Result Line WorldFault) (answer : Line) (r' : RunningWorld) (words' : ℕ → ℕ)
     → (lines : List PropLine) × IsReady lines old r → outcome ≡ Ok answer
-    → MatchResult outcome (λ line. (lines : List PropLine) → AreListsOf r.keys.acls lines → Steps lines old new r words now e line r' words') (λ fault. Fails old new r words e fault.file fault.fault r' words')
+    → MatchResult outcome (λ line. (lines : List PropLine) → AreListsOf r.keys.acls lines → Steps lines old new r words now e line r' words') (λ fault. FailsToRestart old new r words e fault.file fault.fault r' words')
     → (lines : List PropLine) × IsReady lines new r'
 ready-after-step old new r words now e (Ok line) answer r' words' ready is happened = (ready.0, ready-then ready.0 old new r words now e line r' words' ready.1 (happened ready.0 ready.1.lists))
 ready-after-step old new r words now e (Err fault) answer r' words' ready is happened = absurd cc

@@ -21,7 +21,7 @@ use Rattle.hk_events.specs.declared.event.Event.TheVariants as event
 use Rattle.hk_events.specs.declared.event.Line.TheVariants as line
 use Rattle.world_run.specs.Acknowledged.{Acknowledged, HoldsLogs, LeavesBoth, Survives, of_keys, of_names}
 use Rattle.world_run.specs.Does.{Happens}
-use Rattle.world_run.specs.Keeps.{Fails, LeftByRestart, SoundFrom, SurvivesThrough}
+use Rattle.world_run.specs.Keeps.{FailsToRestart, LeftByRestart, SoundFrom, SurvivesThrough}
 use Rattle.world_run.specs.Ledger.{Hidden, past_of}
 use Rattle.world_run.specs.Linked.{LinkedWorld, ServicesFit}
 use Rattle.world_run.specs.Step.{Recovers, RecoversNames}
@@ -121,7 +121,7 @@ keys-restarted old new w w' opening lists sizes of_file fit held s o number rest
 
 -- the opening failed
 pub keys-fail : (old new : DiskState) (w w' : RunningWorld) (words : ℕ → ℕ) (fault : StartFault) → Moment old → Moment new → w' ≡ w → w.keys.store.log.file ≡ 0 → w.names.store.log.log.file ≡ 1 → ServicesFit (world_of w) → Held old w
-    → OpensKeys old new (λ other. fault ≡ other) → Fails old new w words event.RestartKms 0 fault w' words
+    → OpensKeys old new (λ other. fault ≡ other) → FailsToRestart old new w words event.RestartKms 0 fault w' words
 keys-fail old new w w' words fault m n same keys_file names_file fit held o = record {
   restart = refl;
   same = same;
@@ -221,7 +221,7 @@ names-restarted old new w w' opening keys of_file held s o number rest lines wor
 
 -- the opening failed
 pub names-fail : (old new : DiskState) (w w' : RunningWorld) (words : ℕ → ℕ) (fault : StartFault) → Moment old → Moment new → w' ≡ w → w.keys.store.log.file ≡ 0 → w.names.store.log.log.file ≡ 1 → ServicesFit (world_of w) → Held old w
-    → OpensNames old new (λ other. fault ≡ other) → Fails old new w words event.RestartName 1 fault w' words
+    → OpensNames old new (λ other. fault ≡ other) → FailsToRestart old new w words event.RestartName 1 fault w' words
 names-fail old new w w' words fault m n same keys_file names_file fit held o = record {
   restart = refl;
   same = same;

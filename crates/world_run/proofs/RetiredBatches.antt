@@ -11,7 +11,7 @@ use Rattle.reenc_walk.specs.Walks.{WalkState, from_outstanding, is_of, mark_afte
 use Rattle.reenc_update.proofs.ChangeLemmas.{same-edek}
 use Rattle.zone_table.specs.declared.statuses.StatusRow.{StatusRow}
 use Rattle.zone_table.specs.Statuses.{or_mark, with_counts}
-use Rattle.world_run.specs.Covered.{AllAfter, InOrder, NoneShared, WalkCovered, ids_sent}
+use Rattle.world_run.specs.Covered.{AreInWalkOrder, AreSentAfter, NoneShared, WalkCovered, ids_sent}
 use Rattle.world_run.specs.Ledger.{Ledger}
 use Rattle.world_run.specs.Promise.{In}
 use Rattle.world_run.proofs.Members.{some-is}
@@ -92,19 +92,19 @@ was-batch sent w b i = was-retired sent w.batches b (from-was (retired sent w.ba
 
 -- their order
 
-order-from : (rows : List Entry) (zone : ℕ) (bs : List WalkedBatch) → InOrder rows zone bs → InOrder rows zone (from_outstanding bs)
+order-from : (rows : List Entry) (zone : ℕ) (bs : List WalkedBatch) → AreInWalkOrder rows zone bs → AreInWalkOrder rows zone (from_outstanding bs)
 order-from rows zone [] o = o
 order-from rows zone (c ∷ cs) o = go c.outstanding (order-from rows zone cs o.1)
   where
-    go : (k : Bool) → InOrder rows zone (from_outstanding cs) → InOrder rows zone (cond k (c ∷ cs) (from_outstanding cs))
+    go : (k : Bool) → AreInWalkOrder rows zone (from_outstanding cs) → AreInWalkOrder rows zone (cond k (c ∷ cs) (from_outstanding cs))
     go true ih = o
     go false ih = ih
 
-order-retired : (rows : List Entry) (zone : ℕ) (sent : List Sent) (bs : List WalkedBatch) → InOrder rows zone bs → InOrder rows zone (retired sent bs)
+order-retired : (rows : List Entry) (zone : ℕ) (sent : List Sent) (bs : List WalkedBatch) → AreInWalkOrder rows zone bs → AreInWalkOrder rows zone (retired sent bs)
 order-retired rows zone sent [] o = o
 order-retired rows zone sent (c ∷ cs) o = go (is_of sent c) (order-retired rows zone sent cs o.1)
   where
-    go : (k : Bool) → InOrder rows zone (retired sent cs) → InOrder rows zone (cond k (record c { outstanding = false } ∷ cs) (c ∷ retired sent cs))
+    go : (k : Bool) → AreInWalkOrder rows zone (retired sent cs) → AreInWalkOrder rows zone (cond k (record c { outstanding = false } ∷ cs) (c ∷ retired sent cs))
     go true ih = o
     go false ih = ((λ b x i j file m. let w = was-retired sent cs b i in o.0 w.old x w.member j file (subst (λ (s : List Sent). In x.row.id (ids_sent s)) w.sent m)), ih)
 
@@ -139,14 +139,14 @@ mark-last (c ∷ cs) mark p h = go c.outstanding h (mark-last cs (Some c.last) p
     go false h ih = elim (ih h) [ inl is ↦ inr (c, inl refl, some-is c.last p is) | inr l ↦ inr (l.0, inr l.1, l.2) ]
 
 -- the files of a batch that is still outstanding come after it
-mark-before : (rows : List Entry) (zone : ℕ) (bs : List WalkedBatch) (mark : Option (List (List ℕ))) (p : List (List ℕ)) → InOrder rows zone bs → ((q : List (List ℕ)) → mark ≡ Some q → AllAfter rows zone q bs)
+mark-before : (rows : List Entry) (zone : ℕ) (bs : List WalkedBatch) (mark : Option (List (List ℕ))) (p : List (List ℕ)) → AreInWalkOrder rows zone bs → ((q : List (List ℕ)) → mark ≡ Some q → AreSentAfter rows zone q bs)
     → mark_over mark bs ≡ Some p → (b : WalkedBatch) (x : Entry) → In b bs → b.outstanding ≡ true → In x rows → is_file_of rows zone x ≡ true → In x.row.id (ids_sent b.sent)
     → is_after (Some p) (path_in rows zone x.path) ≡ true
 mark-before rows zone [] mark p o after h b x i out j file m = absurd i
 mark-before rows zone (c ∷ cs) mark p o after h b x i out j file m = go c.outstanding refl h i (λ e k. mark-before rows zone cs (Some c.last) p o.1 from-here e b x k out j file m)
   where
-    from-here : (q : List (List ℕ)) → Some c.last ≡ Some q → AllAfter rows zone q cs
-    from-here q is = subst (λ (r : List (List ℕ)). AllAfter rows zone r cs) (some-is c.last q is) o.0
+    from-here : (q : List (List ℕ)) → Some c.last ≡ Some q → AreSentAfter rows zone q cs
+    from-here q is = subst (λ (r : List (List ℕ)). AreSentAfter rows zone r cs) (some-is c.last q is) o.0
 
     go : (k : Bool) → c.outstanding ≡ k → cond k mark (mark_over (Some c.last) cs) ≡ Some p → In b (c ∷ cs) → (mark_over (Some c.last) cs ≡ Some p → In b cs → is_after (Some p) (path_in rows zone x.path) ≡ true)
         → is_after (Some p) (path_in rows zone x.path) ≡ true
@@ -180,7 +180,7 @@ retire-fits ledger rows s w sent changed failed k = record {
   none_shared = shared-from (retired sent w.batches) (shared-retired sent w.batches k.none_shared);
 }
   where
-    none-yet : (q : List (List ℕ)) → None ≡ Some q → AllAfter rows s.zone q (retired sent w.batches)
+    none-yet : (q : List (List ℕ)) → None ≡ Some q → AreSentAfter rows s.zone q (retired sent w.batches)
     none-yet q is = absurd cc
 
     past-mark : (q : List (List ℕ)) → mark_after w.batches sent ≡ Some q → (p : List (List ℕ)) → is_after w.cursor p ≡ true → is_after (Some q) p ≡ true

@@ -1,5 +1,5 @@
 -- The call for a kept batch keeps the world linked: each key that comes back opens to the draw of its file.
-use Rattle.std.proofs.Common.{◌≡◌, inl, inr, ℕ, zero, suc, ◌+◌, ◌-◌, ◌<◌, Bool, false, List, [], ◌∷◌, length, map, Option, Some, None, Ok, Err, slice_get, refl, sym, ap, subst, ◌∙◌, arith}
+use Rattle.std.proofs.Common.{◌≡◌, ◌⊎◌, inl, inr, ℕ, zero, suc, ◌+◌, ◌-◌, ◌<◌, Bool, false, List, [], ◌∷◌, length, map, Option, Some, None, Ok, Err, slice_get, refl, sym, ap, subst, ◌∙◌, arith}
 use Rattle.std.specs.Prelude.{◌≢◌}
 use Rattle.std.specs.List.{list_any}
 use Rattle.std.specs.Option.{option_map, option_and_then}
@@ -12,7 +12,7 @@ use Rattle.hk_base.specs.declared.names.KeyName.{KeyName}
 use Rattle.hk_base.specs.declared.names.VersionName.{VersionName}
 use Rattle.key_rows.specs.declared.rows.KeyCommand.{KeyCommand}
 use Rattle.key_rows.specs.declared.rows.KeyRow.{KeyRow}
-use Rattle.key_rows.specs.Sound.{IsTable, NamesOnce}
+use Rattle.key_rows.specs.Sound.{IsKeyTable, NamesOnce}
 use Rattle.key_rows.specs.Table.{find_name, is_named}
 use Rattle.kms_acls.specs.declared.answers.Denied.{Denied}
 use Rattle.kms_acls.specs.declared.answers.Shown.{Shown}
@@ -23,6 +23,7 @@ use Rattle.kms_calls.specs.declared.calls.KmsReply.TheVariants as key_reply
 use Rattle.kms_core.specs.Calls.{KmsActs, NoRoom, Plain, batch_causes, causes, current_version, deed, first_cause, is_of_other_key, resealed, row_of, unless_refused}
 use Rattle.kms_core.specs.Laws.{SameKey, sent_of}
 use Rattle.kms_core.specs.Opening.{unseals}
+use Rattle.kms_core.specs.Service.{ReadFails}
 use Rattle.kms_core.specs.State.{KmsState, ServiceState}
 use Rattle.kms_core.specs.Users.{ServesUnder}
 use Rattle.kms_core.proofs.KeyLemmas.{found_passes, named}
@@ -67,7 +68,7 @@ found-row : (rows : List KeyRow) (e : Edek) (dek : Dek) → unseals rows e ≡ S
 found-row rows e dek h = opened-row _ (find_name rows e.version.key) e.version.number dek h
 
 -- a key that comes back in a re-encryption, for a file with a draw
-module _ (ledger : Ledger) (session : ℕ) (s : KmsState) (name : KeyName) (x : Sent) (e : Edek) (row : KeyRow) (table : IsTable s.table) (mine : x.edek.version.key ≡ name) (had : HasDraw ledger s.table.rows x.id x.edek) (of_session : OfSession ledger session x.edek.version.key)
+module _ (ledger : Ledger) (session : ℕ) (s : KmsState) (name : KeyName) (x : Sent) (e : Edek) (row : KeyRow) (table : IsKeyTable s.table) (mine : x.edek.version.key ≡ name) (had : HasDraw ledger s.table.rows x.id x.edek) (of_session : OfSession ledger session x.edek.version.key)
     (same : SameKey s name (sent_of x.edek) s e) (found : find_name s.table.rows name ≡ Some row) where
   row-named : row.name ≡ name
   row-named = named s.table.rows name row found
@@ -109,7 +110,7 @@ module _ (ledger : Ledger) (session : ℕ) (s : KmsState) (name : KeyName) (x : 
     not_below = not-below one stand;
   }
 
-came-back : (ledger : Ledger) (session : ℕ) (s : KmsState) (name : KeyName) (x : Sent) (e : Edek) → IsTable s.table → x.edek.version.key ≡ name → HasDraw ledger s.table.rows x.id x.edek → OfSession ledger session x.edek.version.key
+came-back : (ledger : Ledger) (session : ℕ) (s : KmsState) (name : KeyName) (x : Sent) (e : Edek) → IsKeyTable s.table → x.edek.version.key ≡ name → HasDraw ledger s.table.rows x.id x.edek → OfSession ledger session x.edek.version.key
     → OneDraw ledger → VersionsStand ledger s.table.rows → SameKey s name (sent_of x.edek) s e → CameBackIn ledger s.table.rows session x e
 came-back ledger session s name x e table mine had of_session one stand same =
     let found = found-row s.table.rows x.edek same.dek same.before in
@@ -123,7 +124,7 @@ none-at p (y ∷ ys) (suc n) x none at = none-at p ys n x (or_parts (p y) (list_
 
 -- the reply to the call for a batch
 
-module _ (ledger : Ledger) (s : KmsState) (words : ℕ → ℕ) (now : ℕ) (batch : BatchNote) (table : IsTable s.table) (had : (x : Sent) → In x batch.sent → HasDraw ledger s.table.rows x.id x.edek)
+module _ (ledger : Ledger) (s : KmsState) (words : ℕ → ℕ) (now : ℕ) (batch : BatchNote) (table : IsKeyTable s.table) (had : (x : Sent) → In x batch.sent → HasDraw ledger s.table.rows x.id x.edek)
     (of_session : (x : Sent) → In x batch.sent → OfSession ledger batch.session x.edek.version.key) (one : OneDraw ledger) (stand : VersionsStand ledger s.table.rows) where
   abbrev Returned : KmsReply → Type 0
   Returned reply = KeysCameBack ledger s.table.rows batch (result_of reply)
@@ -152,43 +153,46 @@ module _ (ledger : Ledger) (s : KmsState) (words : ℕ → ℕ) (now : ℕ) (bat
           let ready : reply ≡ key_reply.Ready new_keys = ap (λ o. o.reply) answered in
           subst Returned (sym ready) (keys-returned drawn free (subst (λ (r : KmsReply). KmsActs s words now (batch_call batch) r drawn s) ready (Plain, may, is)))
 
-  under-returned : (service : ServiceState) (fault : Type 0) (reply : KmsReply) (drawn : ℕ) (logged : List KeyCommand) (after : ServiceState) (v : Result Shown Denied) → service.keys ≡ s
-      → ServesUnder v service words now (batch_call batch) fault reply drawn logged after → Returned reply
-  under-returned service fault reply drawn logged after (Ok shown) is p =
-      subst Returned (sym p.reply_is) (acts-returned p.reply drawn (subst (λ (k : KmsState). KmsActs k words now (batch_call batch) p.reply drawn k) is p.serves.acts))
-  under-returned service fault reply drawn logged after (Err denied) is d = subst Returned (sym d.reply_is) tt
+  under-returned : (service : ServiceState) (fault tells : Type 0) (reply : KmsReply) (drawn : ℕ) (logged : List KeyCommand) (after : ServiceState) (v : Result Shown Denied) → tells → service.keys ≡ s
+      → ServesUnder v service words now (batch_call batch) fault tells reply drawn logged after → Returned reply
+  under-returned service fault tells reply drawn logged after (Ok shown) telling is p = subst Returned (sym p.reply_is) (known (p.serves.acts (λ older. telling)))
+    where
+      known : KmsActs service.keys words now (batch_call batch) p.reply drawn service.keys ⊎ ReadFails service.keys (batch_call batch) fault p.reply → Returned p.reply
+      known (inl acts) = acts-returned p.reply drawn (subst (λ (k : KmsState). KmsActs k words now (batch_call batch) p.reply drawn k) is acts)
+      known (inr fails) = subst Returned (sym fails.reply_is) tt
+  under-returned service fault tells reply drawn logged after (Err denied) telling is d = subst Returned (sym d.reply_is) tt
 
 -- the call changes no key
-same-rows : (s after : ServiceState) (words : ℕ → ℕ) (now : ℕ) (batch : BatchNote) (fault : Type 0) (reply : KmsReply) (drawn : ℕ) (logged : List KeyCommand) (v : Result Shown Denied)
-    → ServesUnder v s words now (batch_call batch) fault reply drawn logged after → after ≡ s
-same-rows s after words now batch fault reply drawn logged (Ok shown) p = p.serves.same
-same-rows s after words now batch fault reply drawn logged (Err denied) d = d.same
+same-rows : (s after : ServiceState) (words : ℕ → ℕ) (now : ℕ) (batch : BatchNote) (fault tells : Type 0) (reply : KmsReply) (drawn : ℕ) (logged : List KeyCommand) (v : Result Shown Denied)
+    → ServesUnder v s words now (batch_call batch) fault tells reply drawn logged after → after ≡ s
+same-rows s after words now batch fault tells reply drawn logged (Ok shown) p = p.serves.same
+same-rows s after words now batch fault tells reply drawn logged (Err denied) d = d.same
 
-pub serve-keeps : (lines : List PropLine) (w : WorldState) (h : Hidden) (words : ℕ → ℕ) (now number : ℕ) (fault : Type 0) (outcome : Line) (drawn : ℕ) (logged : Acknowledged) (w' : WorldState) (o : Option BatchNote) → ServicesFit w → LinkedDraws w h
-    → numbered w.kept.batches number ≡ o → ServeActs lines w words now o fault outcome drawn logged w' → StaysLinked h w' (hidden_after w words (event.Serve number) outcome drawn w' h)
-serve-keeps lines w h words now number fault outcome drawn logged w' None fit l at u =
+pub serve-keeps : (lines : List PropLine) (w : WorldState) (h : Hidden) (words : ℕ → ℕ) (now number : ℕ) (fault tells : Type 0) (outcome : Line) (drawn : ℕ) (logged : Acknowledged) (w' : WorldState) (o : Option BatchNote) → tells → ServicesFit w → LinkedDraws w h
+    → numbered w.kept.batches number ≡ o → ServeActs lines w words now o fault tells outcome drawn logged w' → StaysLinked h w' (hidden_after w words (event.Serve number) outcome drawn w' h)
+serve-keeps lines w h words now number fault tells outcome drawn logged w' None telling fit l at u =
     subst (λ (t : Line). StaysLinked h w' (hidden_after w words (event.Serve number) t drawn w' h)) (sym u.reply_is)
     (subst (λ (v : WorldState). StaysLinked h v (moved_on w.keys.keys.ready.queues v.keys.keys.ready.queues drawn h)) (sym u.same) (linked-still w h drawn l, apart-moved w.keys.keys.ready.queues w.keys.keys.ready.queues drawn h))
-serve-keeps lines w h words now number fault outcome drawn logged w' (Some batch) fit l at (inr u) =
+serve-keeps lines w h words now number fault tells outcome drawn logged w' (Some batch) telling fit l at (inr u) =
     subst (λ (t : Line). StaysLinked h w' (hidden_after w words (event.Serve number) t drawn w' h)) (sym u.reply_is)
     (subst (λ (v : WorldState). StaysLinked h v (moved_on w.keys.keys.ready.queues v.keys.keys.ready.queues drawn h)) (sym u.same) (linked-still w h drawn l, apart-moved w.keys.keys.ready.queues w.keys.keys.ready.queues drawn h))
-serve-keeps lines w h words now number fault outcome drawn logged w' (Some batch) fit l at (inl a) =
+serve-keeps lines w h words now number fault tells outcome drawn logged w' (Some batch) telling fit l at (inl a) =
     subst (λ (t : Line). StaysLinked h w' (hidden_after w words (event.Serve number) t drawn w' h)) (sym a.reply_is)
     (subst (λ (v : WorldState). StaysLinked h v (AfterReply h w.keys.keys.ready.queues v.keys.keys.ready.queues drawn None)) (sym a.left)
     (linked-reply w h a.keys drawn (ToBatch (reply_for batch a.reply)) None later new l, apart-reply w h a.keys drawn (ToBatch (reply_for batch a.reply)) None later new))
   where
     later : ServiceLater w.keys a.keys
-    later = user-state lines superuser w.keys words now (batch_call batch) fault a.reply drawn a.commands a.keys fit.keys a.serves
+    later = user-state lines superuser w.keys words now (batch_call batch) fault tells a.reply drawn a.commands a.keys fit.keys a.serves
 
     same : a.keys ≡ w.keys
-    same = same-rows w.keys a.keys words now batch fault a.reply drawn a.commands (verdict lines superuser (batch_call batch)) a.serves
+    same = same-rows w.keys a.keys words now batch fault tells a.reply drawn a.commands (verdict lines superuser (batch_call batch)) a.serves
 
     back : ReplyCameBack h.ledger w.keys.keys.table.rows (ToBatch (reply_for batch a.reply))
     back =
         let member = numbered-in w.kept.batches number batch at in (
-          batch-fits w.keys words now batch fault a.reply drawn a.commands a.keys (verdict lines superuser (batch_call batch)) a.serves,
-          under-returned h.ledger w.keys.keys words now batch fit.keys.table (λ x i. l.batches.sent batch x member i) (λ x i. l.batches.sessions batch x member i) l.ledger.one_draw l.versions w.keys fault a.reply drawn a.commands a.keys
-              (verdict lines superuser (batch_call batch)) refl a.serves,
+          batch-fits w.keys words now batch fault tells a.reply drawn a.commands a.keys (verdict lines superuser (batch_call batch)) a.serves,
+          under-returned h.ledger w.keys.keys words now batch fit.keys.table (λ x i. l.batches.sent batch x member i) (λ x i. l.batches.sessions batch x member i) l.ledger.one_draw l.versions w.keys fault tells a.reply drawn a.commands a.keys
+              (verdict lines superuser (batch_call batch)) telling refl a.serves,
         )
 
     new : NewReply h (left_in w.keys.keys.ready.queues a.keys.keys.ready.queues h.queued) (h.place + drawn) a.keys.keys.table (ToBatch (reply_for batch a.reply)) None

@@ -8,7 +8,7 @@ use Rattle.eek_queues.specs.Queues.{AllQueues, Queue, has_queue}
 use Rattle.key_rows.specs.declared.rows.KeyCommand.{KeyCommand}
 use Rattle.key_rows.specs.declared.rows.KeyCommand.TheVariants.{Opened, Create, Roll, Delete}
 use Rattle.key_rows.specs.declared.rows.KeyRow.{KeyRow}
-use Rattle.key_rows.specs.Sound.{Rising}
+use Rattle.key_rows.specs.Sound.{AreRowsRising}
 use Rattle.key_rows.specs.Table.{Table, after, applies, is_born}
 use Rattle.key_rows.proofs.TableLemmas.{sound_create, sound_delete, sound_roll}
 use Rattle.kms_calls.specs.declared.calls.KmsCall.{KmsCall}
@@ -113,16 +113,16 @@ settled-state kept s is = go kept s.pending (may-wait s.pending s.keys is.waits)
     go false (Some c) may = same-state s.keys.table s.keys.ready.queues
 
 -- births rise in the table then
-rising-settled : (kept : Bool) (s : ServiceState) → IsService s → Rising 0 (settled kept s).table.rows (settled kept s).table.greatest
+rising-settled : (kept : Bool) (s : ServiceState) → IsService s → AreRowsRising 0 (settled kept s).table.rows (settled kept s).table.greatest
 rising-settled kept s is = go kept s.pending is.waits
   where
-    by-command : (c : KeyCommand) → applies s.keys.table c ≡ true → Rising 0 (after s.keys.table c).rows (after s.keys.table c).greatest
+    by-command : (c : KeyCommand) → applies s.keys.table c ≡ true → AreRowsRising 0 (after s.keys.table c).rows (after s.keys.table c).greatest
     by-command (Opened opening) may = is.table.births
     by-command (Create birth name bits description created material) may = (sound_create s.keys.table birth name bits description created material is.table may).births
     by-command (Roll birth number material) may = (sound_roll s.keys.table birth number material is.table may).births
     by-command (Delete birth) may = (sound_delete s.keys.table birth is.table).births
 
-    go : (k : Bool) (o : Option KeyCommand) → IfSome o (IsPending s.keys) → Rising 0 (settled_table k o s.keys.table).rows (settled_table k o s.keys.table).greatest
+    go : (k : Bool) (o : Option KeyCommand) → IfSome o (IsPending s.keys) → AreRowsRising 0 (settled_table k o s.keys.table).rows (settled_table k o s.keys.table).greatest
     go k None waits = is.table.births
     go true (Some c) waits = by-command c waits.fits
     go false (Some c) waits = is.table.births
@@ -135,7 +135,7 @@ stands-free true why rest h = absurd cc
 stands-free false why rest h = refl
 
 -- before its command takes effect
-begun-state : (s : KmsState) (words : ℕ → ℕ) (now : ℕ) (c : KmsCall) → Rising 0 s.table.rows s.table.greatest → first_cause (causes s c) ≡ None → StateLater s.table (deed s words now c).state.table s.ready.queues (deed s words now c).state.ready.queues
+begun-state : (s : KmsState) (words : ℕ → ℕ) (now : ℕ) (c : KmsCall) → AreRowsRising 0 s.table.rows s.table.greatest → first_cause (causes s c) ≡ None → StateLater s.table (deed s words now c).state.table s.ready.queues (deed s words now c).state.ready.queues
 begun-state s words now (call.Create name bits material description) rising free = same-state s.table s.ready.queues
 begun-state s words now (call.Roll name material) rising free = same-state s.table s.ready.queues
 begun-state s words now (call.Delete name) rising free = same-state s.table s.ready.queues
@@ -153,7 +153,7 @@ begun-state s words now (call.Reencrypt name sent) rising free = same-state s.ta
 begun-state s words now (call.Batch name sent) rising free = same-state s.table s.ready.queues
 
 -- and afterwards
-deed-state : (s : KmsState) (words : ℕ → ℕ) (now : ℕ) (c : KmsCall) → s.table.greatest < next_birth s → Rising 0 s.table.rows s.table.greatest → first_cause (causes s c) ≡ None
+deed-state : (s : KmsState) (words : ℕ → ℕ) (now : ℕ) (c : KmsCall) → s.table.greatest < next_birth s → AreRowsRising 0 s.table.rows s.table.greatest → first_cause (causes s c) ≡ None
     → StateLater s.table (done_with (deed s words now c).logs (deed s words now c).state).table s.ready.queues (done_with (deed s words now c).logs (deed s words now c).state).ready.queues
 deed-state s words now (call.Create name bits material description) below rising free = state-by s.table s.ready (Create (next_birth s) name bits description now (material_for words bits material)) (omega arith, below)
 deed-state s words now (call.Roll name material) below rising free = state-by s.table s.ready (Roll (birth_of (row_of s name)) (versions_of (row_of s name)) (material_for words (bits_of (row_of s name)) material)) tt
@@ -170,7 +170,7 @@ deed-state s words now (call.Decrypt name sent) below rising free = same-state s
 deed-state s words now (call.Reencrypt name sent) below rising free = same-state s.table s.ready.queues
 deed-state s words now (call.Batch name sent) below rising free = same-state s.table s.ready.queues
 
-pub acts-state : (s : KmsState) (words : ℕ → ℕ) (now : ℕ) (c : KmsCall) (reply : KmsReply) (drawn : ℕ) (s' : KmsState) → s.table.greatest < next_birth s → Rising 0 s.table.rows s.table.greatest
+pub acts-state : (s : KmsState) (words : ℕ → ℕ) (now : ℕ) (c : KmsCall) (reply : KmsReply) (drawn : ℕ) (s' : KmsState) → s.table.greatest < next_birth s → AreRowsRising 0 s.table.rows s.table.greatest
     → KmsActs s words now c reply drawn s'
     → StateLater s.table s'.table s.ready.queues s'.ready.queues
 acts-state s words now c reply drawn s' below rising (NoRoom some, may, is) = subst (λ (x : KmsState). StateLater s.table x.table s.ready.queues x.ready.queues) (sym (ap (λ o. o.state) is)) (same-state s.table s.ready.queues)
@@ -187,11 +187,11 @@ ServiceLater s s' = StateLater s.keys.table s'.keys.table s.keys.ready.queues s'
 pub same-service : (s : ServiceState) → ServiceLater s s
 same-service s = same-state s.keys.table s.keys.ready.queues
 
-serves-state : (s : ServiceState) (words : ℕ → ℕ) (now : ℕ) (c : KmsCall) (fault : Type 0) (reply : KmsReply) (drawn : ℕ) (logged : List KeyCommand) (s' : ServiceState) → IsService s
-    → KmsServes s words now c fault reply drawn logged s' → ServiceLater s s'
-serves-state s words now c fault reply drawn logged s' is serves = go (kind c) serves
+serves-state : (s : ServiceState) (words : ℕ → ℕ) (now : ℕ) (c : KmsCall) (fault tells : Type 0) (reply : KmsReply) (drawn : ℕ) (logged : List KeyCommand) (s' : ServiceState) → IsService s
+    → KmsServes s words now c fault tells reply drawn logged s' → ServiceLater s s'
+serves-state s words now c fault tells reply drawn logged s' is serves = go (kind c) serves
   where
-    go : (k : Kind) → ServesBy k s words now c fault reply drawn logged s' → ServiceLater s s'
+    go : (k : Kind) → ServesBy k s words now c fault tells reply drawn logged s' → ServiceLater s s'
     go Reading r = subst (ServiceLater s) (sym r.same) (same-service s)
     go Working w = subst (ServiceLater s) (sym w.left) (acts-state s.keys words now c reply drawn w.changed is.births is.table.births w.acts)
     go Committing (inl u) = subst (ServiceLater s) (sym u.same) (same-service s)
@@ -208,10 +208,10 @@ serves-state s words now c fault reply drawn logged s' is serves = go (kind c) s
         (begun-state before words now c (rising-settled kept s is) u.free))
 
 -- a call of a user changes nothing if it is denied
-pub user-state : (lines : List PropLine) (user : Text) (s : ServiceState) (words : ℕ → ℕ) (now : ℕ) (c : KmsCall) (fault : Type 0) (reply : KmsReply) (drawn : ℕ) (logged : List KeyCommand) (s' : ServiceState) → IsService s
-    → ServesUser lines user s words now c fault reply drawn logged s' → ServiceLater s s'
-user-state lines user s words now c fault reply drawn logged s' is serves = by-verdict (verdict lines user c) serves
+pub user-state : (lines : List PropLine) (user : Text) (s : ServiceState) (words : ℕ → ℕ) (now : ℕ) (c : KmsCall) (fault tells : Type 0) (reply : KmsReply) (drawn : ℕ) (logged : List KeyCommand) (s' : ServiceState) → IsService s
+    → ServesUser lines user s words now c fault tells reply drawn logged s' → ServiceLater s s'
+user-state lines user s words now c fault tells reply drawn logged s' is serves = by-verdict (verdict lines user c) serves
   where
-    by-verdict : (v : Result Shown Denied) → ServesUnder v s words now c fault reply drawn logged s' → ServiceLater s s'
-    by-verdict (Ok shown) p = serves-state s words now c fault p.reply drawn logged s' is p.serves
+    by-verdict : (v : Result Shown Denied) → ServesUnder v s words now c fault tells reply drawn logged s' → ServiceLater s s'
+    by-verdict (Ok shown) p = serves-state s words now c fault tells p.reply drawn logged s' is p.serves
     by-verdict (Err denied) d = subst (ServiceLater s) (sym d.same) (same-service s)

@@ -10,7 +10,7 @@ use Rattle.hk_base.specs.Disk.{DiskState, Image, IsImage, LeavesOnly, RunOn, Tel
 use Rattle.hk_base.proofs.Runs.{begin}
 use Rattle.eek_queues.specs.Queues.{AllQueues}
 use Rattle.frame_log.specs.Format.{IsAtRest}
-use Rattle.frame_log.specs.Opens.{Opens}
+use Rattle.frame_log.specs.Opens.{OpensLog}
 use Rattle.frame_log.specs.Stands.{LeavesFrom}
 use Rattle.frame_log.proofs.Openings.{opens_for, rose_since, why_for}
 use Rattle.frame_log.specs.declared.fault.StartFault.{StartFault}
@@ -34,10 +34,10 @@ use Rattle.name_core.specs.Service.{Starts as NamesStart}
 use Rattle.name_core.specs.State.{RunningNames}
 use Rattle.world_run.specs.declared.fault.WorldFault.{WorldFault}
 use Rattle.world_run.specs.Acknowledged.{LeavesBoth, RunBoth}
-use Rattle.world_run.specs.Keeps.{Begins, IsOpenedLog, LeftByFirst, LeftBySecond, LeftByStarts}
+use Rattle.world_run.specs.Keeps.{BeginsFirstWorld, IsOpenedLog, LeftByFirst, LeftBySecond, LeftByStarts}
 use Rattle.world_run.specs.Ledger.{Past, drawn_before}
 use Rattle.world_run.specs.Linked.{IsOldBirth, IsRecordedBirth, LinkedTables, LinkedWorld, ServicesFit, SoundFiles, StartsSound}
-use Rattle.world_run.specs.Starts.{FailsAt, KeysOpened, OpensBoth}
+use Rattle.world_run.specs.Starts.{FailsAt, KeyLogOpened, OpensBoth}
 use Rattle.world_run.specs.World.{RunningWorld, WorldState, first_world, none_kept, world_of}
 use Rattle.world_run.proofs.BothLemmas.{both-of, keys-beside, leaves-keys}
 use Rattle.world_run.proofs.CrashLemmas.{rests-now}
@@ -228,14 +228,14 @@ keys-opened old new m telling moments =
     leaves-keys old new (λ c. old.leaves 0 c ⊎ IsLeftByStart (old.reads 0) c) (LeftByStarts old) (λ c keys names. left-by old m telling c (inl (record { keys = keys; names = names }))) moments
 
 -- each image of an opened key log
-opened-log : (old new : DiskState) → KeysOpened old new → (bytes : List ℕ) → new.leaves 0 bytes → IsOpenedLog (old.reads 0) bytes
+opened-log : (old new : DiskState) → KeyLogOpened old new → (bytes : List ℕ) → new.leaves 0 bytes → IsOpenedLog (old.reads 0) bytes
 opened-log old new o bytes left = record { commands = o.commands; table = o.table; log = o.log; room = o.room; sound = o.left bytes left }
 
 -- the opening of the edit log leaves the key log alone
-keys-still-opened : (old mid new : DiskState) → KeysOpened old mid → RunOn 1 mid new → KeysOpened old new
+keys-still-opened : (old mid new : DiskState) → KeyLogOpened old mid → RunOn 1 mid new → KeyLogOpened old new
 keys-still-opened old mid new o run = record { commands = o.commands; table = o.table; log = o.log; room = o.room; left = λ bytes left. o.left bytes ((run.other_leaves bytes).0 left) }
 
-both-opened : (old mid new : DiskState) → Moment old → RunOn 0 old mid → Tells old → KeysOpened old mid → KeysMoments old mid → NamesMoments mid new → LeavesBoth old new (LeftByStarts old)
+both-opened : (old mid new : DiskState) → Moment old → RunOn 0 old mid → Tells old → KeyLogOpened old mid → KeysMoments old mid → NamesMoments mid new → LeavesBoth old new (LeftByStarts old)
 both-opened old mid new m run telling opened first second = record {
   before = λ t c le left. ⊎_elim
       (λ past. ⊎_elim (λ before. inl before) (λ now. inr (left-by old m telling c (inl (record { keys = now.0; names = now.1 })))) (first.before t c le past))
@@ -340,7 +340,7 @@ found-linked past a b commands table ops made s keys names =
     (subst (λ (m : Replayed). LinkedTables past (settled_table f.kept s.more s.table) m.table) (sym g.made_is) (s.linked f.kept g.kept))
 
 pub begins : (sizes : SizeValues) (old mid new : DiskState) (r : RunningWorld) → r.keys.ready ≡ no_queues sizes → Moment old → r.keys.store.log.file ≡ 0 → r.names.store.log.log.file ≡ 1 → ServicesFit (world_of r) → r.kept ≡ none_kept
-    → RunOn 0 old mid → RunOn 1 mid new → Starts old mid (running r.keys) → NamesStart sizes.batch mid new r.names → Begins sizes old new r
+    → RunOn 0 old mid → RunOn 1 mid new → Starts old mid (running r.keys) → NamesStart sizes.batch mid new r.names → BeginsFirstWorld sizes old new r
 begins sizes old mid new r same_sizes m keys_file names_file fit nothing run other_run ks ns = record {
   table = ks.table;
   names = ns.found;
@@ -385,7 +385,7 @@ both-runs old mid new a b = record {
 }
 
 -- a key log that was opened has its new opening, and no record is pending
-pub keys-are-opened : (old new : DiskState) (r : Running) → r.store.log.file ≡ 0 → Starts old new r → Tells old → KeysOpened old new
+pub keys-are-opened : (old new : DiskState) (r : Running) → r.store.log.file ≡ 0 → Starts old new r → Tells old → KeyLogOpened old new
 keys-are-opened old new r of_file s telling =
     let k = s.log telling in
     let commands : List KeyCommand = k.0 ++ next_opening s.table ∷ [] in
@@ -443,7 +443,7 @@ keys-not-started old new fault m o = record {
 }
 
 -- the key log was opened, and then the edit log, or not
-module _ (old mid new : DiskState) (m : Moment old) (n : Moment mid) (opened : Tells old → KeysOpened old mid) (o : KeysDone old mid) where
+module _ (old mid new : DiskState) (m : Moment old) (n : Moment mid) (opened : Tells old → KeyLogOpened old mid) (o : KeysDone old mid) where
   both-moments : {fails : StartFault → Type 0} → OpensNames mid new fails → Tells old → LeavesBoth old new (LeftByStarts old)
   both-moments then telling = both-opened old mid new m o.run telling (opened telling) (o.any_moment telling) (then.any_moment (tells-on 0 old mid o.run telling))
 
@@ -484,10 +484,10 @@ module _ (old mid new : DiskState) (m : Moment old) (n : Moment mid) (opened : T
 
 -- the opening of one log
 module _ {file : ℕ} {Damage : List ℕ → ℕ → Type 0} {Used : List ℕ → Type 0} {Left : List ℕ → List ℕ → Type 0} {old new : DiskState} {T : Type 0} where
-  pub done : (x : T) → Opens file Damage Used Left old new (λ fault. IsErrOf (Ok x) fault) → Opens file Damage Used Left old new (λ fault. ⊥)
+  pub done : (x : T) → OpensLog file Damage Used Left old new (λ fault. IsErrOf (Ok x) fault) → OpensLog file Damage Used Left old new (λ fault. ⊥)
   done x o = opens_for (λ fault none. absurd none) (λ is. absurd (cc is)) o
 
-  pub failed : (why : StartFault) → Opens file Damage Used Left old new (λ fault. IsErrOf {T = T} (Err why) fault) → Opens file Damage Used Left old new (λ fault. why ≡ fault)
+  pub failed : (why : StartFault) → OpensLog file Damage Used Left old new (λ fault. IsErrOf {T = T} (Err why) fault) → OpensLog file Damage Used Left old new (λ fault. why ≡ fault)
   failed why o = opens_for (λ fault is. ap Err is) (λ is. cc is) o
 
 -- other words for the faults

@@ -68,7 +68,7 @@ use Rattle.world_run.specs.Acknowledged.{Acknowledged, nothing_acknowledged, of_
 use Rattle.world_run.specs.Batches.{ReplyFits, after_walk, batch_call, batch_reply_of, batches_after, reply_for, walk_line}
 use Rattle.world_run.specs.Does.{CallHappens, DeliverHappens, DepositHappens, Does, DrawHappens, FinishHappens, GiveUpHappens, Happens, PathHappens, ServeHappens, WalkHappens, WantHappens}
 use Rattle.world_run.specs.Own.{OwnOfNamesCall, OwnOfReply, OwnOfUpdated, OwnOfWalkAt}
-use Rattle.world_run.specs.Keeps.{Fails}
+use Rattle.world_run.specs.Keeps.{FailsToRestart}
 use Rattle.world_run.specs.Step.{AskAt, GivesTicket, LacksRoom, PathActs, Step, Updates, WalkAt, after_ask, after_ticket, ask_of, finish_line, kept_reply, ticket_line, unread_refusal, unread_reply, update_line, zone_with}
 use Rattle.world_run.specs.World.{RunningWorld, WorldState, next_ticket, numbered, with_names, world_of}
 use Rattle.name_core.proofs.Layers.{stands_after_ask}
@@ -369,7 +369,7 @@ served lines old new w words now batch note c user keys keys' names tickets note
     go : ActsFor lines superuser old new keys words now (batch_call batch) reply keys' words'
         → ServeHappens lines old new (parts keys names tickets notes batches replies) words now (Some batch) (line.Replied number (Some reply)) (parts keys' names tickets notes batches replies') words'
     go a =
-        let fits = batch-fits (service_of (running keys)) words now batch (Rose old.faults new.faults) reply a.drawn a.logged (service_of (running keys')) (verdict lines superuser (batch_call batch)) a.serves in
+        let fits = batch-fits (service_of (running keys)) words now batch (Rose old.faults new.faults) (Tells old) reply a.drawn a.logged (service_of (running keys')) (verdict lines superuser (batch_call batch)) a.serves in
         let answer_is : answer ≡ reply_for batch reply = result (subst (λ (b : BatchNote). ReplyFits b reply) (sym same_note) fits) ∙ ap (λ (b : BatchNote). reply_for b reply) same_note in
         let kept : replies' ≡ replies ++ ToBatch (reply_for batch reply) ∷ [] = more ∙ ap (λ (r : ReplyState). replies ++ ToBatch r ∷ []) answer_is in
         record {
@@ -628,7 +628,7 @@ so-happens lines old new w w' words words' now e f outcome is happens = subst (�
 
 -- a restart, done or not
 pub restart-happens : (old new : DiskState) (w w' : RunningWorld) (words : ℕ → ℕ) (now : ℕ) (e f : Event) (result : Result Line WorldFault) → e ≡ f
-    → MatchResult result (λ line. (lines : List PropLine) (words : ℕ → ℕ) (now : ℕ) → Happens lines old new w words now f line w' words) (λ fault. (words : ℕ → ℕ) → Fails old new w words f fault.file fault.fault w' words)
-    → MatchResult result (λ line. (lines : List PropLine) → AreListsOf w.keys.acls lines → Happens lines old new w words now e line w' words) (λ fault. Fails old new w words e fault.file fault.fault w' words)
+    → MatchResult result (λ line. (lines : List PropLine) (words : ℕ → ℕ) (now : ℕ) → Happens lines old new w words now f line w' words) (λ fault. (words : ℕ → ℕ) → FailsToRestart old new w words f fault.file fault.fault w' words)
+    → MatchResult result (λ line. (lines : List PropLine) → AreListsOf w.keys.acls lines → Happens lines old new w words now e line w' words) (λ fault. FailsToRestart old new w words e fault.file fault.fault w' words)
 restart-happens old new w w' words now e f (Ok outcome) is happens = λ lines lists. subst (λ (x : Event). Happens lines old new w words now x outcome w' words) (sym is) (happens lines words now)
-restart-happens old new w w' words now e f (Err fault) is fails = subst (λ (x : Event). Fails old new w words x fault.file fault.fault w' words) (sym is) (fails words)
+restart-happens old new w w' words now e f (Err fault) is fails = subst (λ (x : Event). FailsToRestart old new w words x fault.file fault.fault w' words) (sym is) (fails words)

@@ -17,7 +17,7 @@ use Rattle.eek_seal.proofs.SealLemmas.{unseal-seal}
 use Rattle.eek_queues.specs.Queues.{AllQueues, Queue, has_queue, is_lower, limit, lower_of, lowest, ready_in, set_ready}
 use Rattle.eek_queues.proofs.Births.{ready-set}
 use Rattle.key_rows.specs.declared.rows.KeyRow.{KeyRow}
-use Rattle.key_rows.specs.Sound.{IsRow, IsTable}
+use Rattle.key_rows.specs.Sound.{IsKeyTable, IsRow}
 use Rattle.key_rows.specs.Table.{find_birth, is_born, material_of}
 use Rattle.kms_core.specs.Calls.{current_version, row_of}
 use Rattle.kms_core.specs.Draws.{sealed_with, words_of_draw}
@@ -34,7 +34,7 @@ use Rattle.world_run.specs.World.{WorldState, numbered}
 use Rattle.world_run.specs.Step.{DepositActs, GivesTicket, LacksRoom, after_ticket}
 use Rattle.world_run.specs.Ledger.{Draw, Hidden, behind_words, deposited_under, draw_under, hidden_after, moved_on, with_queued}
 use Rattle.world_run.specs.Promise.{In}
-use Rattle.world_run.specs.Linked.{DrawsFit, IsDrawn, IsOldBirth, IsRising, LinkedDraws, Pairs, QueuesLinked, ReadyLinked, TicketLinked, TicketsLinked}
+use Rattle.world_run.specs.Linked.{AreDrawsRising, DrawsFit, IsDrawn, IsOldBirth, LinkedDraws, Pairs, QueuesLinked, ReadyLinked, TicketLinked, TicketsLinked}
 use Rattle.world_run.proofs.DrawLemmas.{dek-long, iv-long, material-long, rising-most, rising-once, words-of-dek}
 use Rattle.world_run.proofs.Members.{each-in, found-in, in-more, numbered-in, some-is}
 use Rattle.world_run.proofs.PairLemmas.{pairs-more, rising-more}
@@ -79,7 +79,7 @@ newest-got row some = go (slice_get row.materials (length row.materials - 1)) (g
     go None found = absurd (cc found.1)
     go (Some m) found = refl
 
-pub ticket-linked : (s : KmsState) (ticket : Ticket) → IsTable s.table → AllReady s.table.rows s.ready.queues → ticket_of s ≡ Some ticket → TicketLinked s.table s.ready.queues ticket
+pub ticket-linked : (s : KmsState) (ticket : Ticket) → IsKeyTable s.table → AllReady s.table.rows s.ready.queues → ticket_of s ≡ Some ticket → TicketLinked s.table s.ready.queues ticket
 ticket-linked s ticket table ready given = go (lowest (limit s.ready) s.ready.queues) refl given
   where
     rows : List KeyRow
@@ -245,10 +245,10 @@ module _ (w : WorldState) (h : Hidden) (words : ℕ → ℕ) (ticket : Ticket) (
           (sym (ready-other old_queues ticket.birth (ready_in old_queues ticket.birth ++ made_key ∷ []) birth (λ same. let no : true ≡ false = sym (eq-eqb birth ticket.birth (sym same)) ∙ is in absurd cc)))
           (l.queues.opens birth)
 
-  rises : (birth : ℕ) → IsRising (with_queued new_draw h.queued birth)
+  rises : (birth : ℕ) → AreDrawsRising (with_queued new_draw h.queued birth)
   rises birth = go (birth == ticket.birth)
     where
-      go : (t : Bool) → IsRising (cond t (h.queued birth ++ new_draw ∷ []) (h.queued birth))
+      go : (t : Bool) → AreDrawsRising (cond t (h.queued birth ++ new_draw ∷ []) (h.queued birth))
       go true = rising-more (h.queued birth) new_draw (l.queues.rising birth) (λ f i. l.draws.below f (inr (inr (birth, i))))
       go false = l.queues.rising birth
 

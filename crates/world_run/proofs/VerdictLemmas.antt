@@ -1,5 +1,5 @@
 -- Each call of the key management service is judged by the access control lists.
-use Rattle.std.proofs.Common.{◌≡◌, inl, inr, ℕ, Bool, true, false, List, [], ◌∷◌, Option, None, Some, Ok, Err, refl, ap, ◌∙◌, if◌then◌else◌}
+use Rattle.std.proofs.Common.{◌≡◌, inl, inr, ℕ, Bool, true, false, List, [], ◌∷◌, Option, None, Some, Ok, Err, refl, sym, ap, ◌∙◌, if◌then◌else◌}
 use Rattle.std.specs.Prelude.{⊤}
 use Rattle.std.specs.declared.result.Result.{Result}
 use Rattle.hk_base.specs.declared.texts.Text.{Text}
@@ -13,7 +13,7 @@ use Rattle.kms_calls.specs.declared.calls.KmsRefusal.{KmsRefusal}
 use Rattle.kms_calls.specs.declared.calls.KmsReply.{KmsReply}
 use Rattle.kms_calls.specs.declared.calls.KmsReply.TheVariants as reply
 use Rattle.kms_core.specs.Calls.{Deed, Ending, KmsActs, NoRoom, Outcome, Plain, causes, deed, first_cause, outcome, unless_refused}
-use Rattle.kms_core.specs.Service.{Changes, Committing, Kind, KmsServes, Reading, ServesBy, Working, kind}
+use Rattle.kms_core.specs.Service.{Changes, Committing, Kind, KmsServes, OnlyReads, Reading, RefusesFor, ServesBy, Working, kind}
 use Rattle.kms_core.specs.State.{KmsState, ServiceState, settled}
 use Rattle.kms_core.specs.Users.{ServesUnder, ServesUser, hides, reply_to, without_material}
 use Rattle.kms_store.specs.Store.{settled_commands}
@@ -82,18 +82,36 @@ outcome_clean s words now c (NoRoom drawn) = refl
 acts_clean : (s : KmsState) (words : ℕ → ℕ) (now : ℕ) (c : KmsCall) (answer : KmsReply) (drawn : ℕ) (s' : KmsState) → KmsActs s words now c answer drawn s' → denial_in answer ≡ None
 acts_clean s words now c answer drawn s' acts = ap (λ (o : Outcome). denial_in o.reply) acts.2 ∙ outcome_clean s words now c acts.0
 
-module _ (s : ServiceState) (words : ℕ → ℕ) (now : ℕ) (c : KmsCall) (fault : Type 0) (answer : KmsReply) (drawn : ℕ) (logged : List KeyCommand) (s' : ServiceState) where
+module _ (s : ServiceState) (words : ℕ → ℕ) (now : ℕ) (c : KmsCall) (fault tells : Type 0) (answer : KmsReply) (drawn : ℕ) (logged : List KeyCommand) (s' : ServiceState) where
   changes_clean : (kept : Bool) → Changes (settled kept s) (settled_commands kept s.pending) words now c fault answer drawn logged s' → denial_in answer ≡ None
   changes_clean kept (inl written) = acts_clean (settled kept s) words now c answer drawn written.changed written.acts
   changes_clean kept (inr unwritten) = ap denial_in unwritten.reply_is
 
-  kind_clean : (k : Kind) → ServesBy k s words now c fault answer drawn logged s' → denial_in answer ≡ None
-  kind_clean Reading reads = acts_clean s.keys words now c answer drawn s.keys reads.acts
+  -- a call that changes nothing is refused for a cause, for want of memory or by the store, whatever the disk gives
+  why_clean : (why : KmsRefusal) → RefusesFor s.keys c fault why → denial_of (Some why) ≡ None
+  why_clean why (inl stands) = ap denial_of (sym stands) ∙ first_clean (causes s.keys c) (causes_clean s.keys c)
+  why_clean why (inr (inl is)) = ap (λ (w : KmsRefusal). denial_of (Some w)) is
+  why_clean why (inr (inr fails)) = ap (λ (w : KmsRefusal). denial_of (Some w)) fails.0
+
+  reads_clean : OnlyReads s words now c fault tells answer drawn logged s' → (given : KmsReply) → answer ≡ given → denial_in given ≡ None
+  reads_clean reads (reply.Version version material) is = refl
+  reads_clean reads reply.Done is = refl
+  reads_clean reads (reply.Metadata meta) is = refl
+  reads_clean reads (reply.Metadatas metas) is = refl
+  reads_clean reads (reply.Names names) is = refl
+  reads_clean reads (reply.Versions versions) is = refl
+  reads_clean reads (reply.Ready edeks) is = refl
+  reads_clean reads (reply.Resealed edek) is = refl
+  reads_clean reads (reply.Key dek) is = refl
+  reads_clean reads (reply.Refused why) is = why_clean why (reads.refuses why is)
+
+  kind_clean : (k : Kind) → ServesBy k s words now c fault tells answer drawn logged s' → denial_in answer ≡ None
+  kind_clean Reading reads = reads_clean reads answer refl
   kind_clean Working works = acts_clean s.keys words now c answer drawn works.changed works.acts
   kind_clean Committing (inl unsettled) = ap denial_in unsettled.reply_is
   kind_clean Committing (inr changes) = changes_clean changes.0 changes.1
 
-  serves_clean : KmsServes s words now c fault answer drawn logged s' → denial_in answer ≡ None
+  serves_clean : KmsServes s words now c fault tells answer drawn logged s' → denial_in answer ≡ None
   serves_clean serves = kind_clean (kind c) serves
 
 -- what is shown of a reply has the same denial
@@ -118,10 +136,10 @@ shown_same shown c answer = go (hides shown c)
     go false = refl
 
 -- a call of a user is judged
-pub judged : (lines : List PropLine) (user : Text) (s : ServiceState) (words : ℕ → ℕ) (now : ℕ) (c : KmsCall) (fault : Type 0) (answer : KmsReply) (drawn : ℕ) (logged : List KeyCommand) (s' : ServiceState)
-    → ServesUser lines user s words now c fault answer drawn logged s' → IsJudged lines user c answer
-judged lines user s words now c fault answer drawn logged s' serves = by_verdict (verdict lines user c) serves
+pub judged : (lines : List PropLine) (user : Text) (s : ServiceState) (words : ℕ → ℕ) (now : ℕ) (c : KmsCall) (fault tells : Type 0) (answer : KmsReply) (drawn : ℕ) (logged : List KeyCommand) (s' : ServiceState)
+    → ServesUser lines user s words now c fault tells answer drawn logged s' → IsJudged lines user c answer
+judged lines user s words now c fault tells answer drawn logged s' serves = by_verdict (verdict lines user c) serves
   where
-    by_verdict : (v : Result Shown Denied) → ServesUnder v s words now c fault answer drawn logged s' → denial_in answer ≡ denied_by v
-    by_verdict (Ok shown) p = ap denial_in p.reply_is ∙ shown_same shown c p.reply ∙ serves_clean s words now c fault p.reply drawn logged s' p.serves
+    by_verdict : (v : Result Shown Denied) → ServesUnder v s words now c fault tells answer drawn logged s' → denial_in answer ≡ denied_by v
+    by_verdict (Ok shown) p = ap denial_in p.reply_is ∙ shown_same shown c p.reply ∙ serves_clean s words now c fault tells p.reply drawn logged s' p.serves
     by_verdict (Err denied) d = ap denial_in d.reply_is

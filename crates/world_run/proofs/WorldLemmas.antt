@@ -24,7 +24,7 @@ use Rattle.world_run.specs.declared.kept.KeptReply.TheVariants.{ToAsk, ToBatch}
 use Rattle.world_run.specs.World.{Kept, WorldState, with_note, with_reply}
 use Rattle.world_run.specs.Ledger.{Draw, Hidden, Ledger, behind_words, drawn_before, left_in, moved_on, past_of}
 use Rattle.world_run.specs.Promise.{Apart, In}
-use Rattle.world_run.specs.Linked.{BatchesLinked, DrawsFit, FilesLinked, HasDraw, IsDrawn, IsOldBirth, IsRising, KeyLinked, KeysCameBack, LedgerFits, LinkedDraws, Pairs, QueuesLinked, ReadyLinked, Replied, RepliesLinked, ReplyCameBack, TicketLinked, TicketsLinked, WordsApart, key_in_reply}
+use Rattle.world_run.specs.Linked.{AreDrawsRising, BatchesLinked, DrawsFit, FilesLinked, HasDraw, IsDrawn, IsOldBirth, KeyLinked, KeysCameBack, LedgerFits, LinkedDraws, Pairs, QueuesLinked, ReadyLinked, Replied, RepliesLinked, ReplyCameBack, TicketLinked, TicketsLinked, WordsApart, key_in_reply}
 use Rattle.world_run.proofs.Laters.{KeysLater, LaterAt, draw-later, later-opened, later-settled, opens-later, then-later}
 use Rattle.world_run.proofs.Members.{in-more, numbered-in, numbered-more, numbered-within, some-is}
 use Rattle.world_run.proofs.PairLemmas.{drop-as-many, first-once, in-drop, pairs-drop, pairs-long, pairs-then, pairs-with, rising-drop}
@@ -389,7 +389,7 @@ first-free h IsBirth rows queues left place birth d rest f q was begun loses on 
       not_entered = λ id i. q.not_entered birth id d here i;
       not_queued = λ b i.
           let same : b ≡ birth = sym (of_birth b (was b d i)) ∙ of_birth birth here in
-          first-once d rest (subst IsRising begun (q.rising birth)) (subst (λ (ds : List Draw). In d ds) (ap left same ∙ loses) i);
+          first-once d rest (subst AreDrawsRising begun (q.rising birth)) (subst (λ (ds : List Draw). In d ds) (ap left same ∙ loses) i);
       taken = λ apart. let low = apart.taken d drew in omega (arith, low, on);
       apart = λ apart g i. apart.apart d g drew i;
     }

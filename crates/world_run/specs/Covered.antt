@@ -11,11 +11,11 @@ use Rattle.zone_table.specs.declared.statuses.StatusRow.{StatusRow}
 use Rattle.name_store.specs.Table.{NameTable}
 use Rattle.name_core.specs.Walks.{walk_of}
 use Rattle.world_run.specs.Ledger.{Draw, Ledger, Past}
-use Rattle.world_run.specs.Promise.{Counts, In, IsReencrypted, WasThere}
+use Rattle.world_run.specs.Promise.{In, IsInForce, IsReencrypted, WasThere}
 
 -- the file is re-encrypted, or the re-encryption counts a failure
-abbrev pub IsDone : StatusRow → Entry → Type 0
-IsDone s x = IsReencrypted s x ⊎ (s.failed ≢ 0)
+abbrev pub IsFileDone : StatusRow → Entry → Type 0
+IsFileDone s x = IsReencrypted s x ⊎ (s.failed ≢ 0)
 
 abbrev pub ids_sent : List Sent → List ℕ
 ids_sent sent = map (λ (y : Sent). y.id) sent
@@ -29,23 +29,23 @@ abbrev pub IsAhead : List Entry → ℕ → WalkState → Entry → Type 0
 IsAhead rows zone w x = is_after w.cursor (path_in rows zone x.path) ≡ true
 
 -- what the batches have sent of the files that lie in the zone comes after the path
-abbrev pub AllAfter : List Entry → ℕ → List (List ℕ) → List WalkedBatch → Type 0
-AllAfter rows zone last bs =
+abbrev pub AreSentAfter : List Entry → ℕ → List (List ℕ) → List WalkedBatch → Type 0
+AreSentAfter rows zone last bs =
     (b : WalkedBatch) (x : Entry) → In b bs → In x rows → is_file_of rows zone x ≡ true → In x.row.id (ids_sent b.sent) → is_after (Some last) (path_in rows zone x.path) ≡ true
 
 -- the files of each batch come after the last path of each batch before it
-abbrev pub InOrder : List Entry → ℕ → List WalkedBatch → Type 0
-InOrder rows zone [] = ⊤
-InOrder rows zone (b ∷ bs) = AllAfter rows zone b.last bs × InOrder rows zone bs
+abbrev pub AreInWalkOrder : List Entry → ℕ → List WalkedBatch → Type 0
+AreInWalkOrder rows zone [] = ⊤
+AreInWalkOrder rows zone (b ∷ bs) = AreSentAfter rows zone b.last bs × AreInWalkOrder rows zone bs
 
 -- the two batches have sent no file in common
-abbrev pub IsApart : WalkedBatch → WalkedBatch → Type 0
-IsApart b c = (id : ℕ) → In id (ids_sent b.sent) → In id (ids_sent c.sent) → ⊥
+abbrev pub AreBatchesApart : WalkedBatch → WalkedBatch → Type 0
+AreBatchesApart b c = (id : ℕ) → In id (ids_sent b.sent) → In id (ids_sent c.sent) → ⊥
 
 -- no file was sent in two batches
 abbrev pub NoneShared : List WalkedBatch → Type 0
 NoneShared [] = ⊤
-NoneShared (b ∷ bs) = ((c : WalkedBatch) → In c bs → IsApart b c) × NoneShared bs
+NoneShared (b ∷ bs) = ((c : WalkedBatch) → In c bs → AreBatchesApart b c) × NoneShared bs
 
 -- the walk of a re-encryption that goes on
 pub record WalkCovered (ledger : Ledger) (rows : List Entry) (s : StatusRow) (w : WalkState) : Type 0 where
@@ -59,7 +59,7 @@ pub record WalkCovered (ledger : Ledger) (rows : List Entry) (s : StatusRow) (w 
   -- a batch has a file, and each of its files has a draw
   pub some_file : (b : WalkedBatch) → In b w.batches → b.sent ≢ []
   pub entered : (b : WalkedBatch) (y : Sent) → In b w.batches → In y b.sent → (d : Draw) × In (y.id, d) ledger
-  pub in_order : InOrder rows s.zone w.batches
+  pub in_order : AreInWalkOrder rows s.zone w.batches
   -- a batch's own files that lie in the zone do not come after its last path, so no file was sent twice
   pub up_to_last :
       (b : WalkedBatch) (x : Entry) → In b w.batches → In x rows → is_file_of rows s.zone x ≡ true → In x.row.id (ids_sent b.sent)
@@ -70,12 +70,12 @@ pub record WalkCovered (ledger : Ledger) (rows : List Entry) (s : StatusRow) (w 
 -- done, or, while the re-encryption goes on, it was sent in an outstanding batch or comes after the cursor.
 pub record CoveredBy (past : Past) (keys : List KeyRow) (names : NameTable) (walks : List WalkState) : Type 0 where
   pub going_on :
-      (s : StatusRow) (x : Entry) → In s names.statuses → Counts past.ledger keys s → s.completed ≡ false → In x names.rows → WasThere past.starts s.session x.row.id
-      → IsDone s x ⊎ (IsAwaited (walk_of walks s) x ⊎ IsAhead names.rows s.zone (walk_of walks s) x)
-  pub completed : (s : StatusRow) (x : Entry) → In s names.statuses → Counts past.ledger keys s → s.completed ≡ true → In x names.rows → WasThere past.starts s.session x.row.id → IsDone s x
+      (s : StatusRow) (x : Entry) → In s names.statuses → IsInForce past.ledger keys s → s.completed ≡ false → In x names.rows → WasThere past.starts s.session x.row.id
+      → IsFileDone s x ⊎ (IsAwaited (walk_of walks s) x ⊎ IsAhead names.rows s.zone (walk_of walks s) x)
+  pub completed : (s : StatusRow) (x : Entry) → In s names.statuses → IsInForce past.ledger keys s → s.completed ≡ true → In x names.rows → WasThere past.starts s.session x.row.id → IsFileDone s x
   -- a file of an outstanding batch that lies in the zone has the encrypted key that was sent, or is re-encrypted
   pub still_sent :
-      (s : StatusRow) (x : Entry) (b : WalkedBatch) (y : Sent) → In s names.statuses → Counts past.ledger keys s → s.completed ≡ false → In b (walk_of walks s).batches → b.outstanding ≡ true → In y b.sent
+      (s : StatusRow) (x : Entry) (b : WalkedBatch) (y : Sent) → In s names.statuses → IsInForce past.ledger keys s → s.completed ≡ false → In b (walk_of walks s).batches → b.outstanding ≡ true → In y b.sent
       → In x names.rows → is_file_of names.rows s.zone x ≡ true → x.row.id ≡ y.id → (edek_of x.row.kind ≡ Some y.edek) ⊎ IsReencrypted s x
   pub walks_fit : (s : StatusRow) → In s names.statuses → s.completed ≡ false → WalkCovered past.ledger names.rows s (walk_of walks s)
   -- what was there is still a file of the zone, if it still exists

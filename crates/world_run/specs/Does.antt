@@ -84,7 +84,7 @@ WalkHappens old new r path result r' =
 -- the call for a batch; it writes nothing of its own
 abbrev pub ServeHappens : List PropLine → DiskState → DiskState → RunningWorld → (ℕ → ℕ) → ℕ → Option BatchNote → Line → RunningWorld → (ℕ → ℕ) → Type 0
 ServeHappens lines old new r words now batch result r' words' =
-    Does old new r r' words words' NoCommand NothingMore (λ drawn logged. ServeActs lines (world_of r) words now batch (Rose old.faults new.faults) result drawn logged (world_of r'))
+    Does old new r r' words words' NoCommand NothingMore (λ drawn logged. ServeActs lines (world_of r) words now batch (Rose old.faults new.faults) (Tells old) result drawn logged (world_of r'))
 
 -- a delivery, and a giving up
 
@@ -102,7 +102,7 @@ GiveUpHappens old new r batch result r' =
 
 abbrev pub DrawHappens : List PropLine → DiskState → DiskState → RunningWorld → (ℕ → ℕ) → ℕ → Option AskNote → Line → RunningWorld → (ℕ → ℕ) → Type 0
 DrawHappens lines old new r words now note result r' words' =
-    Does old new r r' words words' NoCommand NothingMore (λ drawn logged. DrawActs lines (world_of r) words now note (Rose old.faults new.faults) result drawn logged (world_of r'))
+    Does old new r r' words words' NoCommand NothingMore (λ drawn logged. DrawActs lines (world_of r) words now note (Rose old.faults new.faults) (Tells old) result drawn logged (world_of r'))
 
 -- A deposit draws words, and changes the queues alone.
 pub record DepositHappens (r : RunningWorld) (words : ℕ → ℕ) (ticket : Option Ticket) (result : Line) (r' : RunningWorld) (words' : ℕ → ℕ) : Type 0 where
@@ -116,7 +116,7 @@ pub record DepositHappens (r : RunningWorld) (words : ℕ → ℕ) (ticket : Opt
 pub record WantHappens (lines : List PropLine) (old new : DiskState) (k : RunningKms) (words : ℕ → ℕ) (now : ℕ) (wanted : Want) (result : Option KmsReply) (k' : RunningKms) (words' : ℕ → ℕ) : Type 0 where
   pub drawn : ℕ
   pub commands : List KeyCommand
-  pub acts : WantActs lines (service_of (running k)) words now wanted (Rose old.faults new.faults) result drawn commands (service_of (running k'))
+  pub acts : WantActs lines (service_of (running k)) words now wanted (Rose old.faults new.faults) (Tells old) result drawn commands (service_of (running k'))
   pub rest : (n : ℕ) → words' n ≡ words (drawn + n)
   pub log : Logs old new k.store k'.store (IsLeftOf k.store.table.keys k.store.pending NoCommand) commands
   pub lists : k'.acls ≡ k.acls

@@ -44,11 +44,11 @@ abbrev pub Course : Type 0 → Type 0 → Type 0
 Course D W = List (Passed D W)
 
 -- an event may lead from one standing to another, with this answer
-abbrev pub Leading : Type 0 → Type 0 → Type 1
-Leading D W = Standing D W → Event → Line → Standing D W → Type 0
+abbrev pub WorldLeading : Type 0 → Type 0 → Type 1
+WorldLeading D W = Standing D W → Event → Line → Standing D W → Type 0
 
 -- it does at this moment, under the properties of these lines
-abbrev pub Leads : {D W : Type 0} → (D → DiskState) → (W → ℕ → ℕ) → List PropLine → ℕ → Leading D W
+abbrev pub Leads : {D W : Type 0} → (D → DiskState) → (W → ℕ → ℕ) → List PropLine → ℕ → WorldLeading D W
 Leads state to_come lines now a e answer b = Steps lines (state a.disk) (state b.disk) a.world (to_come a.words) now e answer b.world (to_come b.words)
 
 -- The event that follows an answer, in a drive of the zone whose path has these bytes: a batch is served, its reply is delivered, and
@@ -70,7 +70,7 @@ standing_after a [] = a
 standing_after a (p ∷ earlier) = p.after
 
 -- each event follows the answer before it, and leads on from what that left
-abbrev pub IsCourse : {D W : Type 0} → Leading D W → List ℕ → Standing D W → Course D W → Type 0
+abbrev pub IsCourse : {D W : Type 0} → WorldLeading D W → List ℕ → Standing D W → Course D W → Type 0
 IsCourse leads path a [] = ⊤
 IsCourse leads path a (p ∷ earlier) =
     (event_after path earlier ≡ Some p.event) × leads (standing_after a earlier) p.event p.answer p.after × IsCourse leads path a earlier

@@ -25,13 +25,15 @@ use Rattle.world_run.specs.Does.{Happens}
 use Rattle.world_run.specs.Own.{SurvivesAtRest, SurvivesEvent, SurvivesRestart}
 use Rattle.world_run.specs.Step.{Step}
 use Rattle.world_run.specs.Ledger.{Hidden, Past, drawn_before, hidden_after, past_of}
-use Rattle.world_run.specs.Linked.{DrawsApart, LinkedWorld, SoundFiles, StartsSound, WordsApart}
+use Rattle.world_run.specs.Linked.{AreDrawsApart, LinkedWorld, SoundFiles, StartsSound, WordsApart}
 use Rattle.world_run.specs.Promise.{ZoneFilesOpen}
 
--- The world after a restart is known only if the disk tells its content, and the world after another event always.
+-- The world after a restart is known only if the disk tells its content, and so is what is kept of the call for a batch: it may read
+-- older materials from the disk. The world after another event is known always.
 abbrev pub KnowsWorld : Event → Type 0 → Type 0
 KnowsWorld event.RestartKms tells = tells
 KnowsWorld event.RestartName tells = tells
+KnowsWorld (event.Serve number) tells = tells
 KnowsWorld _ tells = Unit {0}
 
 -- An event under the properties of these lines. If the world is linked with what is hidden, so is the world after the event, and
@@ -41,7 +43,7 @@ pub record LinkedStep (lines : List PropLine) (w : WorldState) (words : ℕ → 
   pub linked : KnowsWorld e tells → (h : Hidden) → LinkedWorld w h → LinkedWorld w' (hidden_after w words e reply drawn w' h)
   pub files_open : KnowsWorld e tells → (h : Hidden) → LinkedWorld w h → ZoneFilesOpen w' (hidden_after w words e reply drawn w' h)
   -- if draws were apart, they are apart after it
-  pub draws_apart : KnowsWorld e tells → (h : Hidden) → LinkedWorld w h → WordsApart h → DrawsApart (hidden_after w words e reply drawn w' h)
+  pub draws_apart : KnowsWorld e tells → (h : Hidden) → LinkedWorld w h → WordsApart h → AreDrawsApart (hidden_after w words e reply drawn w' h)
 
 -- files that a run may start from, with what is hidden afterwards, whatever was hidden before
 abbrev pub SoundFrom : (Hidden → Type 0) → (Hidden → Hidden) → Image → Type 0
@@ -87,7 +89,7 @@ LeftByRestart w e done c = SurvivesRestart w e done c × SoundFrom (LinkedWorld 
 
 -- A restart whose opening failed. The log was opened before, so it is not damaged. The world is unchanged, but its log may have
 -- grown: it must not go on with this disk.
-pub record Fails (old new : DiskState) (r : RunningWorld) (words : ℕ → ℕ) (e : Event) (file : ℕ) (fault : StartFault) (r' : RunningWorld) (words' : ℕ → ℕ) : Type 0 where
+pub record FailsToRestart (old new : DiskState) (r : RunningWorld) (words : ℕ → ℕ) (e : Event) (file : ℕ) (fault : StartFault) (r' : RunningWorld) (words' : ℕ → ℕ) : Type 0 where
   pub restart : is_restart e file
   pub same : r' ≡ r
   pub same_words : words' ≡ words
@@ -103,19 +105,19 @@ pub record Fails (old new : DiskState) (r : RunningWorld) (words : ℕ → ℕ) 
 abbrev pub StepsOrFails : DiskState → DiskState → RunningWorld → (ℕ → ℕ) → ℕ → Event → Result Line WorldFault → RunningWorld → (ℕ → ℕ) → Type 0
 StepsOrFails old new r words now e result r' words' = MatchResult result
     (λ reply. (lines : List PropLine) → AreListsOf r.keys.acls lines → Steps lines old new r words now e reply r' words')
-    (λ fault. Fails old new r words e fault.file fault.fault r' words')
+    (λ fault. FailsToRestart old new r words e fault.file fault.fault r' words')
 
 -- the same of what an event does alone
 abbrev pub HappensOrFails : DiskState → DiskState → RunningWorld → (ℕ → ℕ) → ℕ → Event → Result Line WorldFault → RunningWorld → (ℕ → ℕ) → Type 0
 HappensOrFails old new r words now e result r' words' = MatchResult result
     (λ reply. (lines : List PropLine) → AreListsOf r.keys.acls lines → Happens lines old new r words now e reply r' words')
-    (λ fault. Fails old new r words e fault.file fault.fault r' words')
+    (λ fault. FailsToRestart old new r words e fault.file fault.fault r' words')
 
 -- A restart needs no lists, no words and no moment: it leaves any words as they are.
 abbrev pub RestartsOrFails : DiskState → DiskState → RunningWorld → Event → Result Line WorldFault → RunningWorld → Type 0
 RestartsOrFails old new r e result r' = MatchResult result
     (λ reply. (lines : List PropLine) (words : ℕ → ℕ) (now : ℕ) → Happens lines old new r words now e reply r' words)
-    (λ fault. (words : ℕ → ℕ) → Fails old new r words e fault.file fault.fault r' words)
+    (λ fault. (words : ℕ → ℕ) → FailsToRestart old new r words e fault.file fault.fault r' words)
 
 -- What a start found in both logs, and what they hold after it: the records found, and the next openings.
 pub record BeganLogs (old new : DiskState) (r : RunningWorld) (table : Table) (names : NameTable) : Type 0 where
@@ -131,14 +133,14 @@ pub record BeganLogs (old new : DiskState) (r : RunningWorld) (table : Table) (n
 
 -- A start with these sizes found a table in each log, and recorded the next opening after its records. If a run may start from every image of the old
 -- files, with a ledger of draws of earlier runs, the first world is linked with it.
-pub record Begins (sizes : SizeValues) (old new : DiskState) (r : RunningWorld) : Type 0 where
+pub record BeginsFirstWorld (sizes : SizeValues) (old new : DiskState) (r : RunningWorld) : Type 0 where
   pub table : Table
   pub names : NameTable
   pub first : world_of r ≡ first_world sizes table names
   pub log : Tells old → BeganLogs old new r table names
   pub linked : Tells old → (past : Past) → StartsSound old past → LinkedWorld (world_of r) (drawn_before past)
   pub files_open : Tells old → (past : Past) → StartsSound old past → ZoneFilesOpen (world_of r) (drawn_before past)
-  pub draws_apart : Tells old → (past : Past) → StartsSound old past → WordsApart (drawn_before past) → DrawsApart (drawn_before past)
+  pub draws_apart : Tells old → (past : Past) → StartsSound old past → WordsApart (drawn_before past) → AreDrawsApart (drawn_before past)
   pub rests : RestsNow new r
 
 -- The key log is opened first: it is what it may have been before, or what its start leaves of the log found, and the edit log is

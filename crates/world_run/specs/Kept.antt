@@ -4,7 +4,7 @@ use Rattle.hk_base.specs.Disk.{Image}
 use Rattle.key_rows.specs.declared.rows.KeyRow.{KeyRow}
 use Rattle.kms_store.specs.Store.{settled_table}
 use Rattle.name_store.specs.Table.{NameTable, settled_log}
-use Rattle.world_run.specs.Ledger.{Draw, Ledger, Past, Starts}
+use Rattle.world_run.specs.Ledger.{Draw, FilesAtSubmission, Ledger, Past}
 use Rattle.world_run.specs.Linked.{SoundFiles}
 use Rattle.world_run.specs.Promise.{FilesOpen, In}
 
@@ -24,5 +24,5 @@ pub record ImageKept (known : Past) (image : Image) : Type 0 where
 pub record IsKnownLater (before later : Past) : Type 0 where
   pub entries : Ledger
   pub ledger : later.ledger ≡ before.ledger ++ entries
-  pub begun : Starts
+  pub begun : FilesAtSubmission
   pub starts : later.starts ≡ before.starts ++ begun

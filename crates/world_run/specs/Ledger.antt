@@ -48,8 +48,8 @@ abbrev pub Ledger : Type 0
 Ledger = List (ℕ × Draw)
 
 -- for each id that was entered, the ids of the files that its zone had when its re-encryption was submitted: none for the id of a file
-abbrev pub Starts : Type 0
-Starts = List (ℕ × List ℕ)
+abbrev pub FilesAtSubmission : Type 0
+FilesAtSubmission = List (ℕ × List ℕ)
 
 -- the number of words drawn so far; for each birth the draws of the ready keys in its queue, in order; for each kept reply the draw
 -- of its key, if it has one; which draw the file or the re-encryption of each id got; and which files each re-encryption began with
@@ -58,14 +58,14 @@ pub record Hidden : Type 0 where
   pub queued : ℕ → List Draw
   pub replied : List (Option Draw)
   pub ledger : Ledger
-  pub starts : Starts
+  pub starts : FilesAtSubmission
 
 -- what is hidden of earlier runs: which draw the file or the re-encryption of each id got, the number of words drawn by then, and which
 -- files each re-encryption began with
 pub record Past : Type 0 where
   pub ledger : Ledger
   pub place : ℕ
-  pub starts : Starts
+  pub starts : FilesAtSubmission
 
 -- the rest of what is hidden, after the queues and the kept replies are lost
 abbrev pub past_of : Hidden → Past
@@ -167,7 +167,7 @@ abbrev pub files_under : NameTable → ℕ → List ℕ
 files_under t session = option_map_or (λ (s : StatusRow). files_of_zone t.rows s.zone) (find (is_session session) t.statuses) []
 
 -- for each of these entries, the files that its re-encryption begins with
-abbrev pub starts_of : NameTable → Ledger → Starts
+abbrev pub starts_of : NameTable → Ledger → FilesAtSubmission
 starts_of t entries = map (λ (entry : ℕ × Draw). (entry.0, files_under t entry.0)) entries
 
 -- `drawn` more words were drawn

@@ -25,7 +25,7 @@ use Rattle.name_calls.specs.declared.calls.KeyAnswer.TheVariants.{Given, Refused
 use Rattle.name_core.specs.State.{IsNames, next_id, settled as settled_names}
 use Rattle.world_run.specs.declared.kept.KeptReply.{KeptReply}
 use Rattle.world_run.specs.declared.kept.KeptReply.TheVariants.{ToAsk, ToBatch}
-use Rattle.reenc_update.specs.Replies.{Fits}
+use Rattle.reenc_update.specs.Replies.{FitsSent}
 use Rattle.reenc_update.specs.declared.reply.BatchResult.{BatchResult}
 use Rattle.reenc_update.specs.declared.reply.BatchResult.TheVariants as batch_result
 use Rattle.reenc_walk.specs.declared.sent.BatchNote.{BatchNote}
@@ -146,7 +146,7 @@ pub record WordsApart (h : Hidden) : Type 0 where
   pub apart : (d f : Draw) → IsDrawn h d → IsDrawn h f → (d ≡ f) ⊎ Apart d f
 
 -- and so the draws of two files
-pub record DrawsApart (h : Hidden) : Type 0 where
+pub record AreDrawsApart (h : Hidden) : Type 0 where
   pub words : WordsApart h
   pub files : FilesApart h.ledger
 
@@ -176,9 +176,9 @@ pub record ReadyLinked (keys : List KeyRow) (birth : ℕ) (e : Edek) (d : Draw) 
   pub opens : OpensTo keys d e
 
 -- the places of draws rise
-abbrev pub IsRising : List Draw → Type 0
-IsRising [] = ⊤
-IsRising (d ∷ ds) = AllByRecursion (λ (f : Draw). d.place < f.place) ds × IsRising ds
+abbrev pub AreDrawsRising : List Draw → Type 0
+AreDrawsRising [] = ⊤
+AreDrawsRising (d ∷ ds) = AllByRecursion (λ (f : Draw). d.place < f.place) ds × AreDrawsRising ds
 
 -- Each ready key opens to the data key of its draw, while its key exists. The draw is queued once, and no kept reply and no entry of
 -- the ledger has it.
@@ -186,7 +186,7 @@ pub record QueuesLinked (keys : List KeyRow) (queues : List Queue) (h : Hidden) 
   pub opens : (birth : ℕ) → Pairs (ReadyLinked keys birth) (ready_in queues birth) (h.queued birth)
   -- each queue is of the birth of a key that exists, and its ready keys are of that key's current version
   pub current : AllReady keys queues
-  pub rising : (birth : ℕ) → IsRising (h.queued birth)
+  pub rising : (birth : ℕ) → AreDrawsRising (h.queued birth)
   pub not_replied : (birth : ℕ) (d : Draw) → In d (h.queued birth) → In (Some d) h.replied → ⊥
   pub not_entered : (birth id : ℕ) (d : Draw) → In d (h.queued birth) → In (id, d) h.ledger → ⊥
 
@@ -232,7 +232,7 @@ KeysCameBack ledger keys note (batch_result.Ready edeks) =
 -- as many came back as were sent, each of the same key
 abbrev pub ReplyCameBack : Ledger → List KeyRow → KeptReply → Type 0
 ReplyCameBack ledger keys (ToAsk id answer) = ⊤
-ReplyCameBack ledger keys (ToBatch reply) = Fits reply.note.sent reply.result × KeysCameBack ledger keys reply.note reply.result
+ReplyCameBack ledger keys (ToBatch reply) = FitsSent reply.note.sent reply.result × KeysCameBack ledger keys reply.note reply.result
 
 -- the encrypted keys of kept batches, each of the key of its re-encryption, and those that came back for them
 pub record BatchesLinked (ledger : Ledger) (keys : List KeyRow) (kept : Kept) : Type 0 where

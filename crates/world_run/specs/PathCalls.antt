@@ -30,10 +30,10 @@ path_call (event.Status user path) = Some (user, option_map call.Status (read_pa
 path_call _ = None
 
 -- A reading gives the call, or tells that there is none; there may be no memory for it.
-abbrev pub IsRead : Option NameCall → Result NameCall PathFault → Type 0
-IsRead None result = result ≡ Err BadPath
-IsRead (Some made) result = (result ≡ Ok made) ⊎ (result ≡ Err NoMemory)
+abbrev pub IsPathCallRead : Option NameCall → Result NameCall PathFault → Type 0
+IsPathCallRead None result = result ≡ Err BadPath
+IsPathCallRead (Some made) result = (result ≡ Ok made) ⊎ (result ≡ Err NoMemory)
 
 -- what a reading of an event gives: its user, and what is read of its call
 abbrev pub ReadsCall : Event → Text → Result NameCall PathFault → Type 0
-ReadsCall e user result = (read : Option NameCall) × (path_call e ≡ Some (user, read)) × IsRead read result
+ReadsCall e user result = (read : Option NameCall) × (path_call e ≡ Some (user, read)) × IsPathCallRead read result

@@ -1,5 +1,5 @@
 -- The promise on files in encryption zones, live and in snapshots.
-use Rattle.std.specs.Prelude.{◌≡◌, ◌⊎◌, ◌+◌, ◌/◌, ◌≤◌, ℕ, ⊤, Bool, true, false, List, [], ◌∷◌, length, Option, None, Some}
+use Rattle.std.specs.Prelude.{◌≡◌, ◌⊎◌, ◌+◌, ◌/◌, ◌≤◌, ℕ, ⊤, Bool, true, false, List, length, Option, None, Some}
 use Rattle.hk_base.specs.declared.names.Edek.{Edek}
 use Rattle.hk_base.specs.declared.names.KeyName.{KeyName}
 use Rattle.inode_tree.specs.declared.rows.Kind.{Kind}
@@ -16,7 +16,7 @@ use Rattle.name_store.specs.Table.{NameTable, kept_rows, key_of_zone}
 use Rattle.name_core.specs.State.{settled as settled_names}
 use Rattle.zone_table.specs.declared.statuses.StatusRow.{StatusRow}
 use Rattle.world_run.specs.World.{WorldState}
-use Rattle.world_run.specs.Ledger.{Draw, Hidden, Ledger, Past, Starts, past_of}
+use Rattle.world_run.specs.Ledger.{Draw, FilesAtSubmission, Hidden, Ledger, Past, past_of}
 
 -- the words of one draw end before those of the other begin
 abbrev pub EndsBefore : Draw → Draw → Type 0
@@ -44,11 +44,11 @@ pub record OpensToItsDraw (ledger : Ledger) (rows : List KeyRow) (id : ℕ) (ede
   pub long : (row : KeyRow) → In row rows → row.birth ≡ draw.birth → (length draw.dek ≡ row.bits / 8) × (length edek.iv ≡ 16)
 
 -- the file with this id lay in the zone of the re-encryption when that was submitted
-abbrev pub WasThere : Starts → ℕ → ℕ → Type 0
+abbrev pub WasThere : FilesAtSubmission → ℕ → ℕ → Type 0
 WasThere starts session id = (ids : List ℕ) × In (session, ids) starts × In id ids
 
 -- the re-encryption was not cancelled, and the key of the version that it noted still exists: a row with the birth of its draw
-pub record Counts (ledger : Ledger) (keys : List KeyRow) (s : StatusRow) : Type 0 where
+pub record IsInForce (ledger : Ledger) (keys : List KeyRow) (s : StatusRow) : Type 0 where
   pub uncancelled : s.cancelled ≡ false
   pub draw : Draw
   pub entered : In (s.session, draw) ledger
@@ -71,7 +71,7 @@ pub record FilesOpen (past : Past) (keys : List KeyRow) (names : NameTable) : Ty
   -- A completed re-encryption without a failure left no file behind: each that lay in the zone at its submission, and still exists, is
   -- re-encrypted, if the key still exists.
   pub completed :
-      (s : StatusRow) (file : Entry) → In s names.statuses → Counts past.ledger keys s → s.completed ≡ true → s.failed ≡ 0 → In file names.rows → WasThere past.starts s.session file.row.id → IsReencrypted s file
+      (s : StatusRow) (file : Entry) → In s names.statuses → IsInForce past.ledger keys s → s.completed ≡ true → s.failed ≡ 0 → In file names.rows → WasThere past.starts s.session file.row.id → IsReencrypted s file
 
 -- The draws of two files have no word in common.
 pub record FilesApart (ledger : Ledger) : Type 0 where

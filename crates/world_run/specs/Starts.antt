@@ -14,7 +14,7 @@ use Rattle.world_run.specs.Keeps.{LeftByStarts}
 
 -- The key log was found good and opened: the commands found and the new opening are acknowledged, and each crash leaves them in the
 -- file.
-pub record KeysOpened (old new : DiskState) : Type 0 where
+pub record KeyLogOpened (old new : DiskState) : Type 0 where
   pub commands : List KeyCommand
   pub table : Table
   pub log : IsKeyLog (old.reads 0) commands table
@@ -31,7 +31,7 @@ pub record OpensBoth (old new : DiskState) (fails : ℕ → StartFault → Type 
   pub file : (file : ℕ) (fault : StartFault) → fails file fault → (file ≡ 0) ⊎ (file ≡ 1)
   pub keys : FailsFor 0 IsDamagedAt SpentKeys old new (fails 0)
   pub names : FailsFor 1 IsDamagedName SpentNames old new (fails 1)
-  pub first_keys : (fault : StartFault) → fails 1 fault → Tells old → KeysOpened old new
+  pub first_keys : (fault : StartFault) → fails 1 fault → Tells old → KeyLogOpened old new
   pub first_names : (fault : StartFault) → fails 0 fault → RunOn 0 old new
   -- A crash at any moment leaves what it might have left before, or files on the way: first the key log is opened, and then the edit
   -- log. If a run may start from every image before, with a ledger, it may start from every image since.

@@ -63,11 +63,11 @@ abbrev pub IsQuiet : ℕ → Acknowledged → Type 0
 IsQuiet drawn logged = (drawn ≡ 0) × (logged ≡ nothing_acknowledged)
 
 -- A call of the key management service under the properties of these lines leaves the namesystem unchanged.
-pub record KeysAct (lines : List PropLine) (w : WorldState) (words : ℕ → ℕ) (now : ℕ) (user : Text) (c : KmsCall) (fault : Type 0) (outcome : Line) (drawn : ℕ) (logged : Acknowledged) (w' : WorldState) : Type 0 where
+pub record KeysAct (lines : List PropLine) (w : WorldState) (words : ℕ → ℕ) (now : ℕ) (user : Text) (c : KmsCall) (fault tells : Type 0) (outcome : Line) (drawn : ℕ) (logged : Acknowledged) (w' : WorldState) : Type 0 where
   pub reply : KmsReply
   pub keys : ServiceState
   pub commands : List KeyCommand
-  pub serves : ServesUser lines user w.keys words now c fault reply drawn commands keys
+  pub serves : ServesUser lines user w.keys words now c fault tells reply drawn commands keys
   pub logged_is : logged ≡ of_keys commands
   pub reply_is : outcome ≡ line.Kms reply
   pub left : w' ≡ record w { keys = keys }
@@ -185,9 +185,9 @@ abbrev pub kept_reply : AskNote → Option KmsReply → KeptReply
 kept_reply note reply = ToAsk note.id (answer_of reply)
 
 -- The call of the key management service that an ask wants, if it wants one. It is made as the superuser, whoever asked.
-pub record CallActs (lines : List PropLine) (s : ServiceState) (words : ℕ → ℕ) (now : ℕ) (c : KmsCall) (fault : Type 0) (outcome : Option KmsReply) (drawn : ℕ) (logged : List KeyCommand) (s' : ServiceState) : Type 0 where
+pub record WantedCallActs (lines : List PropLine) (s : ServiceState) (words : ℕ → ℕ) (now : ℕ) (c : KmsCall) (fault tells : Type 0) (outcome : Option KmsReply) (drawn : ℕ) (logged : List KeyCommand) (s' : ServiceState) : Type 0 where
   pub reply : KmsReply
-  pub serves : ServesUser lines superuser s words now c fault reply drawn logged s'
+  pub serves : ServesUser lines superuser s words now c fault tells reply drawn logged s'
   pub reply_is : outcome ≡ Some reply
 
 pub record NothingWanted (s : ServiceState) (outcome : Option KmsReply) (drawn : ℕ) (logged : List KeyCommand) (s' : ServiceState) : Type 0 where
@@ -196,23 +196,23 @@ pub record NothingWanted (s : ServiceState) (outcome : Option KmsReply) (drawn :
   pub none_logged : logged ≡ []
   pub same : s' ≡ s
 
-abbrev pub WantActs : List PropLine → ServiceState → (ℕ → ℕ) → ℕ → Want → Type 0 → Option KmsReply → ℕ → List KeyCommand → ServiceState → Type 0
-WantActs lines s words now want.Nothing fault outcome drawn logged s' = NothingWanted s outcome drawn logged s'
-WantActs lines s words now (want.Generate name) fault outcome drawn logged s' = CallActs lines s words now (key_call.Generate name 1) fault outcome drawn logged s'
-WantActs lines s words now (want.Metadata name) fault outcome drawn logged s' = CallActs lines s words now (key_call.Metadata name) fault outcome drawn logged s'
+abbrev pub WantActs : List PropLine → ServiceState → (ℕ → ℕ) → ℕ → Want → Type 0 → Type 0 → Option KmsReply → ℕ → List KeyCommand → ServiceState → Type 0
+WantActs lines s words now want.Nothing fault tells outcome drawn logged s' = NothingWanted s outcome drawn logged s'
+WantActs lines s words now (want.Generate name) fault tells outcome drawn logged s' = WantedCallActs lines s words now (key_call.Generate name 1) fault tells outcome drawn logged s'
+WantActs lines s words now (want.Metadata name) fault tells outcome drawn logged s' = WantedCallActs lines s words now (key_call.Metadata name) fault tells outcome drawn logged s'
 
-pub record DrawNote (lines : List PropLine) (w : WorldState) (words : ℕ → ℕ) (now : ℕ) (note : AskNote) (fault : Type 0) (outcome : Line) (drawn : ℕ) (logged : Acknowledged) (w' : WorldState) : Type 0 where
+pub record DrawNote (lines : List PropLine) (w : WorldState) (words : ℕ → ℕ) (now : ℕ) (note : AskNote) (fault tells : Type 0) (outcome : Line) (drawn : ℕ) (logged : Acknowledged) (w' : WorldState) : Type 0 where
   pub reply : Option KmsReply
   pub keys : ServiceState
   pub commands : List KeyCommand
-  pub acts : WantActs lines w.keys words now note.want fault reply drawn commands keys
+  pub acts : WantActs lines w.keys words now note.want fault tells reply drawn commands keys
   pub logged_is : logged ≡ of_keys commands
   pub reply_is : outcome ≡ line.Replied (next_reply w) reply
   pub left : w' ≡ with_reply (kept_reply note reply) (record w { keys = keys })
 
-abbrev pub DrawActs : List PropLine → WorldState → (ℕ → ℕ) → ℕ → Option AskNote → Type 0 → Line → ℕ → Acknowledged → WorldState → Type 0
-DrawActs lines w words now None fault outcome drawn logged w' = IsUnknown w outcome drawn logged w'
-DrawActs lines w words now (Some note) fault outcome drawn logged w' = DrawNote lines w words now note fault outcome drawn logged w' ⊎ LacksRoom w outcome drawn logged w'
+abbrev pub DrawActs : List PropLine → WorldState → (ℕ → ℕ) → ℕ → Option AskNote → Type 0 → Type 0 → Line → ℕ → Acknowledged → WorldState → Type 0
+DrawActs lines w words now None fault tells outcome drawn logged w' = IsUnknown w outcome drawn logged w'
+DrawActs lines w words now (Some note) fault tells outcome drawn logged w' = DrawNote lines w words now note fault tells outcome drawn logged w' ⊎ LacksRoom w outcome drawn logged w'
 
 -- a finish of the ask that a kept reply answers
 
@@ -220,7 +220,7 @@ abbrev pub finish_line : Result (Unit {0}) NameRefusal → Line
 finish_line (Ok _) = line.Name reply.Done
 finish_line (Err why) = line.Refused why
 
-pub record FinishActs (w : WorldState) (id : ℕ) (answer : KeyAnswer) (fault : Type 0) (outcome : Line) (drawn : ℕ) (logged : Acknowledged) (w' : WorldState) : Type 0 where
+pub record AskFinishes (w : WorldState) (id : ℕ) (answer : KeyAnswer) (fault : Type 0) (outcome : Line) (drawn : ℕ) (logged : Acknowledged) (w' : WorldState) : Type 0 where
   pub result : Result (Unit {0}) NameRefusal
   pub names : NameService
   pub ops : List EditOp
@@ -237,12 +237,12 @@ ask_of (ToBatch reply) = None
 
 abbrev pub FinishReply : WorldState → Option KeptReply → Type 0 → Line → ℕ → Acknowledged → WorldState → Type 0
 FinishReply w None fault outcome drawn logged w' = IsUnknown w outcome drawn logged w'
-FinishReply w (Some (ToAsk id answer)) fault outcome drawn logged w' = FinishActs w id answer fault outcome drawn logged w'
+FinishReply w (Some (ToAsk id answer)) fault outcome drawn logged w' = AskFinishes w id answer fault outcome drawn logged w'
 FinishReply w (Some (ToBatch reply)) fault outcome drawn logged w' = IsUnknown w outcome drawn logged w'
 
 -- a walk of the zone at a path, whose batch is kept
 
-pub record Walks (w : WorldState) (path : NPath) (fault : Type 0) (outcome : Line) (drawn : ℕ) (logged : Acknowledged) (w' : WorldState) : Type 0 where
+pub record ZoneWalks (w : WorldState) (path : NPath) (fault : Type 0) (outcome : Line) (drawn : ℕ) (logged : Acknowledged) (w' : WorldState) : Type 0 where
   pub result : Result Walked NameRefusal
   pub names : NameService
   pub ops : List EditOp
@@ -255,21 +255,21 @@ pub record Walks (w : WorldState) (path : NPath) (fault : Type 0) (outcome : Lin
 -- the path as it was given; there may be no memory for the path or for keeping a batch
 abbrev pub WalkAt : WorldState → Option NPath → Type 0 → Line → ℕ → Acknowledged → WorldState → Type 0
 WalkAt w None fault outcome drawn logged w' = IsQuiet drawn logged × Refuses w refusal.BadPath outcome w'
-WalkAt w (Some path) fault outcome drawn logged w' = Walks w path fault outcome drawn logged w' ⊎ (IsQuiet drawn logged × Refuses w refusal.NoMemory outcome w')
+WalkAt w (Some path) fault outcome drawn logged w' = ZoneWalks w path fault outcome drawn logged w' ⊎ (IsQuiet drawn logged × Refuses w refusal.NoMemory outcome w')
 
 -- The call for a kept batch is made as the superuser, and its reply is kept with the batch.
-pub record ServeBatch (lines : List PropLine) (w : WorldState) (words : ℕ → ℕ) (now : ℕ) (batch : BatchNote) (fault : Type 0) (outcome : Line) (drawn : ℕ) (logged : Acknowledged) (w' : WorldState) : Type 0 where
+pub record ServeBatch (lines : List PropLine) (w : WorldState) (words : ℕ → ℕ) (now : ℕ) (batch : BatchNote) (fault tells : Type 0) (outcome : Line) (drawn : ℕ) (logged : Acknowledged) (w' : WorldState) : Type 0 where
   pub reply : KmsReply
   pub keys : ServiceState
   pub commands : List KeyCommand
-  pub serves : ServesUser lines superuser w.keys words now (batch_call batch) fault reply drawn commands keys
+  pub serves : ServesUser lines superuser w.keys words now (batch_call batch) fault tells reply drawn commands keys
   pub logged_is : logged ≡ of_keys commands
   pub reply_is : outcome ≡ line.Replied (next_reply w) (Some reply)
   pub left : w' ≡ with_reply (ToBatch (reply_for batch reply)) (record w { keys = keys })
 
-abbrev pub ServeActs : List PropLine → WorldState → (ℕ → ℕ) → ℕ → Option BatchNote → Type 0 → Line → ℕ → Acknowledged → WorldState → Type 0
-ServeActs lines w words now None fault outcome drawn logged w' = IsUnknown w outcome drawn logged w'
-ServeActs lines w words now (Some batch) fault outcome drawn logged w' = ServeBatch lines w words now batch fault outcome drawn logged w' ⊎ LacksRoom w outcome drawn logged w'
+abbrev pub ServeActs : List PropLine → WorldState → (ℕ → ℕ) → ℕ → Option BatchNote → Type 0 → Type 0 → Line → ℕ → Acknowledged → WorldState → Type 0
+ServeActs lines w words now None fault tells outcome drawn logged w' = IsUnknown w outcome drawn logged w'
+ServeActs lines w words now (Some batch) fault tells outcome drawn logged w' = ServeBatch lines w words now batch fault tells outcome drawn logged w' ⊎ LacksRoom w outcome drawn logged w'
 
 -- a delivery of a kept reply to the call for a batch, and the giving up of a kept batch
 
@@ -329,7 +329,7 @@ zone_with key path = ask.Zone path key
 -- w'. Calls of the key management service are judged by the properties of these lines. A store fault comes only if `fault`
 -- holds, and `tells` is whether the disk tells its content.
 abbrev pub Step : List PropLine → WorldState → (ℕ → ℕ) → ℕ → Event → Type 0 → Type 0 → Line → ℕ → Acknowledged → WorldState → Type 0
-Step lines w words now (event.Kms user c) fault tells outcome drawn logged w' = KeysAct lines w words now user c fault outcome drawn logged w'
+Step lines w words now (event.Kms user c) fault tells outcome drawn logged w' = KeysAct lines w words now user c fault tells outcome drawn logged w'
 Step lines w words now event.Ticket fault tells outcome drawn logged w' = GivesTicket w outcome drawn logged w' ⊎ LacksRoom w outcome drawn logged w'
 Step lines w words now (event.Deposit number) fault tells outcome drawn logged w' = DepositActs w words (numbered w.kept.tickets number) outcome drawn logged w'
 Step lines w words now event.RestartKms fault tells outcome drawn logged w' = Restarts w tells outcome drawn logged w'
@@ -349,9 +349,9 @@ Step lines w words now (event.Zones user) fault tells outcome drawn logged w' = 
 Step lines w words now (event.AskCreate user path) fault tells outcome drawn logged w' = IsQuiet drawn logged × AskAt w user ask.Create (read_path path) outcome w'
 Step lines w words now (event.AskZone user path key) fault tells outcome drawn logged w' = IsQuiet drawn logged × AskAt w user (zone_with key) (read_path path) outcome w'
 Step lines w words now (event.AskSubmit user path) fault tells outcome drawn logged w' = IsQuiet drawn logged × AskAt w user ask.Submit (read_path path) outcome w'
-Step lines w words now (event.Draw number) fault tells outcome drawn logged w' = DrawActs lines w words now (numbered w.kept.notes number) fault outcome drawn logged w'
+Step lines w words now (event.Draw number) fault tells outcome drawn logged w' = DrawActs lines w words now (numbered w.kept.notes number) fault tells outcome drawn logged w'
 Step lines w words now (event.Finish number) fault tells outcome drawn logged w' = FinishReply w (numbered w.kept.replies number) fault outcome drawn logged w'
 Step lines w words now (event.Walk path) fault tells outcome drawn logged w' = WalkAt w (read_path path) fault outcome drawn logged w'
-Step lines w words now (event.Serve number) fault tells outcome drawn logged w' = ServeActs lines w words now (numbered w.kept.batches number) fault outcome drawn logged w'
+Step lines w words now (event.Serve number) fault tells outcome drawn logged w' = ServeActs lines w words now (numbered w.kept.batches number) fault tells outcome drawn logged w'
 Step lines w words now (event.Deliver number) fault tells outcome drawn logged w' = DeliverReply w (numbered w.kept.replies number) fault outcome drawn logged w'
 Step lines w words now (event.GiveUp number) fault tells outcome drawn logged w' = GiveUpBatch w (numbered w.kept.batches number) fault outcome drawn logged w'

@@ -3,7 +3,7 @@ ghost use Rattle.std.specs.Prelude.{◌≡◌, is_some, option_map, true};
 ghost use Rattle.name_calls.specs.Paths.{read_path};
 ghost use Rattle.name_calls.specs.ReadPaths.{read_any_path};
 ghost use Rattle.name_calls.specs.declared.calls.NameCall.TheVariants as call;
-ghost use Rattle.world_run.specs.PathCalls.{IsRead, ReadsCall, path_call};
+ghost use Rattle.world_run.specs.PathCalls.{IsPathCallRead, ReadsCall, path_call};
 ghost use Rattle.world_run.specs.RenamePaths.{read_rename_paths, rename_along};
 ghost use Rattle.world_run.specs.SnapPaths.{read_snap_path, snap_at, unsnap_at};
 ghost use Rattle.world_run.specs.Step.{delete_with};
@@ -42,7 +42,7 @@ pub fn read_path_call(alloc: Global, event: Event) -> (Text, Result<NameCall, Pa
 }
 
 fn mkdir(alloc: Global, path: ByteList) -> Result<NameCall, PathFault>
-    ensures { IsRead (option_map call.Mkdir (read_path path)) result }
+    ensures { IsPathCallRead (option_map call.Mkdir (read_path path)) result }
 {
     match NPath::read(alloc, path.as_slice()) {
         Err(fault) => Err(fault),
@@ -51,7 +51,7 @@ fn mkdir(alloc: Global, path: ByteList) -> Result<NameCall, PathFault>
 }
 
 fn delete(alloc: Global, path: ByteList, recursive: bool) -> Result<NameCall, PathFault>
-    ensures { IsRead (option_map (delete_with recursive) (read_path path)) result }
+    ensures { IsPathCallRead (option_map (delete_with recursive) (read_path path)) result }
 {
     match NPath::read(alloc, path.as_slice()) {
         Err(fault) => Err(fault),
@@ -60,7 +60,7 @@ fn delete(alloc: Global, path: ByteList, recursive: bool) -> Result<NameCall, Pa
 }
 
 fn info(alloc: Global, path: ByteList) -> Result<NameCall, PathFault>
-    ensures { IsRead (option_map call.Info (read_any_path path)) result }
+    ensures { IsPathCallRead (option_map call.Info (read_any_path path)) result }
 {
     match ReadPath::read(alloc, path.as_slice()) {
         Err(fault) => Err(fault),
@@ -69,7 +69,7 @@ fn info(alloc: Global, path: ByteList) -> Result<NameCall, PathFault>
 }
 
 fn list(alloc: Global, path: ByteList) -> Result<NameCall, PathFault>
-    ensures { IsRead (option_map call.List (read_any_path path)) result }
+    ensures { IsPathCallRead (option_map call.List (read_any_path path)) result }
 {
     match ReadPath::read(alloc, path.as_slice()) {
         Err(fault) => Err(fault),
@@ -78,7 +78,7 @@ fn list(alloc: Global, path: ByteList) -> Result<NameCall, PathFault>
 }
 
 fn allow(alloc: Global, path: ByteList) -> Result<NameCall, PathFault>
-    ensures { IsRead (option_map call.Allow (read_path path)) result }
+    ensures { IsPathCallRead (option_map call.Allow (read_path path)) result }
 {
     match NPath::read(alloc, path.as_slice()) {
         Err(fault) => Err(fault),
@@ -87,7 +87,7 @@ fn allow(alloc: Global, path: ByteList) -> Result<NameCall, PathFault>
 }
 
 fn disallow(alloc: Global, path: ByteList) -> Result<NameCall, PathFault>
-    ensures { IsRead (option_map call.Disallow (read_path path)) result }
+    ensures { IsPathCallRead (option_map call.Disallow (read_path path)) result }
 {
     match NPath::read(alloc, path.as_slice()) {
         Err(fault) => Err(fault),
@@ -96,7 +96,7 @@ fn disallow(alloc: Global, path: ByteList) -> Result<NameCall, PathFault>
 }
 
 fn cancel(alloc: Global, path: ByteList) -> Result<NameCall, PathFault>
-    ensures { IsRead (option_map call.Cancel (read_path path)) result }
+    ensures { IsPathCallRead (option_map call.Cancel (read_path path)) result }
 {
     match NPath::read(alloc, path.as_slice()) {
         Err(fault) => Err(fault),
@@ -105,7 +105,7 @@ fn cancel(alloc: Global, path: ByteList) -> Result<NameCall, PathFault>
 }
 
 fn status(alloc: Global, path: ByteList) -> Result<NameCall, PathFault>
-    ensures { IsRead (option_map call.Status (read_path path)) result }
+    ensures { IsPathCallRead (option_map call.Status (read_path path)) result }
 {
     match NPath::read(alloc, path.as_slice()) {
         Err(fault) => Err(fault),
@@ -114,7 +114,7 @@ fn status(alloc: Global, path: ByteList) -> Result<NameCall, PathFault>
 }
 
 fn rename(alloc: Global, path: ByteList, to: ByteList) -> Result<NameCall, PathFault>
-    ensures { IsRead (option_map rename_along (read_rename_paths path to)) result }
+    ensures { IsPathCallRead (option_map rename_along (read_rename_paths path to)) result }
 {
     match RenamePaths::read(alloc, &path, &to) {
         Err(fault) => Err(fault),
@@ -126,7 +126,7 @@ fn rename(alloc: Global, path: ByteList, to: ByteList) -> Result<NameCall, PathF
 }
 
 fn snap(alloc: Global, path: ByteList, name: ByteList) -> Result<NameCall, PathFault>
-    ensures { IsRead (option_map snap_at (read_snap_path path name)) result }
+    ensures { IsPathCallRead (option_map snap_at (read_snap_path path name)) result }
 {
     match SnapPath::read(alloc, &path, name) {
         Err(fault) => Err(fault),
@@ -138,7 +138,7 @@ fn snap(alloc: Global, path: ByteList, name: ByteList) -> Result<NameCall, PathF
 }
 
 fn unsnap(alloc: Global, path: ByteList, name: ByteList) -> Result<NameCall, PathFault>
-    ensures { IsRead (option_map unsnap_at (read_snap_path path name)) result }
+    ensures { IsPathCallRead (option_map unsnap_at (read_snap_path path name)) result }
 {
     match SnapPath::read(alloc, &path, name) {
         Err(fault) => Err(fault),

@@ -5,7 +5,7 @@ ghost use Rattle.kms_acls.specs.Agreement.{AreListsOf};
 ghost use Rattle.name_core.specs.Calls.{superuser};
 ghost use Rattle.hk_events.specs.declared.event.Event.TheVariants as event;
 ghost use Rattle.world_run.specs.Acknowledged.{Acknowledged, HoldsLogs};
-ghost use Rattle.world_run.specs.Keeps.{Begins, HappensOrFails, RestartsOrFails, StepsOrFails};
+ghost use Rattle.world_run.specs.Keeps.{BeginsFirstWorld, HappensOrFails, RestartsOrFails, StepsOrFails};
 ghost use Rattle.world_run.specs.Linked.{ServicesFit};
 ghost use Rattle.world_run.specs.Starts.{OpensBoth};
 ghost use Rattle.world_run.specs.World.{world_of};
@@ -105,7 +105,7 @@ impl World {
     /// recorded. The first file with a fault counts: if it is file 1, the key log was found good and
     /// was opened; if it is file 0, file 1 was not touched.
     pub fn start<D: Disk>(alloc: Global, disk: &mut D, props: &Props) -> Result<World, WorldFault>
-        ensures began { IfOk result (Begins props.now.sizes (D.state disk.old) (D.state disk.new)) }
+        ensures began { IfOk result (BeginsFirstWorld props.now.sizes (D.state disk.old) (D.state disk.new)) }
         ensures lists { IfOk result (λ world. AreListsOf world.keys.acls props.now.lines) }
         ensures opens { OpensBoth (D.state disk.old) (D.state disk.new)
             (λ file fault. IsErrOf result (record { file = file; fault = fault })) }

@@ -1,10 +1,10 @@
 use Rattle.std.proofs.Common.{refl, subst}
-use Rattle.name_history.specs.Asked.{Answers}
+use Rattle.name_history.specs.Asked.{AnswersWant}
 use Rattle.cell_desk.proofs.FinishLemmas.{finished_alone, finished_meeting, got_for_note}
 use Rattle.cell_desk.proofs.asks.finish_asked.Goals as goal
 
 pub finish_names-requires-clause-seen : goal.finish_names-requires-clause-seen
-finish_names-requires-clause-seen g c = (c.args.note, c.requires.noted, record { id = refl; answers = subst (Answers c.args.note.want) c.in-None.is c.call_wanted.ensures.answers })
+finish_names-requires-clause-seen g c = (c.args.note, c.requires.noted, record { id = refl; answers = subst (AnswersWant c.args.note.want) c.in-None.is c.call_wanted.ensures.answers })
 
 pub returns-in-None : goal.returns-in-None
 returns-in-None g c =
@@ -12,7 +12,7 @@ returns-in-None g c =
     c.call_wanted.ensures.got c.call_wanted.ensures.answers c.in-None.is c.finish_names.ensures
 
 pub finish_meeting-requires-clause-seen : goal.finish_meeting-requires-clause-seen
-finish_meeting-requires-clause-seen g c = (c.args.note, c.requires.noted, record { id = refl; answers = subst (Answers c.args.note.want) c.in-Some.is c.call_wanted.ensures.answers })
+finish_meeting-requires-clause-seen g c = (c.args.note, c.requires.noted, record { id = refl; answers = subst (AnswersWant c.args.note.want) c.in-Some.is c.call_wanted.ensures.answers })
 
 pub finish_meeting-requires-clause-got : goal.finish_meeting-requires-clause-got
 finish_meeting-requires-clause-got g c =

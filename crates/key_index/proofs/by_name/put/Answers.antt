@@ -1,6 +1,6 @@
 use Rattle.std.proofs.Common.{sym, ◌∙◌, ap, subst, List}
 use Rattle.key_rows.specs.declared.by_name.NamedBirth.{NamedBirth}
-use Rattle.key_rows.specs.Names.{InOrder, names_of, birth_in}
+use Rattle.key_rows.specs.Names.{AreInNameOrder, names_of, birth_in}
 use Rattle.key_rows.proofs.Orders.{found_in, order_put, birth_put}
 use Rattle.key_index.proofs.by_name.put.Goals as goal
 
@@ -13,7 +13,7 @@ unreachable-requires c =
 pub returns-clause-order : goal.returns-clause-order
 returns-clause-order c =
     let new : NamedBirth = record { name = c.args.name; birth = c.args.birth } in
-    subst (λ (es : List NamedBirth). InOrder (names_of es)) (sym c.in_ok-insert-in-Err.ensures.items) (order_put c.args.entries.now.items c.in-Err.place new c.in-Err.ensures.bound c.requires.order c.in-Err.ensures.place)
+    subst (λ (es : List NamedBirth). AreInNameOrder (names_of es)) (sym c.in_ok-insert-in-Err.ensures.items) (order_put c.args.entries.now.items c.in-Err.place new c.in-Err.ensures.bound c.requires.order c.in-Err.ensures.place)
 
 pub returns-clause-ok : goal.returns-clause-ok
 returns-clause-ok c =

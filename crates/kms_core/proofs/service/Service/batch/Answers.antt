@@ -1,16 +1,20 @@
-use Rattle.std.proofs.Common.{List, sym, subst}
+use Rattle.std.proofs.Common.{List, subst}
+use Rattle.std.specs.Prelude.{Ok, Err}
+use Rattle.kms_calls.specs.declared.calls.KmsCall.TheVariants as call
+use Rattle.kms_calls.specs.declared.calls.KmsReply.TheVariants as reply
 use Rattle.kms_calls.specs.declared.calls.RawEdek.{RawEdek}
-use Rattle.kms_core.specs.Steps.{RefusesBatch, ResealsAll}
-use Rattle.kms_core.specs.State.{keys_of}
-use Rattle.kms_core.proofs.AnswerLemmas.{reencrypts_all, reencrypts_none}
+use Rattle.kms_core.specs.Service.{KmsActsOnDisk}
+use Rattle.kms_core.proofs.ReadLoops.{acts_on_batch}
 use Rattle.kms_core.proofs.service.Service.batch.Goals as goal
 
 pub returns-in-Err : goal.returns-in-Err
-returns-in-Err c =
-    reencrypts_none (keys_of c.args.self.now) c.args.name c.args.sent c.in-Some.row.now c.in-Err.why (sym c.in-Some.ensures.found)
-    (subst (λ (sent : List RawEdek). RefusesBatch c.in-Some.row.now sent c.in-Err.why) c.as_slice.ensures c.in-Err.ensures)
+returns-in-Err g c = λ words now.
+    let D0 = g.D.Disk.state c.args.disk.now in let D1 = g.D.Disk.state c.reseal_all.new.disk in
+    subst (λ (sent : List RawEdek). KmsActsOnDisk D0 D1 c.args.self.now words now (call.Batch c.args.name sent) (reply.Refused c.in-Err.why) c.reseal_all.new.self words) c.as_slice.ensures
+    (acts_on_batch D0 D1 c.args.self.now c.reseal_all.new.self words now c.args.name c.as_slice.result.now (Err c.in-Err.why) c.in-Err.ensures.reads c.in-Err.ensures.answer tt)
 
 pub returns : goal.returns
-returns c =
-    reencrypts_all (keys_of c.args.self.now) c.args.name c.args.sent c.in-Some.row.now c.in-Ok.keys (sym c.in-Some.ensures.found)
-    (subst (λ (sent : List RawEdek). ResealsAll c.in-Some.row.now sent c.in-Ok.keys) c.as_slice.ensures c.in-Ok.ensures)
+returns g c = λ words now.
+    let D0 = g.D.Disk.state c.args.disk.now in let D1 = g.D.Disk.state c.reseal_all.new.disk in
+    subst (λ (sent : List RawEdek). KmsActsOnDisk D0 D1 c.args.self.now words now (call.Batch c.args.name sent) (reply.Ready c.in-Ok.keys) c.reseal_all.new.self words) c.as_slice.ensures
+    (acts_on_batch D0 D1 c.args.self.now c.reseal_all.new.self words now c.args.name c.as_slice.result.now (Ok c.in-Ok.keys) c.in-Ok.ensures.reads c.in-Ok.ensures.answer c.in-Ok.ensures.versions)

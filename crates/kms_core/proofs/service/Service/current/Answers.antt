@@ -1,7 +1,8 @@
-use Rattle.std.proofs.Common.{sym}
 use Rattle.kms_core.specs.State.{keys_of}
-use Rattle.kms_core.proofs.KeyLemmas.{current_is_newest}
+use Rattle.kms_core.proofs.KeyLemmas.{newest_is}
 use Rattle.kms_core.proofs.service.Service.current.Goals as goal
 
 pub returns : goal.returns
-returns c = current_is_newest (keys_of c.args.self.now) c.args.name.now c.in_ok-row.row.now c.newest.result (sym c.in_ok-row.ensures.found) c.in_ok-row.ensures.birth c.newest.ensures.some c.newest.ensures.newest
+returns c =
+    let has = c.in_ok-key.ensures.key in
+    newest_is (keys_of c.args.self.now) c.args.name.now has.key c.newest.result has.found has.born (c.newest.ensures has.key has.knows has.rules)

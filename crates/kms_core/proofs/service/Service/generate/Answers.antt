@@ -6,7 +6,7 @@ use Rattle.kms_calls.specs.declared.calls.KmsReply.TheVariants.{Refused}
 use Rattle.kms_calls.specs.declared.calls.KmsRefusal.TheVariants.{NoMemory, NoSuchKey, TooManyAsked}
 use Rattle.kms_core.specs.State.{Running, keys_of, service_of}
 use Rattle.kms_core.specs.Calls.{CallActs, first_cause}
-use Rattle.kms_core.specs.Steps.{IsCurrent, WorksOn}
+use Rattle.kms_core.specs.Steps.{IsCurrent, WorksOnQueues}
 use Rattle.kms_core.proofs.DepositLemmas.{all_given, current_found, keeps_queues}
 use Rattle.kms_core.proofs.StepLemmas.{generates, generates_none, refuses, refuses_many}
 use Rattle.kms_core.proofs.service.Service.generate.Goals.{in-Err, in-Ok}
@@ -33,7 +33,7 @@ returns g c = λ now.
     let few : nat_lt 1000 c.args.count ≡ false = grind (arith, c.if-count-gt-MOST_ASKED.false) in
     let is : IsCurrent (keys_of r) c.args.name c.in-Some.current = subst (λ (x : Running). IsCurrent (keys_of x) c.args.name c.in-Some.current) (sym c.self.view_is) c.in-Some.ensures in
     let answer : KmsReply → Type 0 = λ reply. CallActs (keys_of r) words now (Generate c.args.name c.args.count) reply (keys_of t) words' in
-    subst (λ (x : Running). WorksOn x words now (Generate c.args.name c.args.count) c.match-hand_out.result t words') c.self.view_is
+    subst (λ (x : Running). WorksOnQueues x words now (Generate c.args.name c.args.count) c.match-hand_out.result t words') c.self.view_is
     (elim c.match-hand_out.branch [
       | in-Err w ↦ record {
         store = refl;

@@ -7,7 +7,7 @@ use Rattle.kms_calls.specs.declared.calls.KmsCall.TheVariants.{Invalidate}
 use Rattle.kms_calls.specs.declared.calls.KmsRefusal.TheVariants.{NoSuchKey}
 use Rattle.kms_core.specs.State.{AllReady, Running, keys_of, service_of}
 use Rattle.kms_core.specs.Calls.{CallActs, birth_of, row_of}
-use Rattle.kms_core.specs.Steps.{WorksOn}
+use Rattle.kms_core.specs.Steps.{WorksOnQueues}
 use Rattle.kms_core.proofs.DepositLemmas.{all_emptied, keeps_queues}
 use Rattle.kms_core.proofs.StepLemmas.{invalidates, refuses}
 use Rattle.kms_core.proofs.service.Service.invalidate.Goals as goal
@@ -15,18 +15,18 @@ use Rattle.kms_core.proofs.service.Service.invalidate.Goals as goal
 pub returns-in_default : goal.returns-in_default
 returns-in_default c = λ words now. record {
   store = refl;
-  acts = refuses (keys_of c.args.self.now) words now (Invalidate c.args.name) NoSuchKey _ _ _ (ap (λ (o : Option KeyRow). cond (is_none o) (Some NoSuchKey) None) (sym c.in_default.ensures.found)) refl refl (λ k. refl);
+  acts = refuses (keys_of c.args.self.now) words now (Invalidate c.args.name) NoSuchKey _ _ _ (ap (λ (o : Option KeyRow). cond (is_none o) (Some NoSuchKey) None) c.in_default.ensures) refl refl (λ k. refl);
 }
 
 pub returns : goal.returns
 returns c = λ words now.
     let r : Running = record { store = c.self.inside.store; next = c.self.inside.next; ready = c.self.inside.queues } in
-    let found : Some c.in-Some.row.now ≡ row_of (keys_of r) c.args.name = c.in-Some.ensures.found ∙ ap (λ (x : Running). row_of (keys_of x) c.args.name) (sym c.self.view_is) in
-    subst (λ (x : Running). WorksOn x words now (Invalidate c.args.name) Done (record r { ready = c.drain.new.self }) words) c.self.view_is
+    let found : row_of (keys_of r) c.args.name ≡ Some c.in-Some.ensures.key = ap (λ (x : Running). row_of (keys_of x) c.args.name) c.self.view_is ∙ c.in-Some.ensures.is in
+    subst (λ (x : Running). WorksOnQueues x words now (Invalidate c.args.name) Done (record r { ready = c.drain.new.self }) words) c.self.view_is
     (record {
       store = refl;
       acts = subst (λ (all : AllQueues). CallActs (keys_of r) words now (Invalidate c.args.name) Done (record (keys_of r) { ready = all }) words) (sym c.drain.ensures)
-          (invalidates (keys_of r) words now c.args.name c.in-Some.row.now.birth (ap is_none (sym found)) (ap birth_of found));
+          (invalidates (keys_of r) words now c.args.name c.in-Some.row.now.birth (ap is_none found) (c.in-Some.ensures.shows.birth ∙ ap birth_of (sym found)));
     })
 
 pub invariant_of-self : goal.invariant_of-self

@@ -1,10 +1,18 @@
-use Rattle.std.proofs.Common.{sym}
+use Rattle.std.proofs.Common.{refl}
+use Rattle.std.specs.Prelude.{Ok, Err}
+use Rattle.kms_calls.specs.declared.calls.KmsCall.TheVariants as call
+use Rattle.kms_calls.specs.declared.calls.KmsReply.TheVariants as reply
 use Rattle.kms_core.specs.State.{keys_of}
-use Rattle.kms_core.proofs.AnswerLemmas.{reencrypts, reencrypts_not}
+use Rattle.kms_core.specs.Calls.{resealed}
+use Rattle.kms_core.proofs.ReadLemmas.{acts_by_reads}
 use Rattle.kms_core.proofs.service.Service.reencrypt.Goals as goal
 
 pub returns-in-Err : goal.returns-in-Err
-returns-in-Err c = reencrypts_not (keys_of c.args.self.now) c.args.name c.args.sent c.in-Some.row.now c.in-Err.why (sym c.in-Some.ensures.found) c.in-Err.ensures
+returns-in-Err g c = λ words now.
+    acts_by_reads (g.D.Disk.state c.args.disk.now) (g.D.Disk.state c.resealed.new.disk) c.args.self.now c.resealed.new.self words now (call.Reencrypt c.args.name c.args.sent) reply.Resealed (resealed (keys_of c.args.self.now) c.args.name c.args.sent)
+    (Err c.in-Err.why) refl refl (λ x why is. absurd cc) c.in-Err.ensures.reads c.in-Err.ensures.answer (λ name sent edeks batch is. absurd cc)
 
 pub returns : goal.returns
-returns c = reencrypts (keys_of c.args.self.now) c.args.name c.args.sent c.in-Some.row.now _ (sym c.in-Some.ensures.found) c.in-Ok.ensures
+returns g c = λ words now.
+    acts_by_reads (g.D.Disk.state c.args.disk.now) (g.D.Disk.state c.resealed.new.disk) c.args.self.now c.resealed.new.self words now (call.Reencrypt c.args.name c.args.sent) reply.Resealed (resealed (keys_of c.args.self.now) c.args.name c.args.sent)
+    (Ok c.in-Ok.key) refl refl (λ x why is. absurd cc) c.in-Ok.ensures.reads c.in-Ok.ensures.answer (λ name sent edeks batch is. absurd cc)

@@ -1,19 +1,18 @@
-use Rattle.std.proofs.Common.{sym, ◌∙◌, ap}
-use Rattle.std.specs.List.{slice_get}
-use Rattle.hk_base.specs.declared.names.VersionName.{VersionName}
-use Rattle.kms_core.specs.Calls.{row_of}
+use Rattle.std.proofs.Common.{refl}
+use Rattle.std.specs.Prelude.{Ok, Err}
+use Rattle.kms_calls.specs.declared.calls.KmsCall.TheVariants as call
+use Rattle.kms_calls.specs.declared.calls.KmsReply.TheVariants as reply
 use Rattle.kms_core.specs.State.{keys_of}
-use Rattle.kms_core.proofs.AnswerLemmas.{tells_version, tells_no_version}
+use Rattle.key_rows.specs.Table.{material_of}
+use Rattle.kms_core.proofs.ReadLemmas.{acts_by_reads}
 use Rattle.kms_core.proofs.service.Service.version.Goals as goal
 
-pub returns-in_default-get : goal.returns-in_default-get
-returns-in_default-get c =
-    tells_no_version (keys_of c.args.self.now) c.args.version c.in-Some.row.now
-    (ap (λ (v : VersionName). row_of (keys_of c.args.self.now) v.key) (sym c.version.view_is) ∙ sym c.in-Some.ensures.found)
-    (ap (λ (v : VersionName). slice_get c.in-Some.row.now.materials v.number) (sym c.version.view_is) ∙ sym c.get.ensures ∙ c.in_default-get.is)
+pub returns-in-Err : goal.returns-in-Err
+returns-in-Err g c = λ words now.
+    acts_by_reads (g.D.Disk.state c.args.disk.now) (g.D.Disk.state c.version_material.new.disk) c.args.self.now c.version_material.new.self words now (call.Version c.args.version) (reply.Version c.args.version) (material_of (keys_of c.args.self.now).table.rows c.args.version)
+    (Err c.in-Err.why) refl refl (λ x why is. absurd cc) c.in-Err.ensures.reads c.in-Err.ensures.answer (λ name sent edeks batch is. absurd cc)
 
-pub returns : goal.returns
-returns c =
-    tells_version (keys_of c.args.self.now) c.args.version c.in-Some.row.now c.in-Some-get.material
-    (ap (λ (v : VersionName). row_of (keys_of c.args.self.now) v.key) (sym c.version.view_is) ∙ sym c.in-Some.ensures.found)
-    (ap (λ (v : VersionName). slice_get c.in-Some.row.now.materials v.number) (sym c.version.view_is) ∙ sym c.in-Some-get.ensures)
+pub returns-in-Ok : goal.returns-in-Ok
+returns-in-Ok g c = λ words now.
+    acts_by_reads (g.D.Disk.state c.args.disk.now) (g.D.Disk.state c.version_material.new.disk) c.args.self.now c.version_material.new.self words now (call.Version c.args.version) (reply.Version c.args.version) (material_of (keys_of c.args.self.now).table.rows c.args.version)
+    (Ok c.in-Ok.material) refl refl (λ x why is. absurd cc) c.in-Ok.ensures.reads c.in-Ok.ensures.answer (λ name sent edeks batch is. absurd cc)

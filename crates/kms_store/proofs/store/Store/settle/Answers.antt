@@ -1,40 +1,43 @@
-use Rattle.std.proofs.Common.{rules, ◌≡◌, None, ◌≤◌, true, Option, Some, sym, ◌∙◌, ap, subst}
+use Rattle.std.proofs.Common.{rules, ◌≡◌, ◌≤◌, true, Option, Some, refl, sym, ◌∙◌, ap, subst}
 use Rattle.std.specs.Prelude.{IfSome}
-use Rattle.frame_log.specs.Stands.{Stands}
 use Rattle.key_rows.specs.Table.{applies, after, need}
 use Rattle.key_rows.specs.declared.rows.KeyCommand.{KeyCommand}
-use Rattle.kms_store.specs.Store.{SettlesKeys, StoreState}
-use Rattle.kms_store.proofs.Commits.{kept, settles_kept}
+use Rattle.key_index.specs.Index.{after_at}
+use Rattle.kms_store.specs.Keys.{place_before}
+use Rattle.kms_store.specs.Store.{IsKeyStoreOf, SettlesKeys, StoreState}
+use Rattle.kms_store.proofs.Commits.{Advances, kept, settles_kept}
 use Rattle.kms_store.proofs.store.Store.settle.Goals as goal
 
 pub returns-in_ok-apply-clause-kept : goal.returns-in_ok-apply-clause-kept
 returns-in_ok-apply-clause-kept g c tells commands command s waits gate =
+    let D0 = g.D.Disk.state c.args.disk.now in
+    let D1 = g.D.Disk.state c.settle.new.disk in
     let inside = c.self.inside in
-    let now = c.args.self.now in
-    let log_is : inside.log ≡ now.log = ap (λ (x : StoreState). x.log) c.self.view_is in
-    let keys_are : inside.table.keys ≡ now.table.keys = ap (λ (x : StoreState). x.table.keys) c.self.view_is in
+    let before : StoreState = record { log = inside.log; table = record { keys = inside.keys.table; spare = inside.keys.index.spare }; index = inside.keys.index.index; cache = inside.cache.entries; pending = inside.pending } in
+    let s0 : IsKeyStoreOf D0 before commands = subst (λ (x : StoreState). IsKeyStoreOf D0 x commands) (sym c.self.view_is) s in
     let waits_inside : inside.pending ≡ Some command = ap (λ (x : StoreState). x.pending) c.self.view_is ∙ waits in
     let got : c.in-Some.command ≡ command = search rules in
-    let may_inside : applies inside.table.keys command ≡ true = (subst (λ (o : Option KeyCommand). IfSome o (λ (x : KeyCommand). (applies inside.table.keys x ≡ true) × (need x ≤ inside.table.spare))) waits_inside c.self.invariant.2).0 in
-    let may : applies now.table.keys command ≡ true = subst (λ t. applies t command ≡ true) keys_are may_inside in
-    let then_is : c.apply.new.self.keys ≡ after now.table.keys command = search rules in
-    kept (g.D.Disk.state c.args.disk.now) (g.D.Disk.state c.settle.new.disk) now commands command c.settle.new.self c.apply.new.self c.take.new.self c.in-Ok.kept s waits c.take.ensures.after c.if-kept.true may then_is
-    (λ payloads payload stands. c.in-Ok.ensures.settled tells payloads payload (subst (λ l. Stands (g.D.Disk.state c.args.disk.now) l payloads (Some payload)) (sym log_is) stands))
+    let may : applies inside.keys.table command ≡ true = (subst (λ (o : Option KeyCommand). IfSome o (λ (x : KeyCommand). (applies inside.keys.table x ≡ true) × (need x ≤ inside.keys.index.spare))) waits_inside c.self.invariant.2).0 in
+    let table : c.apply.new.self.table ≡ after inside.keys.table command = search rules in
+    let index : c.apply.new.self.index.index ≡ after_at inside.keys.index.index command (place_before c.settle.new.self.end command) = search rules in
+    let new : StoreState = record { log = c.settle.new.self; table = record { keys = c.apply.new.self.table; spare = c.apply.new.self.index.spare }; index = c.apply.new.self.index.index; cache = inside.cache.entries; pending = c.take.new.self } in
+    let advances : Advances before new command = record { sound = c.apply.ensures.sound; may = may; table = table; index = index; cache = refl; none = c.take.ensures.after; file = c.settle.ensures.file ∙ c.self.invariant.0 } in
+    kept D0 D1 before commands command new c.in-Ok.kept s0 waits_inside c.if-kept.true advances (λ payloads payload stands. c.in-Ok.ensures.settled tells payloads payload stands)
 
 pub returns-in_ok-apply-clause-settles : goal.returns-in_ok-apply-clause-settles
 returns-in_ok-apply-clause-settles g c =
+    let D0 = g.D.Disk.state c.args.disk.now in
+    let D1 = g.D.Disk.state c.settle.new.disk in
     let inside = c.self.inside in
-    let now = c.args.self.now in
-    let log_is : inside.log ≡ now.log = ap (λ (x : StoreState). x.log) c.self.view_is in
-    let keys_are : inside.table.keys ≡ now.table.keys = ap (λ (x : StoreState). x.table.keys) c.self.view_is in
+    let before : StoreState = record { log = inside.log; table = record { keys = inside.keys.table; spare = inside.keys.index.spare }; index = inside.keys.index.index; cache = inside.cache.entries; pending = inside.pending } in
     let command = c.in-Some.command in
     let waits_inside : inside.pending ≡ Some command = search rules in
-    let waits : now.pending ≡ Some command = sym (ap (λ (x : StoreState). x.pending) c.self.view_is) ∙ waits_inside in
-    let may_inside : applies inside.table.keys command ≡ true = (subst (λ (o : Option KeyCommand). IfSome o (λ (x : KeyCommand). (applies inside.table.keys x ≡ true) × (need x ≤ inside.table.spare))) waits_inside c.self.invariant.2).0 in
-    let may : applies now.table.keys command ≡ true = subst (λ t. applies t command ≡ true) keys_are may_inside in
-    let then_is : c.apply.new.self.keys ≡ after now.table.keys command = search rules in
-    let none : c.take.new.self ≡ None = c.take.ensures.after in
-    subst (SettlesKeys (g.D.Disk.state c.args.disk.now) (g.D.Disk.state c.settle.new.disk) now (record { log = c.settle.new.self; table = c.apply.new.self; pending = c.take.new.self })) (sym c.if-kept.true)
-    (settles_kept (g.D.Disk.state c.args.disk.now) (g.D.Disk.state c.settle.new.disk) now (record { log = c.settle.new.self; table = c.apply.new.self; pending = c.take.new.self }) command waits none then_is
-    (λ tells commands s. kept (g.D.Disk.state c.args.disk.now) (g.D.Disk.state c.settle.new.disk) now commands command c.settle.new.self c.apply.new.self c.take.new.self c.in-Ok.kept s waits none c.if-kept.true may then_is
-    (λ payloads payload stands. c.in-Ok.ensures.settled tells payloads payload (subst (λ l. Stands (g.D.Disk.state c.args.disk.now) l payloads (Some payload)) (sym log_is) stands))))
+    let may : applies inside.keys.table command ≡ true = (subst (λ (o : Option KeyCommand). IfSome o (λ (x : KeyCommand). (applies inside.keys.table x ≡ true) × (need x ≤ inside.keys.index.spare))) waits_inside c.self.invariant.2).0 in
+    let table : c.apply.new.self.table ≡ after inside.keys.table command = search rules in
+    let index : c.apply.new.self.index.index ≡ after_at inside.keys.index.index command (place_before c.settle.new.self.end command) = search rules in
+    let new : StoreState = record { log = c.settle.new.self; table = record { keys = c.apply.new.self.table; spare = c.apply.new.self.index.spare }; index = c.apply.new.self.index.index; cache = inside.cache.entries; pending = c.take.new.self } in
+    let advances : Advances before new command = record { sound = c.apply.ensures.sound; may = may; table = table; index = index; cache = refl; none = c.take.ensures.after; file = c.settle.ensures.file ∙ c.self.invariant.0 } in
+    subst (SettlesKeys D0 D1 c.args.self.now new) (sym c.if-kept.true)
+    (subst (λ (x : StoreState). SettlesKeys D0 D1 x new true) c.self.view_is
+    (settles_kept D0 D1 before new command waits_inside c.take.ensures.after table
+    (λ tells commands s. kept D0 D1 before commands command new c.in-Ok.kept s waits_inside c.if-kept.true advances (λ payloads payload stands. c.in-Ok.ensures.settled tells payloads payload stands))))

@@ -1,6 +1,6 @@
 use Rattle.std.proofs.Common.{refl, subst, sym}
 use Rattle.place_texts.specs.Places.{place_below}
-use Rattle.row_copies.specs.Clusters.{IsTree}
+use Rattle.row_copies.specs.Clusters.{IsTreeOfRows}
 use Rattle.world_events.specs.Events.{standing_of}
 use Rattle.world_rows.proofs.FaultLemmas.{list_ends}
 use Rattle.world_rows.proofs.ReadLemmas.{directory_found, list_found, list_once, lists_on, rows_same}
@@ -28,7 +28,7 @@ returns-clause-ready g c =
       events = c.list_at.ensures.ready;
       user = c.requires.ready.user;
       place = c.requires.ready.place;
-      tree = subst IsTree (sym (rows_same g.D.Disk.state g.W.Words.to_come c.args.self.now.events.now (standing_of c.args.self.now.events) (standing_of c.list_at.new.events) c.requires.ready.events c.args.self.now.place.now (list_once g.D.Disk.state g.W.Words.to_come c.args.self.now.events.now (standing_of c.args.self.now.events) (standing_of c.list_at.new.events) c.args.self.now.user.now c.requires.ready.user (place_below c.args.self.now.place.now c.args.path.now) c.list_at.result w.1))) c.requires.ready.tree;
+      tree = subst IsTreeOfRows (sym (rows_same g.D.Disk.state g.W.Words.to_come c.args.self.now.events.now (standing_of c.args.self.now.events) (standing_of c.list_at.new.events) c.requires.ready.events c.args.self.now.place.now (list_once g.D.Disk.state g.W.Words.to_come c.args.self.now.events.now (standing_of c.args.self.now.events) (standing_of c.list_at.new.events) c.args.self.now.user.now c.requires.ready.user (place_below c.args.self.now.place.now c.args.path.now) c.list_at.result w.1))) c.requires.ready.tree;
     }
 
 pub returns-clause-follows : goal.returns-clause-follows

@@ -1,6 +1,6 @@
 use Rattle.std.proofs.Common.{refl, subst, sym}
 use Rattle.place_texts.specs.Places.{place_below}
-use Rattle.row_copies.specs.Clusters.{IsTree}
+use Rattle.row_copies.specs.Clusters.{IsTreeOfRows}
 use Rattle.world_events.specs.Events.{standing_of}
 use Rattle.world_rows.proofs.FaultLemmas.{look_ends}
 use Rattle.world_rows.proofs.ReadLemmas.{look_once, looks_on, row_found, rows_same}
@@ -23,7 +23,7 @@ returns-clause-ready g c =
       events = c.look_at.ensures.ready;
       user = c.requires.ready.user;
       place = c.requires.ready.place;
-      tree = subst IsTree (sym (rows_same g.D.Disk.state g.W.Words.to_come c.args.self.now.events.now (standing_of c.args.self.now.events) (standing_of c.look_at.new.events) c.requires.ready.events c.args.self.now.place.now (look_once g.D.Disk.state g.W.Words.to_come c.args.self.now.events.now (standing_of c.args.self.now.events) (standing_of c.look_at.new.events) c.args.self.now.user.now c.requires.ready.user (place_below c.args.self.now.place.now c.args.path.now) c.look_at.result w.1))) c.requires.ready.tree;
+      tree = subst IsTreeOfRows (sym (rows_same g.D.Disk.state g.W.Words.to_come c.args.self.now.events.now (standing_of c.args.self.now.events) (standing_of c.look_at.new.events) c.requires.ready.events c.args.self.now.place.now (look_once g.D.Disk.state g.W.Words.to_come c.args.self.now.events.now (standing_of c.args.self.now.events) (standing_of c.look_at.new.events) c.args.self.now.user.now c.requires.ready.user (place_below c.args.self.now.place.now c.args.path.now) c.look_at.result w.1))) c.requires.ready.tree;
     }
 
 pub returns-clause-follows : goal.returns-clause-follows

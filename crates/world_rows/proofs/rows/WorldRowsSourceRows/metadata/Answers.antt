@@ -1,7 +1,7 @@
 use Rattle.std.proofs.Common.{refl, subst, sym}
-use Rattle.row_copies.specs.Clusters.{IsTree}
+use Rattle.row_copies.specs.Clusters.{IsTreeOfRows}
 use Rattle.world_events.specs.Events.{standing_of}
-use Rattle.world_rows.specs.Rows.{ReadRefused}
+use Rattle.world_rows.specs.Rows.{EventRefused}
 use Rattle.world_rows.proofs.FaultLemmas.{metadata_ends, metadata_fault, metadata_given}
 use Rattle.world_rows.proofs.ReadLemmas.{ask_once, asks_on, rows_same}
 use Rattle.world_rows.proofs.rows.WorldRowsSourceRows.metadata.Goals as goal
@@ -18,7 +18,7 @@ returns-clause-ready g c =
       events = c.metadata_of.ensures.ready;
       user = c.requires.ready.user;
       place = c.requires.ready.place;
-      tree = subst IsTree (sym (rows_same g.D.Disk.state g.W.Words.to_come c.args.self.now.events.now (standing_of c.args.self.now.events) (standing_of c.metadata_of.new.events) c.requires.ready.events c.args.self.now.place.now (ask_once g.D.Disk.state g.W.Words.to_come c.args.self.now.events.now (standing_of c.args.self.now.events) (standing_of c.metadata_of.new.events) c.args.self.now.user.now c.requires.ready.user c.args.key c.metadata_of.result w.1))) c.requires.ready.tree;
+      tree = subst IsTreeOfRows (sym (rows_same g.D.Disk.state g.W.Words.to_come c.args.self.now.events.now (standing_of c.args.self.now.events) (standing_of c.metadata_of.new.events) c.requires.ready.events c.args.self.now.place.now (ask_once g.D.Disk.state g.W.Words.to_come c.args.self.now.events.now (standing_of c.args.self.now.events) (standing_of c.metadata_of.new.events) c.args.self.now.user.now c.requires.ready.user c.args.key c.metadata_of.result w.1))) c.requires.ready.tree;
     }
 
 pub returns-clause-follows : goal.returns-clause-follows
@@ -39,4 +39,4 @@ returns-clause-fault g c =
 pub returns-clause-ends : goal.returns-clause-ends
 returns-clause-ends g c =
     let w = asks_on g.D.Disk.state g.W.Words.to_come c.args.self.now.events c.metadata_of.new.events c.args.self.now.user.now c.args.key c.metadata_of.result c.metadata_of.ensures.asks in
-    metadata_ends g.D.Disk.state g.W.Words.to_come c.args.self.now.events.now (standing_of c.args.self.now.events) (standing_of c.metadata_of.new.events) c.requires.ready.events c.args.self.now.user.now c.args.key c.metadata_of.result (ReadRefused g.D.Disk.state g.W.Words.to_come c.args.self.now.events.now (standing_of c.args.self.now.events) (standing_of c.metadata_of.new.events)) w.1
+    metadata_ends g.D.Disk.state g.W.Words.to_come c.args.self.now.events.now (standing_of c.args.self.now.events) (standing_of c.metadata_of.new.events) c.requires.ready.events c.args.self.now.user.now c.args.key c.metadata_of.result (EventRefused g.D.Disk.state g.W.Words.to_come c.args.self.now.events.now (standing_of c.args.self.now.events) (standing_of c.metadata_of.new.events)) w.1
