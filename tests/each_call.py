@@ -23,7 +23,7 @@ import headline
 import inner_zones
 import world_model
 from failing_ends import check_sources, outputs_of, transcript, try_sources
-from possible_worlds import FAULTS, Moment, Wrong, answers_of, check_image, edek_text, last_moment, mark_of, need, read_logs, there_by_bytes
+from possible_worlds import Moment, Wrong, answers_of, check_image, edek_text, is_fault, last_moment, mark_of, need, read_logs, there_by_bytes
 from trial_runs import Report, Run, read_reports, run_trial, text_of
 from whole_script import QUESTIONS, SHORT, WHOLE, events_of
 from world_model import World
@@ -55,15 +55,17 @@ def count_calls(script):
     return read_reports(text.decode(), ())[0].first.calls
 
 
-def written_events():
-    """The events of the whole script whose records are written if nothing fails, counted from 0."""
-    world, found = World(), []
+def events_on_disk():
+    """The events of the whole script, counted from 0, whose records are written if nothing fails, and those that read materials."""
+    world, written, reading = World(), [], []
     for number, line in enumerate(events_of(WHOLE)):
-        after, answer = world.answered(number + 1, line.split(" "))
+        words = line.split(" ")
+        reading += [number] * len(read := world.materials_read(words))
+        after, _ = world.after_reads(read).answered(number + 1, words)
         if world.kept_on_disk() != after.kept_on_disk():
-            found.append(number)
+            written.append(number)
         world = after
-    return found
+    return written, reading
 
 
 def try_call(fault, call):
@@ -72,20 +74,28 @@ def try_call(fault, call):
     return check_report(report, events_of(WHOLE) + QUESTIONS, fault, 1), report.first.answers, len(report.images)
 
 
-# A start makes 16 calls of the disk, and a change 4. A change whose last call fails is found in the log when it is settled.
+# A start makes 16 calls of the disk, a change 4, and the read of a material one. A change whose last call fails is found in the log when it
+# is settled.
 START, CHANGE = 16, 4
 
 
 def find_whole_wrong(fault, tried):
-    """What is wrong with the stops or the failures of all calls: each change must be refused by those of its own calls."""
+    """What is wrong with the stops or the failures of all calls: each change and each read must be refused by those of its own calls."""
     wrong = [it for it, *_ in tried if it]
     refused = {}
     for _, answers, _ in tried[START:]:
-        first = next((place for place, it in enumerate(answers) if it in FAULTS), None)
+        first = next((place for place, it in enumerate(answers) if is_fault(it)), None)
         refused.setdefault(first, []).append(answers)
     if any(answers for _, answers, _ in tried[:START]) or [] in [it[1] for it in tried[START:]]:
         wrong.append(f"{fault}: a start does not make {START} calls")
-    for event in written_events():
+    written, reading = events_on_disk()
+    for event in reading:
+        if (count := len(refused.pop(event, []))) != 1:
+            wrong.append(f"{fault}: event {event + 1} is refused by {count} calls, and reads one material")
+    # A restart whose call fails ends the run.
+    if not reading or refused.keys() - {None} != set(written):
+        wrong.append(f"{fault}: the events from 0 that are refused are {sorted(refused.keys() - {None})}, and not {written}")
+    for event in written:
         answers = refused.get(event, [])
         if len(answers) != CHANGE or fault == "fail" and not answers[0] == answers[1] == answers[2] != answers[3]:
             wrong.append(f"{fault}: event {event + 1} is refused by {len(answers)} calls, with {len(set(map(tuple, answers)))} ends")
@@ -220,7 +230,7 @@ def spoilt_reports():
     calls = count_calls(WHOLE)
     report, early = disk_trial("stop", calls, WHOLE), disk_trial("stop", calls // 2, WHOLE)
     (image, *_), answers = report.images, report.first.answers
-    acknowledged = max(it for it in written_events() if answers[it] not in FAULTS)
+    acknowledged = max(it for it in events_on_disk()[0] if not is_fault(answers[it]))
     yield "an acknowledged line that is left out", Report(report.calls, with_answer(report.first, acknowledged, ""), report.images)
     yield "an event that is refused", Report(report.calls, with_answer(report.first, acknowledged, "refused N2 NoSuchPath"), report.images)
     yield "an image of before", Report(report.calls, report.first, early.images)

@@ -8,7 +8,12 @@ import world_model
 from whole_script import QUESTIONS
 from world_model import World
 
-FAULTS = set(world_model.FAULTS.values())
+FAULTS = tuple(world_model.FAULTS.values())
+
+
+def is_fault(answer):
+    """Whether an event, or the batch that it serves, was refused since the disk failed."""
+    return answer.endswith(FAULTS)
 
 
 class Wrong(Exception):
@@ -114,7 +119,7 @@ class Moment:
             outcomes = [it for world in self.worlds for it in world.outcomes(number, words, self.is_stopped)]
             worlds = each_once(world for possible, world in outcomes if possible == answer)
             need(worlds, f"event {number}, {line}: {answer}, and not {' or '.join(sorted({it for it, _ in outcomes}))}")
-            self.later[line, answer] = Moment(worlds, self.kind, number, self.is_stopped or self.kind == "stop" and answer in FAULTS)
+            self.later[line, answer] = Moment(worlds, self.kind, number, self.is_stopped or self.kind == "stop" and is_fault(answer))
         return self.later[line, answer]
 
     def after_restart(self):
@@ -146,7 +151,7 @@ def last_moment(run, events, kind, faults):
     moment, answers = FIRST[kind], run.answers
     for line, answer in zip(events, answers):
         moment = moment.after(line, answer)
-    store_faults = sum(it in FAULTS for it in answers)
+    store_faults = sum(map(is_fault, answers))
     if run.status == 5:
         need(len(answers) < len(events) and run.lines[len(answers) :] == ["store fault"], f"its last lines are {run.lines[-2:]}")
         need(not answers or events[len(answers)].startswith("restart "), f"it ends in {events[len(answers)]}")

@@ -1,9 +1,9 @@
 """`hkms serve` with a fault at each call on the logs in turn: server_faults.py PROGRAM LIBRARY FOLDER
 
 A client makes a key, a directory, a zone, three files, a snapshot and a roll, and has the zone re-encrypted, which the server
-does in the background. A request that is answered by a StoreFault is made again. Once the server has ended, with the status that
-docs/operations.md says, it is started again without a fault. What was answered must be there, and the client goes on. In the end both logs
-are read as system_faults.py reads them.
+does in the background. A request that is answered by a StoreFault is made again, and a re-encryption that ends with failures, since a
+material could not be read, is submitted again. Once the server has ended, with the status that docs/operations.md says, it is started again
+without a fault. What was answered must be there, and the client goes on. In the end both logs are read as system_faults.py reads them.
 """
 
 import base64
@@ -180,8 +180,16 @@ class Script:
             need("re-encryption" not in self.done or answer["answer"] != "status None", "the submission is gone")
 
     def is_complete(self):
+        """Whether the re-encryption is completed. One that failed for some files is submitted again."""
         _, answer = self.server.ask("GET", "/nn/v1/status?path=/z")
-        return answer["answer"].startswith("status Completed")
+        words = answer["answer"].split()
+        if words[1] != "Completed":
+            return False
+        _, _, _, _, failed, *_ = words
+        if failed != "0":
+            self.done.remove("re-encryption")
+            self.do("re-encryption")
+        return failed == "0"
 
     def await_completion(self, seconds):
         end = time.monotonic() + seconds

@@ -1,10 +1,11 @@
 """A script of both services on real files, with a fault at each call on the logs in turn: system_faults.py PROGRAM LIBRARY FOLDER
 
 The script is told line by line to a run in which one call fails, by the library of system_faults.c. If the disk fails in a change, the
-next change settles that one, and the script goes on. If that fails too, or the run has ended, the program is started again without a
-fault. Each time all that was acknowledged must be there, and at most the one change besides that got no answer. In the end the whole
-script is done, each file opens to the key that was noted when it was made, and the re-encryption left none of them behind: through the
-program, and by headline.py from the bytes of both logs.
+next change settles that one, and the script goes on. If it fails as an older material is read, the line is told again. If the disk fails
+as a change is settled too, or the run has ended, the program is started again without a fault. Each time all that was acknowledged must be
+there, and at most the one change besides that got no answer. In the end the whole script is done, each file opens to the key that was
+noted when it was made, and the re-encryption left none of them behind: through the program, and by headline.py from the bytes of both
+logs.
 
 The same is done with a folder in which the script was broken off, for the calls of the start and of both restarts.
 """
@@ -39,6 +40,7 @@ SHOWN = [KEY, ZONE, STATUS, SNAPSHOT] + FILES + SNAPPED
 
 SECONDS = 120
 STORE_FAULT = r"refused (?:K14|N23) StoreFault"
+READ_FAULT = r"(?:reply \d+ )?refused K14 StoreFault"
 KILLS = ["stop", "power"]
 
 
@@ -177,11 +179,19 @@ class Script:
         self.kept.pending = {}
         return answer
 
+    def read(self, line):
+        """Returns the answer to a line that may read an older material. If the disk fails in that, the line is told once more."""
+        answer = self.run.tell(line)
+        if not re.fullmatch(READ_FAULT, answer):
+            return answer
+        self.store_faults += 1
+        return self.run.tell(line)
+
     def look(self):
         """Asks all questions, and leaves out ids of directories, marks, and whether anything was done of a re-encryption."""
         found = {}
         for question in SHOWN:
-            text = re.sub(r"^dir \d+ ", "dir ID ", self.run.tell(question))
+            text = re.sub(r"^dir \d+ ", "dir ID ", self.read(question))
             text = re.sub(r"^(status .*) \S+ \S+$", r"\1", text)
             found[question] = re.sub(r"^status (Submitted|Processing) ", "status going ", text)
         return found
@@ -252,7 +262,9 @@ class Script:
         if batch == "completed":
             return
         self.kept.rows[STATUS] = self.kept.rows[STATUS].replace("Completed", "going")
-        _, number, _, *edeks = self.tell(f"serve {batch.split()[1]}", r"reply \d+ ready( k@1:\S+){1,2}").split()
+        answer = self.read(f"serve {batch.split()[1]}")
+        need(re.fullmatch(r"reply \d+ ready( k@1:\S+){1,2}", answer), f"the answer to the batch is {answer}")
+        _, number, _, *edeks = answer.split()
         self.replies = [(number, self.delivery(edeks))]
 
     def delivery(self, edeks):
@@ -291,8 +303,10 @@ class Script:
     def open(self, fault):
         self.run, self.replies = Run(self.folder, fault), []
         self.runs += 1
-        self.kept.adopt(self.look())
+        # Once a question is answered that reads nothing, the start is over.
+        self.run.tell(ZONE)
         self.note_opening(0)
+        self.kept.adopt(self.look())
         for service in ("kms", "nn") if self.restarts and self.runs == 1 else ():
             before = len(self.run.calls())
             self.run.tell(f"restart {service}")

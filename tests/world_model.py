@@ -2,7 +2,8 @@
 to its bytes, and the world after each answer. It shares nothing with the program.
 
 If the disk fails in a change, the answer is a store fault, and the change is pending: the log may or may not have it. So several worlds
-are possible from then on. The directories, files and re-encryptions are those of inner_zones.py, and the cipher is that of
+are possible from then on. If it fails as an older material is read that memory does not have, the answer is a store fault too, and nothing
+changes. The directories, files and re-encryptions are those of inner_zones.py, and the cipher is that of
 ready_reports.py.
 """
 
@@ -15,6 +16,7 @@ from inner_zones import Ask, Edek, Refused, need
 from ready_reports import sealed
 
 FAULTS = {"keys": "refused K14 StoreFault", "names": "refused N23 StoreFault"}
+REFUSED_READ = FAULTS["keys"].split()
 # What an answer begins with if a record was written.
 WRITTEN = ("done", "completed", "version ", "applied ")
 ON_KEYS = ("create", "roll", "delete")
@@ -77,6 +79,8 @@ class World(inner_zones.Model):
         super().__init__()
         self.keys, self.key_opening, self.draws = {}, 1, 0
         self.ledger, self.pending = {}, {}
+        # The older materials that memory has: the event that created the key, and the number of the version.
+        self.read = set()
 
     # ---- keys
 
@@ -165,6 +169,44 @@ class World(inner_zones.Model):
         self.versions = {name: len(it.materials) for name, it in self.keys.items()}
         return super().serve(number)
 
+    def deliver(self, number):
+        """A reply that refuses counts the files of its batch as failed."""
+        batch, served = self.replies[number - 1]
+        return self.bring_back(batch, None if served == REFUSED_READ else served)
+
+    # ---- older materials
+
+    def versions_opened(self, words):
+        """The versions whose materials an event uses, by their keys' names and their numbers."""
+        if words[0] == "serve":
+            batches = self.batches[int(words[1]) - 1 : int(words[1])]
+            return [(edek.key, edek.number) for batch in batches for _, edek in batch.files]
+        if words[0] == "kms" and words[2] == "versions":
+            return [(words[3], number) for number in range(len(self.keys[words[3]].materials))] if words[3] in self.keys else []
+        if words[0] == "kms" and words[2] == "decrypt":
+            name, _, number = words[3].partition("@")
+            return [(name, int(number))]
+        return []
+
+    def materials_read(self, words):
+        """The older materials that an event reads from the log, in order."""
+        versions = [(self.keys[name], number) for name, number in self.versions_opened(words) if name in self.keys]
+        older = [(key.created, number) for key, number in versions if number + 1 < len(key.materials)]
+        return [it for it in dict.fromkeys(older) if it not in self.read]
+
+    def after_reads(self, read):
+        """A copy of the world in which memory has these older materials too."""
+        after = self.copied()
+        after.read |= set(read)
+        return after
+
+    def refused_read(self, words):
+        """The answer to an event whose read of a material failed, which has its effect."""
+        if words[0] != "serve":
+            return FAULTS["keys"]
+        self.replies.append((self.batches[int(words[1]) - 1], REFUSED_READ))
+        return " ".join(["reply", str(len(self.replies)), *REFUSED_READ])
+
     def ask_of(self, number):
         """The ask that a reply answers, and what the reply says, or none if no reply of the number answers one."""
         answered = self.replies[number - 1] if number <= len(self.replies) else (None, None)
@@ -210,6 +252,7 @@ class World(inner_zones.Model):
             return self.walk(names_of(rest[0]))
         if words == ["restart", "kms"]:
             self.key_opening += 1
+            self.read = set()
             return ["opened", self.key_opening]
         if words == ["restart", "nn"]:
             return self.restart()
@@ -244,7 +287,7 @@ class World(inner_zones.Model):
     def copied(self):
         """A copy with which nothing is shared that an event changes."""
         copied = copy.copy(self)
-        for name in ("rows", "open", "asks", "replies", "batches", "ledger", "pending"):
+        for name in ("rows", "open", "asks", "replies", "batches", "ledger", "pending", "read"):
             setattr(copied, name, copy.copy(getattr(self, name)))
         copied.keys = {name: Key(it.created, it.materials.copy()) for name, it in self.keys.items()}
         copied.snapshots = {number: taken.copy() for number, taken in self.snapshots.items()}
@@ -266,6 +309,7 @@ class World(inner_zones.Model):
         worlds = [it.copied() for keys in self.settled("keys") for it in keys.settled("names")]
         for world in worlds:
             world.restart()
+            world.read = set()
         return worlds
 
     def service_of(self, words):
@@ -294,9 +338,14 @@ class World(inner_zones.Model):
     def outcomes(self, moment, words, is_stopped):
         """The answers that an event may have, each with the world after it. The disk may fail in it, and does as soon as it is used if it is
         stopped."""
+        read = self.materials_read(words)
+        for failing in range(len(read)):
+            failed = self.after_reads(read[:failing])
+            yield failed.refused_read(words), failed
         service = self.service_of(words)
         if service is None:
-            yield self.answered(moment, words)[::-1]
+            if not (is_stopped and read):
+                yield self.after_reads(read).answered(moment, words)[::-1]
             return
         is_pending = service in self.pending
         if is_pending and words[0] != "restart":
