@@ -7,3 +7,4 @@ pub mod Holding
 pub mod LogLemmas
 pub mod CacheLemmas
 pub mod Entries
+pub mod RunLemmas

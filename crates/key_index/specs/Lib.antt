@@ -1,3 +1,4 @@
+pub mod Runs
 pub mod Index
 pub mod Sound
 pub mod Held

@@ -8,7 +8,8 @@ ghost use Rattle.key_index.specs.Index.{is_born, is_named, rolled_at};
 ghost use Rattle.key_index.specs.Sound.{AreNamed, AreRising, IsPlacedRow};
 
 use crate::by_name::{NamedBirth, birth_of, put};
-use crate::rows::{IndexRow, PlaceList, PlacedRow};
+use crate::rows::{IndexRow, PlacedRow};
+use crate::runs::{PlaceList, PlaceRun};
 use hk_base::{Dek, KeyName, NoMemory};
 
 /// Returns the position of the key with this birth.
@@ -53,7 +54,11 @@ pub(crate) fn row_of<'a>(
 }
 
 /// Places the first version of a key in a given buffer. Returns `Ok` if the buffer has capacity for it.
-pub(crate) fn with_place(row: IndexRow, buffer: Vec<u64>, place: u64) -> Result<PlacedRow, NoMemory>
+pub(crate) fn with_place(
+    row: IndexRow,
+    buffer: Vec<PlaceRun>,
+    place: u64,
+) -> Result<PlacedRow, NoMemory>
     requires empty { buffer.items ≡ [] }
     ensures made { IfOk result (λ placed. placed ≡ record { row = row; places = place ∷ [] }) }
     ensures room { 0 < vec_capacity buffer → IsOk result }
@@ -134,7 +139,7 @@ pub(crate) fn remove(rows: &mut Vec<PlacedRow>, birth: u64)
 /// its place, if needed in a given buffer. Returns `Ok` if the buffer has capacity for all its places.
 pub(crate) fn roll(
     rows: &mut Vec<PlacedRow>,
-    buffer: Vec<u64>,
+    buffer: Vec<PlaceRun>,
     birth: u64,
     material: Dek,
     place: u64,

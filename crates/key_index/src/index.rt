@@ -13,6 +13,7 @@ use crate::applying::applies_to;
 use crate::by_name::{NamedBirth, copy_names, remove_birth};
 use crate::finding::{insert, remove, roll, row_at, row_of, with_place};
 use crate::rows::{IndexRow, PlacedRow};
+use crate::runs::PlaceRun;
 use hk_base::{Dek, KeyName, NoMemory, VersionName};
 use key_rows::KeyCommand;
 use kms_calls::NameList;
@@ -33,7 +34,7 @@ pub struct KeyIndex {
     greatest: u64,
     rows: Vec<PlacedRow>,
     names: Vec<NamedBirth>,
-    ready: Vec<u64>,
+    ready: Vec<PlaceRun>,
 }
 
 impl Model for KeyIndex {
@@ -56,14 +57,16 @@ impl Model for KeyIndex {
         AreNamed t.rows.items t.names.items × (t.ready.items ≡ []) };
 }
 
-/// Returns the number of places to reserve before a command is applied. A roll reserves twice as many as
-/// it needs, so that few rolls move the places of a key.
+/// Returns the number of runs of places to reserve before a command is applied: one for each version that
+/// the key then has, which is enough wherever the materials are. If the log grows by less than 4 GiB from
+/// each roll of a key to the next, a run has two places or more unless it is the last. So these runs last
+/// until the key has about twice as many versions, and few rolls move them.
 fn versions_of(command: &KeyCommand) -> usize
     ensures { need command.now ≤ result }
 {
     match command {
         KeyCommand::Create { .. } => 1,
-        KeyCommand::Roll { number, .. } => 2 * (*number as usize + 1),
+        KeyCommand::Roll { number, .. } => *number as usize + 1,
         KeyCommand::Opened { .. } => 0,
         KeyCommand::Delete { .. } => 0,
     }

@@ -9,6 +9,7 @@ mod finding;
 mod index;
 mod places;
 mod rows;
+mod runs;
 
 pub use cache::{MaterialCache, MaterialKey};
 pub use index::KeyIndex;
