@@ -8,3 +8,4 @@ pub mod LogLemmas
 pub mod CacheLemmas
 pub mod Entries
 pub mod RunLemmas
+pub mod NextPlaces

@@ -1,5 +1,6 @@
 -- An index of one key with two versions, its table, and its log.
 use Rattle.std.specs.Prelude.{◌≡◌, [], ◌∷◌, map, Some, None, false, refl}
+use Rattle.std.specs.List.{concat}
 use Rattle.hk_base.specs.Disk.{piece}
 use Rattle.hk_base.specs.declared.names.Dek.{Dek}
 use Rattle.key_rows.specs.declared.rows.KeyCommand.{KeyCommand}
@@ -7,6 +8,7 @@ use Rattle.key_rows.specs.declared.rows.KeyCommand.TheVariants.{Opened, Create, 
 use Rattle.key_rows.specs.Table.{after, applies, no_keys}
 use Rattle.key_index.specs.Held.{log_front, material_at}
 use Rattle.key_index.specs.Index.{Index, Materials, after_at, materials_after, no_index, place_of, table_of}
+use Rattle.key_index.specs.Runs.{run_places}
 
 abbrev pub first_material : Dek
 first_material = 1 ∷ 2 ∷ 3 ∷ 4 ∷ 5 ∷ 6 ∷ 7 ∷ 8 ∷ 9 ∷ 10 ∷ 11 ∷ 12 ∷ 13 ∷ 14 ∷ 15 ∷ 16 ∷ []
@@ -63,3 +65,7 @@ no_third m = refl
 
 pub deleted : (after_at with_two (Delete 4294967297) 0).rows ≡ []
 deleted = refl
+
+-- three places of a run, and one beside it
+pub in_runs : concat (run_places 79 26 3 ∷ run_places 300 0 1 ∷ []) ≡ 79 ∷ 105 ∷ 131 ∷ 300 ∷ []
+in_runs = refl

@@ -1,15 +1,15 @@
 //! The places of the materials of a key: runs of places at equal distances.
-ghost use Rattle.std.specs.Prelude.{◌≡◌, ◌∷◌, [], ◌++◌, ◌+◌, ◌*◌, ◌<◌, ◌≤◌, ◌^◌, length, slice_get, IfSome, OnOk, OnErr, IfOk, IsOk, IsSome};
+ghost use Rattle.std.specs.Prelude.{◌≡◌, ℕ, ◌∷◌, [], ◌++◌, ◌+◌, ◌*◌, ◌<◌, ◌^◌, length, slice_get, IfSome, OnOk, OnErr, IfOk, IsOk, IsSome, IsTrue};
 ghost use Rattle.std.specs.Bool.{OnTrue, OnFalse};
-ghost use Rattle.std.specs.Vec.{vec_capacity, vec_len};
+ghost use Rattle.std.specs.Vec.{vec_capacity};
 ghost use Rattle.std.specs.List.{concat};
-ghost use Rattle.key_index.specs.Runs.{AreRuns, spaced};
+ghost use Rattle.key_index.specs.Runs.{AreRuns, GoesOn, IsSecond, run_places};
 
 use hk_base::NoMemory;
 use std::marker::Model;
 
-/// Places that follow each other at equal distances: `count` of them, one or more, from `first`. Contracts
-/// see the list of these places.
+/// One or more places at equal distances: `count` of them from `first`, each `step` above the one before.
+/// Contracts see the list of these places.
 #[derive(Drop)]
 pub(crate) struct PlaceRun {
     first: u64,
@@ -19,18 +19,19 @@ pub(crate) struct PlaceRun {
 
 impl Model for PlaceRun {
     ghost use Rattle.std.specs.Prelude.{ℕ, List, ◌+◌, ◌-◌, ◌*◌, ◌<◌, ◌^◌};
-    ghost use Rattle.key_index.specs.Runs.{spaced};
+    ghost use Rattle.key_index.specs.Runs.{run_places};
 
     ghost Value = { List ℕ };
 
-    ghost view = { λ a. spaced a.first a.step a.count };
+    ghost view = { λ a. run_places a.first a.step a.count };
 
     ghost invariant = { λ a. (0 < a.count) × (a.first + a.step * (a.count - 1) < 2 ^ 64) };
 }
 
-/// Returns the distance from a place to a later one, if it fits.
+/// Returns how far `to` is above `from`, or `None` if it is below, or 2^32 or more above.
 fn distance(from: u64, to: u64) -> Option<u32>
-    ensures { IfSome result (λ step. to ≡ from + step) }
+    ensures step { IfSome result (λ step. to ≡ from + step) }
+    ensures near { (step : ℕ) → to ≡ from + step → step < 2 ^ 32 → IsSome result }
 {
     if to < from {
         return None;
@@ -41,12 +42,14 @@ fn distance(from: u64, to: u64) -> Option<u32>
     }
 }
 
-/// Returns the distance between places with which a run of `count` places, one or more, goes on at a
-/// place. A run of one place goes on at any distance.
+/// Returns the distance at which a run of `count` places, one or more, goes on at a place, or `None` if it
+/// doesn't. A run of one place goes on at any distance below 2^32.
 fn step_to(first: u64, step: u32, count: u32, place: u64) -> Option<u32>
     requires { 0 < count }
     ensures place { IfSome result (λ next. place ≡ first + next * count) }
-    ensures same { IfSome result (λ next. spaced first next count ≡ spaced first step count) }
+    ensures same { IfSome result (λ next. run_places first next count ≡ run_places first step count) }
+    ensures next { place ≡ first + step * count → IsSome result }
+    ensures second { (next : ℕ) → count ≡ 1 → place ≡ first + next → next < 2 ^ 32 → IsSome result }
 {
     if count == 1 {
         return distance(first, place);
@@ -92,9 +95,11 @@ impl PlaceRun {
     }
 
     /// Appends a place if the run goes on at it, and returns whether it does.
-    fn take(&mut self, place: u64) -> bool
-        ensures taken { OnTrue result (self.new ≡ self.old ++ place ∷ []) }
-        ensures left { OnFalse result (self.new ≡ self.old) }
+    fn try_push(&mut self, place: u64) -> bool
+        ensures pushed { OnTrue result (self.new ≡ self.old ++ place ∷ []) }
+        ensures same { OnFalse result (self.new ≡ self.old) }
+        ensures next { GoesOn self.old place → IsTrue result }
+        ensures second { IsSecond self.old place → IsTrue result }
     {
         let count = self.count;
         if count == u32::MAX {
@@ -112,20 +117,19 @@ impl PlaceRun {
 }
 
 /// Appends a place to the last run if that goes on at it, and returns whether it does.
-fn take_last(runs: &mut Vec<PlaceRun>, place: u64) -> bool
+fn try_push_to_last(runs: &mut Vec<PlaceRun>, place: u64) -> bool
     requires { AreRuns runs.old.items }
     ensures runs { AreRuns runs.new.items }
-    ensures taken { OnTrue result (concat runs.new.items ≡ concat runs.old.items ++ place ∷ []) }
-    ensures left { OnFalse result (runs.new.items ≡ runs.old.items) }
-    ensures len { vec_len runs.new ≡ vec_len runs.old }
-    ensures capacity { vec_capacity runs.new ≡ vec_capacity runs.old }
+    ensures pushed { OnTrue result (concat runs.new.items ≡ concat runs.old.items ++ place ∷ []) }
+    ensures same { OnFalse result (runs.new.items ≡ runs.old.items) }
+    ensures next { GoesOn (concat runs.old.items) place → IsTrue result }
 {
     let count = runs.len();
     if count == 0 {
         return false;
     }
     let last = &mut runs[count - 1];
-    last.take(place)
+    last.try_push(place)
 }
 
 /// Appends a run, in place or, if there is no capacity left, in a given buffer. Returns `Ok` if the buffer
@@ -148,7 +152,7 @@ fn push_run(runs: &mut Vec<PlaceRun>, buffer: Vec<PlaceRun>, run: PlaceRun) -> R
 }
 
 /// The offsets of the materials of a key in the file of the key log, one for each version, from version
-/// 0. Contracts see a list. Rolls that are at equal distances in the log share a run.
+/// 0. Contracts see a list. Places at equal distances, as rolls of equal size leave, share a run.
 #[derive(Drop)]
 pub(crate) struct PlaceList {
     runs: Vec<PlaceRun>,
@@ -186,8 +190,10 @@ impl PlaceList {
         ensures ok { OnOk result (self.new ≡ self.old ++ place ∷ []) }
         ensures err { OnErr result (self.new ≡ self.old) }
         ensures room { length self.old < vec_capacity buffer → IsOk result }
+        // A place as far from the last one as that is from the one before it takes no memory.
+        ensures next { GoesOn self.old place → IsOk result }
     {
-        if take_last(&mut self.runs, place) {
+        if try_push_to_last(&mut self.runs, place) {
             return Ok(());
         }
         push_run(&mut self.runs, buffer, PlaceRun::new(place))?;
