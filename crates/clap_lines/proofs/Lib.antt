@@ -1,4 +1,6 @@
+pub mod AfterFolderLemmas
 pub mod EnteredLemmas
+pub mod FolderLemmas
 pub mod KindLemmas
 pub mod OrderLemmas
 pub mod ParseLemmas

@@ -1,3 +1,4 @@
+pub mod Folders
 pub mod Orders
 pub mod Shown
 pub mod Told

@@ -3,14 +3,19 @@ use Rattle.std.specs.Prelude.{codes, pos, true, Some}
 use Rattle.clap.specs.Words.{App, Rule, Text, new_app, new_rule, with_rule, with_subcommand}
 use Rattle.clap.specs.declared.builder.value_parser.ValueParser.{ValueParser}
 use Rattle.clap.specs.declared.builder.value_parser.ValueParser.TheVariants as parser
+use Rattle.clap_lines.specs.Folders.{folder_option}
 
 -- the program's own name is not among the words, a command is required, and there is no command `help`
-abbrev pub top : App
-top =
+abbrev pub bare : App
+bare =
     let new = new_app (codes "hkms") in
     record new {
       top = record new.top { no_binary_name = true; subcommand_required = true; disable_help_subcommand = true; has_version = true };
     }
+
+-- the program itself has the option `--dir`
+abbrev pub top : App
+top = with_rule bare folder_option
 
 -- one more command, which has no options except help
 abbrev pub with_plain : App → Text → App

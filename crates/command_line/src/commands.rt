@@ -6,20 +6,22 @@ ghost use Rattle.command_line.specs.Line as line;
 use crate::help;
 use clap::builder::ValueParser;
 use clap::{Arg, Command, value_parser};
+use clap_lines::folder_option;
 use std::alloc::{AllocError, Global};
 
 /// Declares the program without its commands. A command is required, and `help` is not a command.
 fn top<'a>(alloc: Global) -> Result<Command<'a>, AllocError>
     ensures { IfOk result (λ r. app_of r ≡ line.top) }
 {
-    Command::new(alloc, "hkms")
+    let plain = Command::new(alloc, "hkms")
         .about(help::PROGRAM)
         .after_help(help::PROGRAM_NOTES)
         .version(help::VERSION)
         .no_binary_name(true)
         .subcommand_required(true)
         .disable_help_subcommand(true)
-        .bin_name("hkms")
+        .bin_name("hkms")?;
+    plain.arg(folder_option(alloc))
 }
 
 /// Adds a command whose only option is help.

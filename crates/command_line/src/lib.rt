@@ -10,4 +10,4 @@ mod reading;
 pub use clap_lines::OrderFault;
 pub use laws::{commands_alone_are_named, loads_have_a_count, options_are_named};
 pub use order::Order;
-pub use reading::read_order;
+pub use reading::{read_folder, read_order};

@@ -1,7 +1,9 @@
 //! Parsing a command line.
 ghost use Rattle.std.specs.Prelude.{◌≡◌, ◌≢◌, ◌⊎◌, ◌≤◌, IfErr, IfOk, IfSome, Ok, Err, map};
 ghost use Rattle.clap.specs.Words.{first_of, found_of, kind_of, rows_of, subcommand_rows_of};
+ghost use Rattle.clap_lines.specs.Folders.{folder_of};
 ghost use Rattle.clap_lines.specs.Orders.{HasMistake, IsMistake, IsShown, ShownAs, order_at};
+ghost use Rattle.command_line.specs.Line as line;
 ghost use Rattle.command_line.specs.Orders.{FindsHelp, FindsVersion, HasRightCount, IsHelp, IsOrderOf, IsSpelled, IsVersion, in_range, line_fault, count_at, number_at, number_or, order_named};
 ghost use Rattle.command_line.specs.declared.order.Order.{Order as AnOrder};
 
@@ -9,7 +11,7 @@ use crate::commands::hkms;
 use crate::order::Order;
 use clap::error::ErrorKind;
 use clap::{ArgMatches, Error};
-use clap_lines::{OrderFault, answer_without_command, texts_of};
+use clap_lines::{OrderFault, answer_without_command, folder_given, texts_of};
 use hk_base::{Text, read_number};
 use std::alloc::Global;
 use std::convert::AsStr;
@@ -150,4 +152,16 @@ pub fn read_order(alloc: Global, words: &[Text]) -> Result<Order, OrderFault>
 {
     let texts = texts_of(alloc, words)?;
     read(alloc, texts.as_slice())
+}
+
+/// Returns the folder that the words give with `--dir`, which stands before the command. Returns `None` if they
+/// give none, and also if `clap` finds a fault in them, help and the version included. Fails only if allocation
+/// fails.
+pub fn read_folder(alloc: Global, words: &[Text]) -> Result<Option<Text>, OrderFault>
+    ensures ok { IfOk result (λ folder. folder ≡ folder_of line.hkms words.now) }
+    ensures err { IfErr result (λ fault. fault ≡ OrderFault.NoMemory) }
+{
+    let texts = texts_of(alloc, words)?;
+    let command = hkms(alloc)?;
+    folder_given(alloc, command, texts.as_slice())
 }

@@ -5,7 +5,7 @@ ghost use Rattle.copy_command_line.specs.Line as line;
 
 use crate::help;
 use clap::Command;
-use clap_lines::word;
+use clap_lines::{folder_option, word};
 use read_words::with_read;
 use std::alloc::{AllocError, Global};
 
@@ -13,14 +13,15 @@ use std::alloc::{AllocError, Global};
 fn top<'a>(alloc: Global) -> Result<Command<'a>, AllocError>
     ensures { IfOk result (λ r. app_of r ≡ line.top) }
 {
-    Command::new(alloc, "hkcopy")
+    let plain = Command::new(alloc, "hkcopy")
         .about(help::PROGRAM)
         .after_help(help::PROGRAM_NOTES)
         .version(help::VERSION)
         .no_binary_name(true)
         .subcommand_required(true)
         .disable_help_subcommand(true)
-        .bin_name("hkcopy")
+        .bin_name("hkcopy")?;
+    plain.arg(folder_option(alloc))
 }
 
 /// Declares `copy` with its words.

@@ -1,7 +1,9 @@
 //! Parsing a command line.
 ghost use Rattle.std.specs.Prelude.{◌≡◌, ◌≢◌, ◌⊎◌, IfErr, IfOk, MatchResult, Ok, Err, None, Some, codes, map};
 ghost use Rattle.clap.specs.Words.{first_of, found_of, kind_of, rows_of, subcommand_rows_of};
+ghost use Rattle.clap_lines.specs.Folders.{folder_of};
 ghost use Rattle.clap_lines.specs.Orders.{HasMistake, IsMistake, IsShown, ShownAs, order_at};
+ghost use Rattle.copy_command_line.specs.Line as line;
 ghost use Rattle.copy_command_line.specs.Orders.{FindsHelp, FindsVersion, HasRightValues, IsHelp, IsOrderOf, IsSpelled, IsVersion, copy_order, line_fault, order_named, read_order_in, source_in, target_in};
 ghost use Rattle.copy_command_line.specs.declared.order.CopyOrder.{CopyOrder as AnOrder};
 
@@ -9,7 +11,7 @@ use crate::commands::hkcopy;
 use crate::order::CopyOrder;
 use clap::error::ErrorKind;
 use clap::{ArgMatches, Error};
-use clap_lines::{OrderFault, answer_without_command, copy_word, texts_of, word_in};
+use clap_lines::{OrderFault, answer_without_command, copy_word, folder_given, texts_of, word_in};
 use hk_base::Text;
 use read_words::{ReadValues, read_values_in};
 use std::alloc::Global;
@@ -132,4 +134,16 @@ pub fn read_order(alloc: Global, words: &[Text]) -> Result<CopyOrder, OrderFault
 {
     let texts = texts_of(alloc, words)?;
     read(alloc, texts.as_slice())
+}
+
+/// Returns the folder that the words give with `--dir`, which stands before the command. Returns `None` if they
+/// give none, and also if `clap` finds a fault in them, help and the version included. Fails only if allocation
+/// fails.
+pub fn read_folder(alloc: Global, words: &[Text]) -> Result<Option<Text>, OrderFault>
+    ensures ok { IfOk result (λ folder. folder ≡ folder_of line.hkcopy words.now) }
+    ensures err { IfErr result (λ fault. fault ≡ OrderFault.NoMemory) }
+{
+    let texts = texts_of(alloc, words)?;
+    let command = hkcopy(alloc)?;
+    folder_given(alloc, command, texts.as_slice())
 }

@@ -10,4 +10,4 @@ mod reading;
 pub use clap_lines::OrderFault;
 pub use laws::{other_words_are_refused, words_name_their_order};
 pub use order::FsOrder;
-pub use reading::read_order;
+pub use reading::{read_folder, read_order};

@@ -1,8 +1,10 @@
 //! Parsing a command line.
 ghost use Rattle.std.specs.Prelude.{◌≡◌, ◌≢◌, ◌⊎◌, IfErr, IfOk, MatchResult, Ok, Err, None, Some, codes, map};
 ghost use Rattle.clap.specs.Words.{first_of, found_of, kind_of, rows_of, subcommand_rows_of};
+ghost use Rattle.clap_lines.specs.Folders.{folder_of};
 ghost use Rattle.clap_lines.specs.Orders.{HasMistake, IsMistake, IsShown, ShownAs, order_at, user_in};
 ghost use Rattle.read_words.specs.Values.{path_in};
+ghost use Rattle.fs_command_line.specs.Line as line;
 ghost use Rattle.fs_command_line.specs.Orders.{FindsHelp, FindsVersion, HasRightValues, IsHelp, IsOrderOf, IsSpelled, IsVersion, line_fault, order_named, put_order, read_order_in};
 ghost use Rattle.fs_command_line.specs.declared.order.FsOrder.{FsOrder as AnOrder};
 
@@ -10,7 +12,7 @@ use crate::commands::hkfs;
 use crate::order::FsOrder;
 use clap::error::ErrorKind;
 use clap::{ArgMatches, Error};
-use clap_lines::{OrderFault, answer_without_command, copy_word, texts_of, user_in, word_in};
+use clap_lines::{OrderFault, answer_without_command, copy_word, folder_given, texts_of, user_in, word_in};
 use hk_base::Text;
 use read_words::{ReadValues, read_values_in};
 use std::alloc::Global;
@@ -133,4 +135,16 @@ pub fn read_order(alloc: Global, words: &[Text]) -> Result<FsOrder, OrderFault>
 {
     let texts = texts_of(alloc, words)?;
     read(alloc, texts.as_slice())
+}
+
+/// Returns the folder that the words give with `--dir`, which stands before the command. Returns `None` if they
+/// give none, and also if `clap` finds a fault in them, help and the version included. Fails only if allocation
+/// fails.
+pub fn read_folder(alloc: Global, words: &[Text]) -> Result<Option<Text>, OrderFault>
+    ensures ok { IfOk result (λ folder. folder ≡ folder_of line.hkfs words.now) }
+    ensures err { IfErr result (λ fault. fault ≡ OrderFault.NoMemory) }
+{
+    let texts = texts_of(alloc, words)?;
+    let command = hkfs(alloc)?;
+    folder_given(alloc, command, texts.as_slice())
 }
