@@ -1,3 +1,4 @@
+mod FolderLemmas
 mod LoadLemmas
 mod NumberLemmas
 pub mod OrderLemmas

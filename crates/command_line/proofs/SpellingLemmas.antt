@@ -1,15 +1,21 @@
 -- The words of `serve` with its options, each in either of its two forms.
 use Rattle.std.proofs.Common.{refl, codes, List, [], ◌∷◌, ◌++◌, ◌≡◌, inl, inr, ap, ap₂, ◌∙◌, sym, arith, ℕ, ◌≤◌}
-use Rattle.std.specs.Prelude.{Some}
+use Rattle.std.specs.Prelude.{None, Some}
 use Rattle.std.specs.Fmt.{decimal}
+use Rattle.clap.specs.Faults.{entered_fault}
+use Rattle.clap.specs.Kinds.{Kinds, or_else}
+use Rattle.clap.specs.Simple.{built}
+use Rattle.clap.specs.Walk.{nothing_held}
 use Rattle.clap.specs.Words.{fault_of, subcommand_of, Text}
 use Rattle.clap.proofs.OnLiterals.{clap_on_literals}
 use Rattle.clap_lines.specs.Orders.{order_at}
+use Rattle.clap_lines.proofs.AfterFolderLemmas.{fault_after}
 use Rattle.clap_lines.proofs.OrderLemmas.{named_at}
 use Rattle.command_line.specs.Line as line
 use Rattle.command_line.specs.Orders.{IsOption, IsServe, Names, number_at, order_named, serve_order}
 use Rattle.command_line.specs.declared.order.Order.{Order}
 use Rattle.command_line.specs.declared.order.Order.TheVariants.{Serve}
+use Rattle.command_line.proofs.FolderLemmas.{nothing_before, serve}
 use Rattle.command_line.proofs.NumberLemmas.{IsNumberWord, number_at-word, number_word}
 
 -- clap finds no mistake in the words, and this order
@@ -24,6 +30,10 @@ three : {A B C D : Type 0} (f : A → B → C → D) {a a' : A} {b b' : B} {c c'
 three f p q r = λ i. f (p i) (q i) (r i)
 
 -- ---- what clap finds
+
+-- no fault in the words after `serve` is none at all
+serve_fault : (rest : List Text) → entered_fault (built line.hkms) (Some (codes "serve", rest)) ≡ [] → fault_of line.hkms (codes "serve" ∷ rest) ≡ []
+serve_fault rest none = fault_after line.hkms (codes "serve") serve nothing_held rest [] None nothing_before ∙ ap (λ (kinds : Kinds). or_else kinds []) none
 
 fault_alone : fault_of line.hkms (codes "serve" ∷ []) ≡ []
 unfolding clap_on_literals
@@ -81,9 +91,12 @@ order_places_joined : (x : Text) → IsNumberWord 1024 x → order_at order_name
 unfolding clap_on_literals
 order_places_joined x y = refl
 
-fault_port_conns : (t u : Text) → IsNumberWord 65535 t → IsNumberWord 4294967295 u → fault_of line.hkms (codes "serve" ∷ codes "--port" ∷ t ∷ codes "--conns" ∷ u ∷ []) ≡ []
+below_port_conns : (t u : Text) → IsNumberWord 65535 t → IsNumberWord 4294967295 u → entered_fault (built line.hkms) (Some (codes "serve", codes "--port" ∷ t ∷ codes "--conns" ∷ u ∷ [])) ≡ []
 unfolding clap_on_literals
-fault_port_conns t u w v = rw (w.no_dashes, w.no_long, w.no_short, w.accepted, v.no_dashes, v.no_long, v.no_short, v.accepted) refl
+below_port_conns t u w v = rw (w.no_dashes, w.no_long, w.no_short, w.accepted, v.no_dashes, v.no_long, v.no_short, v.accepted) refl
+
+fault_port_conns : (t u : Text) → IsNumberWord 65535 t → IsNumberWord 4294967295 u → fault_of line.hkms (codes "serve" ∷ codes "--port" ∷ t ∷ codes "--conns" ∷ u ∷ []) ≡ []
+fault_port_conns t u w v = serve_fault (codes "--port" ∷ t ∷ codes "--conns" ∷ u ∷ []) (below_port_conns t u w v)
 
 order_port_conns : (t u : Text) → IsNumberWord 65535 t → IsNumberWord 4294967295 u → order_at order_named (subcommand_of line.hkms (codes "serve" ∷ codes "--port" ∷ t ∷ codes "--conns" ∷ u ∷ [])) ≡ serve_order (number_at 65535 t) (number_at 4294967295 u) (Some 16)
 unfolding clap_on_literals
@@ -113,9 +126,12 @@ order_port_joined_conns_joined : (t u : Text) → IsNumberWord 65535 t → IsNum
 unfolding clap_on_literals
 order_port_joined_conns_joined t u w v = refl
 
-fault_conns_port : (u t : Text) → IsNumberWord 4294967295 u → IsNumberWord 65535 t → fault_of line.hkms (codes "serve" ∷ codes "--conns" ∷ u ∷ codes "--port" ∷ t ∷ []) ≡ []
+below_conns_port : (u t : Text) → IsNumberWord 4294967295 u → IsNumberWord 65535 t → entered_fault (built line.hkms) (Some (codes "serve", codes "--conns" ∷ u ∷ codes "--port" ∷ t ∷ [])) ≡ []
 unfolding clap_on_literals
-fault_conns_port u t v w = rw (v.no_dashes, v.no_long, v.no_short, v.accepted, w.no_dashes, w.no_long, w.no_short, w.accepted) refl
+below_conns_port u t v w = rw (v.no_dashes, v.no_long, v.no_short, v.accepted, w.no_dashes, w.no_long, w.no_short, w.accepted) refl
+
+fault_conns_port : (u t : Text) → IsNumberWord 4294967295 u → IsNumberWord 65535 t → fault_of line.hkms (codes "serve" ∷ codes "--conns" ∷ u ∷ codes "--port" ∷ t ∷ []) ≡ []
+fault_conns_port u t v w = serve_fault (codes "--conns" ∷ u ∷ codes "--port" ∷ t ∷ []) (below_conns_port u t v w)
 
 order_conns_port : (u t : Text) → IsNumberWord 4294967295 u → IsNumberWord 65535 t → order_at order_named (subcommand_of line.hkms (codes "serve" ∷ codes "--conns" ∷ u ∷ codes "--port" ∷ t ∷ [])) ≡ serve_order (number_at 65535 t) (number_at 4294967295 u) (Some 16)
 unfolding clap_on_literals

@@ -8,7 +8,7 @@ pub(crate) const PROGRAM: &str = "Hadoop key management server for HDFS encrypti
 
 /// The files and the exit statuses of the commands.
 pub(crate) const PROGRAM_NOTES: &str =
-    "Each command but 'load' uses these files of the current folder:
+    "Each command but 'load' uses these files of the current folder, or of FOLDER:
   keys.log             the keys; a change is written here before it is answered
   names.log            directories, files and zones, written in the same way
   kms-acls.properties  access control lists: who may do what with which key
@@ -25,8 +25,8 @@ Exit status:
    2  the command line has a mistake; nothing was read, and no log was made
    3  the input or kms-acls.properties has a mistake
    4  keys.log or names.log is damaged
-   5  a log cannot be opened: the disk failed, or another process has it; or the
-      disk failed while 'serve' ran
+   5  FOLDER or a log cannot be opened, or another process has the log, or the disk
+      failed while 'serve' ran
    6  there was no memory
    7  the input, kms-acls.properties or /dev/urandom cannot be read
    8  the output cannot be written
@@ -64,7 +64,8 @@ A call that is refused ends nothing. What ends a run:
           acl too long         kms-acls.properties is over 1,048,576 bytes
      4    damaged keys AT      keys.log is damaged at byte AT
           damaged names AT     names.log is damaged at byte AT
-     5    store fault          a log cannot be opened, or another process has it
+     5    store fault          the folder or a log cannot be opened, or another
+                               process has the log
      6    no memory            there was no memory
      7    read fault           the input or kms-acls.properties cannot be read
           no random source     /dev/urandom cannot be read
@@ -72,7 +73,7 @@ A call that is refused ends nothing. What ends a run:
     10    openings spent       a log was opened 4,294,967,295 times
 
 The calls before that were made, and their answers stand. docs/event-text.md has
-all calls. The files are those of the current folder: see 'hkms --help'.";
+all calls. 'hkms --help' says which files are used.";
 
 /// The purpose of `pipe`, in one line.
 pub(crate) const PIPE: &str = "Answers the HTTP requests of one connection";
@@ -94,15 +95,15 @@ Exit status:
    3  the input is no HTTP, or kms-acls.properties has a mistake, or one of them
       is too long
    4  keys.log or names.log is damaged
-   5  a log cannot be opened: the disk failed, or another process has it
+   5  the folder or a log cannot be opened, or another process has the log
    6  there was no memory
    7  the input, kms-acls.properties or /dev/urandom cannot be read
    8  the output cannot be written
   10  a log was opened 4,294,967,295 times, and cannot be opened again
 
 A head has at most 16,384 bytes and 64 fields, and a body 4,194,304 bytes.
-docs/rest.md has the bodies and the messages. The files are those of the current
-folder: see 'hkms --help'.";
+docs/rest.md has the bodies and the messages. 'hkms --help' says which files are
+used.";
 
 /// The purpose of `serve`, in one line.
 pub(crate) const SERVE: &str = "Answers the HTTP requests of connections to a port";
@@ -143,8 +144,8 @@ input is not read. What ends it:
           acl too long         kms-acls.properties is over 1,048,576 bytes
      4    damaged keys AT      keys.log is damaged at byte AT
           damaged names AT     names.log is damaged at byte AT
-     5    store fault          a log cannot be opened, another process has it, or
-                               the disk failed
+     5    store fault          the folder or a log cannot be opened, another
+                               process has the log, or the disk failed
      6    no memory            there was no memory
      7    read fault           kms-acls.properties cannot be read
           no random source     /dev/urandom cannot be read
@@ -153,8 +154,8 @@ input is not read. What ends it:
     10    openings spent       a log was opened 4,294,967,295 times
 
 The last line goes to standard output. What was answered before that stands.
-docs/rest.md has the requests, the bodies and the messages. The files are those
-of the current folder: see 'hkms --help'.";
+docs/rest.md has the requests, the bodies and the messages. 'hkms --help' says
+which files are used.";
 
 /// The purpose of `load`, in one line.
 pub(crate) const LOAD: &str = "Runs a load in memory and writes one line that sums it up";

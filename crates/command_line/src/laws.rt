@@ -1,9 +1,11 @@
 //! What words name which order. The functions do nothing: their contracts are the laws.
-ghost use Rattle.std.specs.Prelude.{codes, [], ◌∷◌, ◌<◌, ◌^◌, ℕ, List};
+ghost use Rattle.std.specs.Prelude.{codes, [], ◌∷◌, ◌++◌, ◌<◌, ◌^◌, ℕ, List};
 ghost use Rattle.std.specs.Fmt.{decimal};
 ghost use Rattle.clap.specs.Words.{Text};
+ghost use Rattle.clap_lines.specs.Folders.{SaysInFolder, SpellsFolder};
 ghost use Rattle.clap_lines.specs.Orders.{IsMistake};
-ghost use Rattle.command_line.specs.Orders.{IsRightCount, Names, line_fault};
+ghost use Rattle.command_line.specs.Line as line;
+ghost use Rattle.command_line.specs.Orders.{IsCommand, IsRightCount, Names, line_fault, order_named};
 ghost use Rattle.command_line.specs.declared.order.Order.TheVariants as order;
 
 /// As clap reads them, the word `replay` names the replay, the word `pipe` the connection, and the
@@ -37,4 +39,16 @@ pub fn loads_have_a_count()
     ensures no_number { IsMistake (line_fault (codes "load" ∷ codes "one" ∷ [])) }
     ensures no_word { IsMistake (line_fault (codes "load" ∷ [])) }
     ensures one_more { IsMistake (line_fault (codes "load" ∷ codes "1" ∷ codes "2" ∷ [])) }
+{}
+
+/// `--dir FOLDER` and `--dir=FOLDER` before a command give the folder, and change nothing in what the command and
+/// the words after it say. Given twice, the option is a mistake, and so it is after the command.
+pub fn folders_come_first()
+    ensures same { (folder : Text) (option : List Text) (command : Text) (rest : List Text) →
+        SpellsFolder folder option → IsCommand command →
+        SaysInFolder line.hkms order_named folder (option ++ command ∷ rest) (command ∷ rest) }
+    ensures twice { IsMistake (line_fault
+        (codes "--dir" ∷ codes "a" ∷ codes "--dir" ∷ codes "b" ∷ codes "replay" ∷ [])) }
+    ensures late { IsMistake
+        (line_fault (codes "replay" ∷ codes "--dir" ∷ codes "a" ∷ [])) }
 {}

@@ -8,6 +8,8 @@ mod order;
 mod reading;
 
 pub use clap_lines::OrderFault;
-pub use laws::{commands_alone_are_named, loads_have_a_count, options_are_named};
+pub use laws::{
+    commands_alone_are_named, folders_come_first, loads_have_a_count, options_are_named,
+};
 pub use order::Order;
 pub use reading::{read_folder, read_order};

@@ -8,7 +8,7 @@ pub(crate) const PROGRAM: &str =
     "Copies of HDFS encryption zones in a second cluster, which stay encrypted";
 
 /// The files and the exit statuses of the commands.
-pub(crate) const PROGRAM_NOTES: &str = "It uses these files of the current folder:
+pub(crate) const PROGRAM_NOTES: &str = "It uses these files of the current folder, or of FOLDER:
   keys.log             the keys
   names.log            directories, files and zones
   kms-acls.properties  access control lists: who may do what with which key
@@ -27,8 +27,8 @@ Exit status:
    2  the command line has a mistake; nothing was read, and no log was made
    3  kms-acls.properties has a mistake
    4  keys.log, names.log or backup/names.log is damaged
-   5  a log cannot be opened: the disk failed, or another process has it; or the
-      disk failed later
+   5  FOLDER or a log cannot be opened, or another process has the log, or the disk
+      failed later
    6  there was no memory
    7  kms-acls.properties or /dev/urandom cannot be read
    8  the output cannot be written
@@ -72,8 +72,8 @@ stays at TO, each file with its whole body. The last line says why:
      4    damaged keys AT      keys.log is damaged at byte AT
           damaged names AT     names.log is damaged at byte AT
           damaged copies AT    backup/names.log is damaged at byte AT
-     5    store fault          a log cannot be opened or written, or another
-                               process has it
+     5    store fault          the folder or a log cannot be opened, another
+                               process has a log, or one cannot be written
      6    no memory            there was no memory
      7    read fault           kms-acls.properties cannot be read
           no random source     /dev/urandom cannot be read

@@ -1,9 +1,11 @@
 //! What words name which order. The functions do nothing: their contracts are the laws.
-ghost use Rattle.std.specs.Prelude.{codes, [], ◌∷◌, ◌<◌, ◌≤◌, ◌^◌, ◌⊎◌, ◌≡◌, ℕ, List, length};
+ghost use Rattle.std.specs.Prelude.{codes, [], ◌∷◌, ◌++◌, ◌<◌, ◌≤◌, ◌^◌, ◌⊎◌, ◌≡◌, ℕ, List, length};
 ghost use Rattle.std.specs.Fmt.{decimal};
 ghost use Rattle.clap.specs.Words.{Text};
+ghost use Rattle.clap_lines.specs.Folders.{SaysInFolder, SpellsFolder};
 ghost use Rattle.clap_lines.specs.Orders.{IsMistake, IsPlain};
-ghost use Rattle.copy_command_line.specs.Orders.{HasRightValues, IsSpelled, Names, line_fault};
+ghost use Rattle.copy_command_line.specs.Line as line;
+ghost use Rattle.copy_command_line.specs.Orders.{IsCommand, HasRightValues, IsSpelled, Names, line_fault, order_named};
 ghost use Rattle.copy_command_line.specs.declared.order.CopyOrder.{CopyOrder};
 ghost use Rattle.copy_command_line.specs.declared.order.CopyOrder.TheVariants as order;
 
@@ -32,4 +34,16 @@ pub fn other_words_are_refused()
     ensures one_less { IsMistake (line_fault (codes "copy" ∷ codes "/b" ∷ [])) }
     ensures one_more { IsMistake
         (line_fault (codes "copy" ∷ codes "/b" ∷ codes "/c" ∷ codes "/d" ∷ [])) }
+{}
+
+/// `--dir FOLDER` and `--dir=FOLDER` before a command give the folder, and change nothing in what the command and
+/// the words after it say. Given twice, the option is a mistake, and so it is after the command.
+pub fn folders_come_first()
+    ensures same { (folder : Text) (option : List Text) (command : Text) (rest : List Text) →
+        SpellsFolder folder option → IsCommand command →
+        SaysInFolder line.hkcopy order_named folder (option ++ command ∷ rest) (command ∷ rest) }
+    ensures twice { IsMistake (line_fault
+        (codes "--dir" ∷ codes "a" ∷ codes "--dir" ∷ codes "b" ∷ codes "read" ∷ [])) }
+    ensures late { IsMistake
+        (line_fault (codes "read" ∷ codes "--dir" ∷ codes "a" ∷ [])) }
 {}

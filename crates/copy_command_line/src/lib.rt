@@ -8,6 +8,6 @@ mod order;
 mod reading;
 
 pub use clap_lines::OrderFault;
-pub use laws::{other_words_are_refused, words_name_their_order};
+pub use laws::{folders_come_first, other_words_are_refused, words_name_their_order};
 pub use order::CopyOrder;
 pub use reading::{read_folder, read_order};

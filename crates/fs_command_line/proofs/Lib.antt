@@ -1,3 +1,4 @@
+mod FolderLemmas
 mod OrderLemmas
 mod SpellingLemmas
 mod ValueLemmas

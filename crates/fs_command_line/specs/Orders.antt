@@ -1,5 +1,5 @@
 -- The orders that the words of a command line give.
-use Rattle.std.specs.Prelude.{◌≡◌, List, [], ◌∷◌, codes, Option, Some, None, if◌then◌else◌, option_map}
+use Rattle.std.specs.Prelude.{◌≡◌, ◌⊎◌, List, [], ◌∷◌, codes, Option, Some, None, if◌then◌else◌, option_map}
 use Rattle.std.specs.Str.{bytes_eq}
 use Rattle.clap.specs.Words.{Kinds, IsAmong, Row, Text}
 use Rattle.clap.specs.declared.error.ErrorKind.TheVariants.{DisplayHelp, DisplayVersion}
@@ -76,3 +76,7 @@ FindsHelp words = IsAmong DisplayHelp (line_fault words)
 
 abbrev pub FindsVersion : List Text → Type 0
 FindsVersion words = IsAmong DisplayVersion (line_fault words)
+
+-- the word is the name of a command
+abbrev pub IsCommand : Text → Type 0
+IsCommand word = (word ≡ codes "put") ⊎ (word ≡ codes "read")

@@ -12,7 +12,9 @@ use crate::commands::hkfs;
 use crate::order::FsOrder;
 use clap::error::ErrorKind;
 use clap::{ArgMatches, Error};
-use clap_lines::{OrderFault, answer_without_command, copy_word, folder_given, texts_of, user_in, word_in};
+use clap_lines::{
+    OrderFault, answer_without_command, copy_word, folder_given, texts_of, user_in, word_in,
+};
 use hk_base::Text;
 use read_words::{ReadValues, read_values_in};
 use std::alloc::Global;

@@ -20,10 +20,11 @@ use progress::{CountedVault, LastLines, Progress};
 use std::io::{self, IsTerminal};
 use std::process::ExitCode;
 
-/// Tells which files could not be opened, also on standard error.
+/// Tells what could not be opened, also on standard error, where the folder has been told of.
 fn report_unopened(rt: &HostRuntime, unopened: &Unopened) -> u8 {
     let mut out = Writing::new(rt.stdout());
     match unopened {
+        Unopened::Folder(error) => end_by(&mut out, error, b"store fault\n", 5),
         Unopened::Properties(error) => {
             let _ = eprintln!(rt; "hkcopy: {PROPERTIES} cannot be opened here: {error}");
             end_by(&mut out, error, b"read fault\n", 7)
@@ -79,9 +80,10 @@ fn run_over<A: Source, D: Disk, E: Disk, V: Vault, U: Vault>(
     )
 }
 
-/// Does what the words of the command line say, with the files of the current folder.
+/// Does what the words of the command line say, with the files of the folder that they give, or else of the
+/// current one.
 fn run_in_folder(rt: &HostRuntime, words: &[Text], seed: [u8; 32], shows: bool) -> u8 {
-    match open_all(rt, rt.alloc(), rt.stderr()) {
+    match open_all(rt, rt.alloc(), words, rt.stderr()) {
         Ok(opened) => {
             let Opened {
                 mut acls,

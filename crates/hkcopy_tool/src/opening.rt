@@ -1,12 +1,14 @@
-//! The files that the program opens before it runs a command.
+//! The folder that the program enters, and the files that it opens, before it runs a command.
 use body_kinds::FolderVault;
+use copy_command_line::read_folder;
 use disk_kinds::{FileDisk, LogFile, Reading};
-use program_start::{PropertyBytes, open_properties};
+use hk_base::Text;
+use program_start::{PropertyBytes, enter_folder, open_properties};
 use std::alloc::Global;
 use std::fs::{DirBuilder, File};
 use std::io;
 use std::os::unix::fs::DirBuilderExt;
-use std::rt::{Files, Stderr};
+use std::rt::{Env, Files, Stderr};
 
 /// The folder of the bodies, in the current folder.
 pub const BODIES: &str = "bodies";
@@ -20,9 +22,10 @@ pub const BACKUP_LOG: &str = "backup/names.log";
 /// The folder of the bodies of the second cluster.
 pub const COPIES: &str = "copies";
 
-/// Files that could not be opened, and why.
+/// What could not be opened, and why.
 #[derive(Drop)]
 pub enum Unopened {
+    Folder(io::Error),
     Properties(io::Error),
     Logs(io::Error),
     Backup(io::Error),
@@ -83,13 +86,27 @@ fn open_bodies<'f, R: Files<File = File>>(
     }
 }
 
-/// Opens the properties, and the logs and the bodies of both clusters, in the current folder. Faults of
-/// the logs and of the bodies are told on `errors`.
-pub fn open_all<'f, R: Files<File = File>>(
+/// Enters the folder that the words of the command line give, if they give one. Tells on `errors` why it
+/// can't be entered.
+fn enter_given<R: Env>(
+    rt: &R,
+    alloc: Global,
+    words: &[Text],
+    errors: Stderr,
+) -> Result<(), Unopened> {
+    let given = read_folder(alloc, words);
+    enter_folder(rt, errors, "hkcopy", given).map_err(Unopened::Folder)
+}
+
+/// Opens the properties, and the logs and the bodies of both clusters, in the folder that the words of the
+/// command line give, or else in the current one. Faults of the logs and of the bodies are told on `errors`.
+pub fn open_all<'f, R: Files<File = File> + Env>(
     files: &'f R,
     alloc: Global,
+    words: &[Text],
     errors: Stderr,
 ) -> Result<Opened<'f, R>, Unopened> {
+    enter_given(files, alloc, words, errors)?;
     let acls = open_properties(files).map_err(Unopened::Properties)?;
     let (disk, backup) = match open_logs(files, alloc, errors) {
         Ok(logs) => logs,

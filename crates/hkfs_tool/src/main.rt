@@ -18,10 +18,11 @@ use program_start::{PROPERTIES, end_by, end_with, fill_standard, random_seed, wo
 use std::io;
 use std::process::ExitCode;
 
-/// Tells which files could not be opened, also on standard error.
+/// Tells what could not be opened, also on standard error, where the folder has been told of.
 fn report_unopened(rt: &HostRuntime, unopened: &Unopened) -> u8 {
     let mut out = Writing::new(rt.stdout());
     match unopened {
+        Unopened::Folder(error) => end_by(&mut out, error, b"store fault\n", 5),
         Unopened::Properties(error) => {
             let _ = eprintln!(rt; "hkfs: {PROPERTIES} cannot be opened here: {error}");
             end_by(&mut out, error, b"read fault\n", 7)
@@ -65,9 +66,10 @@ fn run_over<A: Source, D: Disk, V: Vault>(
     )
 }
 
-/// Does what the words of the command line say, with the files of the current folder.
+/// Does what the words of the command line say, with the files of the folder that they give, or else of the
+/// current one.
 fn run_in_folder(rt: &HostRuntime, words: &[Text], seed: [u8; 32]) -> u8 {
-    match open_all(rt, rt.alloc(), rt.stderr(), rt.stderr()) {
+    match open_all(rt, rt.alloc(), words, rt.stderr(), rt.stderr()) {
         Ok(opened) => {
             let Opened {
                 mut acls,

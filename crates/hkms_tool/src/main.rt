@@ -17,7 +17,7 @@ use disk_kinds::{Alarm, ChaWords, PlainDisk, Reading, WallClock, Writing};
 use door_kinds::{MemDoor, MemYard};
 use hk_base::{Disk, Source, Text};
 use hkms_commands::hkms;
-use opening::{Unopened, open_disk, open_yard};
+use opening::{Unopened, enter_given, open_disk, open_yard};
 use program_start::{PROPERTIES, end_with, fill_standard, random_seed, words_given};
 use server_parts::{Door, Yard};
 use std::alloc::Global;
@@ -57,12 +57,14 @@ fn report_error(rt: &HostRuntime, output: Output, error: &io::Error, line: &[u8]
     report_fault(rt, output, line, status)
 }
 
-/// Tells that the properties or the logs could not be opened, also on standard error.
+/// Tells that the folder, the properties or the logs could not be opened, also on standard error, where the
+/// folder has been told of.
 fn report_unopened(rt: &HostRuntime, output: Output, unopened: &Unopened) -> u8
     ensures ends { EndsUnopened unopened.now result }
     ensures not_usage { result ≢ 2 }
 {
     match unopened {
+        Unopened::Folder(error) => report_error(rt, output, error, b"store fault\n", 5),
         Unopened::Properties(error) => {
             let _ = eprintln!(rt; "hkms: {PROPERTIES} cannot be opened here: {error}");
             report_error(rt, output, error, b"read fault\n", 7)
@@ -180,7 +182,8 @@ fn serve_opened<T: Threads + Wait + Sync, A: Source + Drop, Y: Yard + Drop>(
     }
 }
 
-/// Serves, as the words of the command line say, with the files of the current folder. A sync of a log
+/// Serves, as the words of the command line say, with the files of the folder that they give, or else of the
+/// current one. A sync of a log
 /// that fails raises an alarm, and so does a byte on the pipe `hkms.stop`: the server then takes no more
 /// connections, and ends.
 fn serve<T: Threads + Wait + Sync>(
@@ -192,6 +195,9 @@ fn serve<T: Threads + Wait + Sync>(
     ensures { result ≡ 2 → IsMistake (line_fault words.now) }
 {
     let alloc = rt.alloc();
+    if let Err(unopened) = enter_given(rt, alloc, words, rt.stderr()) {
+        return report_unopened(rt, Output::Lines, &unopened);
+    }
     let Ok(alarm) = Arc::new(alloc, Alarm::new()) else {
         return report_fault(rt, Output::Lines, b"no memory\n", 6);
     };
@@ -224,7 +230,8 @@ fn run_without_files<T: Threads + Wait + Sync>(
     )
 }
 
-/// Does what the words of the command line say, with the files of the current folder.
+/// Does what the words of the command line say, with the files of the folder that they give, or else of the
+/// current one.
 fn run<T: Threads + Wait + Sync>(
     rt: &HostRuntime,
     threads: &T,
@@ -242,7 +249,7 @@ fn run<T: Threads + Wait + Sync>(
                 words,
                 Output::Lines,
                 seed,
-                open_disk(rt, alloc, rt.stderr()),
+                open_disk(rt, alloc, words, rt.stderr()),
             )
         }
         Ok(Order::Pipe) => {
@@ -252,7 +259,7 @@ fn run<T: Threads + Wait + Sync>(
                 words,
                 Output::Responses,
                 seed,
-                open_disk(rt, alloc, rt.stderr()),
+                open_disk(rt, alloc, words, rt.stderr()),
             )
         }
         Ok(Order::Serve { .. }) => serve(rt, threads, words, seed),

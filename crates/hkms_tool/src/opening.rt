@@ -1,29 +1,47 @@
-//! The files that the program opens before it runs a command.
+//! The folder that the program enters, and the files that it opens, before it runs a command.
 ghost use Rattle.std.specs.Prelude.{IfOk, IsTrue};
 ghost use Rattle.door_kinds.specs.Yards.{file_yard_state};
 
+use command_line::read_folder;
 use disk_kinds::{Alarm, FileDisk, Reading};
 use door_kinds::FileYard;
-use program_start::{PropertyBytes, open_properties};
+use hk_base::Text;
+use program_start::{PropertyBytes, enter_folder, open_properties};
 use std::alloc::Global;
 use std::fs::File;
 use std::io;
-use std::rt::{Files, Stderr};
+use std::rt::{Env, Files, Stderr};
 use std::sync::Arc;
 
-/// Files that could not be opened, and why.
+/// What could not be opened, and why.
 #[derive(Drop)]
 pub enum Unopened {
+    Folder(io::Error),
     Properties(io::Error),
     Logs(io::Error),
 }
 
-/// Opens the properties and both logs of the current folder. Faults of the logs are told on `errors`.
-pub fn open_disk<R: Files<File = File>>(
+/// Enters the folder that the words of the command line give, if they give one. Tells on `errors` why it
+/// can't be entered.
+pub fn enter_given<R: Env>(
+    rt: &R,
+    alloc: Global,
+    words: &[Text],
+    errors: Stderr,
+) -> Result<(), Unopened> {
+    let given = read_folder(alloc, words);
+    enter_folder(rt, errors, "hkms", given).map_err(Unopened::Folder)
+}
+
+/// Opens the properties and both logs of the folder that the words of the command line give, or else of the
+/// current one. Faults of the logs are told on `errors`.
+pub fn open_disk<R: Files<File = File> + Env>(
     files: &R,
     alloc: Global,
+    words: &[Text],
     errors: Stderr,
 ) -> Result<(Reading<PropertyBytes>, FileDisk), Unopened> {
+    enter_given(files, alloc, words, errors)?;
     let acls = open_properties(files).map_err(Unopened::Properties)?;
     match FileDisk::open(files, alloc, ".", errors) {
         Ok(disk) => Ok((acls, disk)),
