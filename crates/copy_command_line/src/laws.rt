@@ -43,7 +43,8 @@ pub fn folders_come_first()
         SpellsFolder folder option → IsCommand command →
         SaysInFolder line.hkcopy order_named folder (option ++ command ∷ rest) (command ∷ rest) }
     ensures twice { IsMistake (line_fault
-        (codes "--dir" ∷ codes "a" ∷ codes "--dir" ∷ codes "b" ∷ codes "read" ∷ [])) }
+        (codes "--dir" ∷ codes "a" ∷ codes "--dir" ∷ codes "b" ∷
+        codes "copy" ∷ codes "/a" ∷ codes "/b" ∷ [])) }
     ensures late { IsMistake
         (line_fault (codes "read" ∷ codes "--dir" ∷ codes "a" ∷ [])) }
 {}

@@ -68,9 +68,9 @@ says_in_folder folder front command rest (inr is) named =
     subst (λ (f : List Text). SaysInFolder line.hkfs order_named folder (f ++ command ∷ rest) (command ∷ rest)) (sym is)
     (after_folder line.hkfs order_named nothing_before _ (used folder) folder (joined folder) command (names_command command named) rest)
 
-pub twice_is_refused : IsMistake (line_fault (codes "--dir" ∷ codes "a" ∷ codes "--dir" ∷ codes "b" ∷ codes "read" ∷ []))
+pub twice_is_refused : IsMistake (line_fault (codes "--dir" ∷ codes "a" ∷ codes "--dir" ∷ codes "b" ∷ codes "put" ∷ codes "alice" ∷ codes "/b" ∷ []))
 unfolding clap_on_literals
-twice_is_refused = refused_by_clap line.hkfs order_named (codes "--dir" ∷ codes "a" ∷ codes "--dir" ∷ codes "b" ∷ codes "read" ∷ []) ArgumentConflict refl (λ e. cc) (λ e. cc)
+twice_is_refused = refused_by_clap line.hkfs order_named (codes "--dir" ∷ codes "a" ∷ codes "--dir" ∷ codes "b" ∷ codes "put" ∷ codes "alice" ∷ codes "/b" ∷ []) ArgumentConflict refl (λ e. cc) (λ e. cc)
 
 pub late_is_refused : IsMistake (line_fault (codes "read" ∷ codes "--dir" ∷ codes "a" ∷ []))
 unfolding clap_on_literals

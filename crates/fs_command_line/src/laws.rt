@@ -43,7 +43,8 @@ pub fn folders_come_first()
         SpellsFolder folder option → IsCommand command →
         SaysInFolder line.hkfs order_named folder (option ++ command ∷ rest) (command ∷ rest) }
     ensures twice { IsMistake (line_fault
-        (codes "--dir" ∷ codes "a" ∷ codes "--dir" ∷ codes "b" ∷ codes "read" ∷ [])) }
+        (codes "--dir" ∷ codes "a" ∷ codes "--dir" ∷ codes "b" ∷
+        codes "put" ∷ codes "alice" ∷ codes "/b" ∷ [])) }
     ensures late { IsMistake
         (line_fault (codes "read" ∷ codes "--dir" ∷ codes "a" ∷ [])) }
 {}
