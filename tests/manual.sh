@@ -73,7 +73,7 @@ words_of() {
 synopsis() {
     local command line_break=
     for command in $(commands "$1"); do
-        printf '%s.B %s %s\n%s\n' "$line_break" "$1" "$command" "$(words_of "$1 $command")"
+        printf '%s.B %s\n[\\-\\-dir \\fIFOLDER\\fR]\n.B %s\n%s\n' "$line_break" "$1" "$command" "$(words_of "$1 $command")"
         line_break=$'.br\n'
     done
 }
@@ -137,6 +137,8 @@ compare() {
     for command in $(commands "$1"); do
         grep -qx "\\\\fB$command\\\\fR" "docs/$1.1" || { echo "tests/manual.sh: the page lacks $1 $command"; failures=$((failures + 1)); }
         same "completions of $1 $command" "$(names "$(help "$1" "$command")" | sort)" "$(completions "$1" "$command")"
+        same "completions of $1 --dir F $command" "$(completions "$1" "$command")" "$(completions "$1" --dir F "$command")"
+        same "completions of $1 --dir=F $command" "$(completions "$1" "$command")" "$(completions "$1" --dir = F "$command")"
     done
 }
 

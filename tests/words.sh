@@ -36,13 +36,14 @@ helps() {
 
 for word in --help -h; do
     helps "$word"
-    shows 'Usage: hkms <COMMAND>'
+    shows 'Usage: hkms [OPTIONS] <COMMAND>'
     shows '  replay  Runs the calls of an event text and writes their answers'
     shows '  pipe    Answers the HTTP requests of one connection'
     shows '  serve   Answers the HTTP requests of connections to a port'
     shows '  load    Runs a load in memory and writes one line that sums it up'
-    shows '  -h, --help     Print help'
-    shows '  -V, --version  Print version'
+    shows '      --dir <FOLDER>  Use the files of FOLDER, not those of the current folder'
+    shows '  -h, --help          Print help'
+    shows '  -V, --version       Print version'
     shows '  keys.log             the keys; a change is written here before it is answered'
     shows '  names.log            directories, files and zones, written in the same way'
     shows '  kms-acls.properties  access control lists: who may do what with which key'
@@ -85,9 +86,9 @@ done
 
 # The first text that is asked for is shown.
 helps --help --version
-shows 'Usage: hkms <COMMAND>'
+shows 'Usage: hkms [OPTIONS] <COMMAND>'
 helps --help load
-shows 'Usage: hkms <COMMAND>'
+shows 'Usage: hkms [OPTIONS] <COMMAND>'
 run -V -h
 expect 'the words -V -h' 0 $'hkms 0.1.0\n'
 
