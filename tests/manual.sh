@@ -49,7 +49,7 @@ page_text() {
 
 # Entries as a list of a manual page.
 page_list() {
-    sed -E 's/-/\\-/g; s/^  (([^ ]| [^ ])+)  +(.*)$/.TP\n\\fB\1\\fR\n\3/'
+    sed -E 's/-/\\-/g; s/^ +(([^ ]| [^ ])+)  +(.*)$/.TP\n\\fB\1\\fR\n\3/'
 }
 
 # The names of the commands of a program.
