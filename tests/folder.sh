@@ -46,10 +46,10 @@ expect 'a key by an absolute path' 0 "1 version k@0 $material"
 files 'a key by an absolute path' 'keys.log names.log '
 run hkms "--dir=../$(basename "$room")" replay <<<'nn alice mkdir /data'
 expect 'a directory by a relative path' 0 '1 done'
-run hkms --dir "$room/./" pipe <<<"$request"
+run hkms --dir "$room/./" pipe < <(printf %s "$request")
 piped=$output
 expect 'a connection' 0 "$piped"
-run_there hkms pipe <<<"$request"
+run_there hkms pipe < <(printf %s "$request")
 expect 'the same connection in the folder' 0 "$piped"
 grep -qx '\["k"\]' <<<"$piped" || { echo "tests/folder.sh: no key in: $piped" && failures=$((failures + 1)); }
 run_there hkms replay < <(printf '%s\n' 'kms alice names' 'nn alice info /data')
@@ -60,7 +60,7 @@ expect 'what a run in the folder sees' 0 "$made"
 # its properties
 printf '%s\n' 'default.key.acl.MANAGEMENT=*' 'default.key.acl.READ=bob' >"$room/kms-acls.properties"
 run hkms --dir "$room" replay < <(printf '%s\n' 'kms alice current k' 'kms bob current k')
-expect 'the properties of the folder' 0 "1 refused K3 Denied KeyAcl READ
+expect 'the properties of the folder' 0 "1 refused K3 Denied DefaultAcl READ
 2 version k@0 $material"
 
 # bodies, and copies of them
