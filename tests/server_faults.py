@@ -1,9 +1,9 @@
 """`hkms serve` with a fault at each call on the logs in turn: server_faults.py PROGRAM LIBRARY FOLDER
 
 A client makes a key, a directory, a zone, three files, a snapshot and a roll, and has the zone re-encrypted, which the server
-does in the background. A request that is answered by a StoreFault is made again, and a re-encryption that ends with failures, since a
-material could not be read, is submitted again. Once the server has ended, with the status that docs/operations.md says, it is started again
-without a fault. What was answered must be there, and the client goes on. In the end both logs are read as system_faults.py reads them.
+does in the background. A request that is answered by a StoreFault is made again. If the server serves on after the fault, the
+re-encryption is completed, and no file has failed. Once the server has ended, with the status that docs/operations.md says, it is started
+again without a fault. What was answered must be there, and the client goes on. In the end both logs are read as system_faults.py reads them.
 """
 
 import base64
@@ -27,6 +27,7 @@ from system_faults import FOLDER, KILLS, LIBRARY, MATERIALS, PROGRAM, SECONDS, C
 
 FILES = ["/z/f1", "/z/f2", "/z/f3"]
 KINDS = ["EIO", "torn", "lost", "stop", "power"]
+COMPLETED = "status Completed k@1 3 0 no f3"
 STEPS = {
     "key": ("/kms/v1/keys", "KeyExists"),
     "directory": ("/nn/v1/mkdir?path=/z", "Exists"),
@@ -111,11 +112,11 @@ class Script:
 
     def __init__(self, folder):
         self.folder, self.server = folder, None
-        self.done, self.unsure, self.files, self.deks = [], set(), {}, {}
+        self.done, self.unsure, self.files, self.deks, self.shown = [], set(), {}, {}, ""
 
     def run(self, fault, seconds):
         """One run of the server, in which a re-encryption may take so many seconds. Returns its status and its last line."""
-        self.server = Server(self.folder, fault)
+        self.server, self.shown = Server(self.folder, fault), ""
         try:
             if self.server.is_listening:
                 self.look()
@@ -179,22 +180,17 @@ class Script:
             _, answer = self.server.ask("GET", "/nn/v1/status?path=/z")
             need("re-encryption" not in self.done or answer["answer"] != "status None", "the submission is gone")
 
-    def is_complete(self):
-        """Whether the re-encryption is completed. One that failed for some files is submitted again."""
+    def status(self):
         _, answer = self.server.ask("GET", "/nn/v1/status?path=/z")
-        words = answer["answer"].split()
-        if words[1] != "Completed":
-            return False
-        _, _, _, _, failed, *_ = words
-        if failed != "0":
-            self.done.remove("re-encryption")
-            self.do("re-encryption")
-        return failed == "0"
+        return answer["answer"]
 
     def await_completion(self, seconds):
+        """Asks for the status until it shows that the re-encryption is completed, or the time is up."""
         end = time.monotonic() + seconds
-        while not self.is_complete() and time.monotonic() < end:
+        self.shown = self.status()
+        while not self.shown.startswith("status Completed") and time.monotonic() < end:
             time.sleep(0.01)
+            self.shown = self.status()
 
 
 def begin(fault):
@@ -214,13 +210,20 @@ def check_end(script, end, fault, is_opening):
     need("failed: " in script.server.messages or is_opening, f"it says {script.server.messages}")
 
 
+def serves_on(fault, call, is_opening):
+    """Whether the server takes changes after the fault."""
+    return fault.kind not in KILLS and call.name != "sync" and not is_opening
+
+
 def check_case(case):
     """Makes the requests with a fault. Returns what is wrong, or nothing."""
     fault, call, is_opening = case
     signal.alarm(SECONDS)
     script = begin(fault)
     try:
-        end = script.run(fault, 0.5)
+        is_serving = serves_on(*case)
+        end = script.run(fault, 30 if is_serving else 0.5)
+        need(not is_serving or script.shown == COMPLETED, f"the re-encryption is left at {script.shown}")
         faults = [it for it, made in enumerate(script.server.calls(), 1) if made.is_fault]
         need(faults == [fault.at], f"calls that failed: {faults}")
         check_end(script, end, fault, is_opening)

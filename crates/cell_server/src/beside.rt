@@ -117,7 +117,7 @@ fn serve_in_scope<
 
 /// Accepts `conns` connections, and serves each in a thread of its own, at most `places` at a time.
 /// Each is left at the door once it has ended, in the order in which they came. Beside them run two
-/// fillers, which draw from `first` and `second`, two batch workers and an updater. All passes that were
+/// fillers, which draw from `first` and `second`, and the workers of re-encryptions. All passes that were
 /// given out are met in the end. If the door fails or takes no more connections, those that run are
 /// ended. If allocation fails, none are accepted.
 pub fn serve_with_workers<

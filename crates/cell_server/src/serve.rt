@@ -64,7 +64,7 @@ fn serve_opened<
 /// Each is served in a thread of its own, at most `places` at a time, and left at the door once it
 /// has ended, in the order in which they came. If all places are taken for half a second while a
 /// connection waits for one, the connection that has waited longest for a request is ended. Beside them
-/// run two fillers, which draw from `first` and `second`, two batch workers and an updater.
+/// run two fillers, which draw from `first` and `second`, and the workers of re-encryptions.
 ///
 /// If all connections were served, a last round then finishes the re-encryptions that the workers left.
 /// If the door fails or takes no more connections, those that run are ended, and there is no last round.

@@ -1,7 +1,7 @@
 -- How the last round goes on.
 use Rattle.std.specs.Prelude.{◌≡◌, ℕ, Bool, true, false, cond, List, [], ◌∷◌, ◌++◌, Some, None, Result, Ok, Err, IfOk, OnOk, is_err, take, length, ◌+◌, ◌<◌, All}
 use Rattle.std.proofs.lemmas.List.Elements.{All-append, All-cons, All-nil}
-use Rattle.std.proofs.Common.{get_or, refl, ap, sym, ◌∙◌, subst, inl, inr, append_assoc, append-nil}
+use Rattle.std.proofs.Common.{get_or, refl, ap, sym, ◌∙◌, subst, append_assoc, append-nil}
 use Rattle.hk_base.specs.Disk.{DiskState}
 use Rattle.hk_base.specs.declared.texts.NoMemory.{NoMemory}
 use Rattle.hk_base.specs.declared.texts.Text.{Text}
@@ -24,10 +24,10 @@ use Rattle.name_history.specs.declared.acts.NameAct.TheVariants as act
 use Rattle.name_history.specs.declared.acts.NameActed.TheVariants as acted
 use Rattle.turns.specs.Entries.{NamesMake}
 use Rattle.cell_workers.specs.Work.{IsNameWork, IsWorkBy, Works}
-use Rattle.cell_workers.specs.Batches.{HasServed, IsLent}
+use Rattle.cell_workers.specs.Batches.{HasAnswer, IsLent}
 use Rattle.cell_workers.specs.Rounds.{AsksAbout, DeliversBatch, HadMemory, IsCall, IsLastRound, ListsZones, ShowsStatus, WalkedOn, Walks, WalksAll, batch_of, goes_on, zones_in}
 use Rattle.cell_workers.proofs.MadeLemmas.{NamesLegal, if_err, if_ok, names_none, names_one, names_then, on_err, on_ok, taken_more}
-use Rattle.cell_workers.proofs.MeetLemmas.{came_by_meeting, got_of_served, served_after_walk}
+use Rattle.cell_workers.proofs.MeetLemmas.{answer_by_meeting, came_by_meeting, got_of_served, note_of_served, served_after_walk}
 use Rattle.cell_workers.proofs.WorkLemmas.{works_entry}
 
 -- ---- asking
@@ -121,11 +121,6 @@ module _ {D W : Type 0} (state : D → DiskState) (to_come : W → ℕ → ℕ) 
 
 -- ---- walking
 
--- the reply is for the batch
-note_of_served : {D W : Type 0} (state : D → DiskState) (to_come : W → ℕ → ℕ) (v w : KmsKnown D W) (batch : BatchNote) (came : ReplyState) → ServesTurn state to_come v batch came w → came.note ≡ batch
-note_of_served state to_come v w batch came (inl served) = ap (λ (x : ReplyState). x.note) served.result_is
-note_of_served state to_come v w batch came (inr lacks) = ap (λ (x : ReplyState). x.note) lacks.result_is
-
 module _ {D W : Type 0} (state : D → DiskState) (to_come : W → ℕ → ℕ) where
   -- a pass that a walk lent
   pub lent_by_walk : (v w : NameKnown D W) (lent : KmsKnown D W) (path : NPath) (gave : Result Walked NameRefusal) (front : ℕ) → LendsTurn state to_come v path gave front w lent → IsLent front lent
@@ -141,13 +136,13 @@ module _ {D W : Type 0} (state : D → DiskState) (to_come : W → ℕ → ℕ) 
       let e = a.makes.makes.entry in
       works_entry IsNameWork v w (act.Walk path) (acted.Walk gave) a.makes.makes (subst (λ (q : NameAct). IsWorkBy q e) (sym a.makes.makes.call_is) tt)
 
-  -- a delivery by a pass that has served the batch is work
-  pub works_delivery : (v w : NameKnown D W) (served : KmsKnown D W) (front : ℕ) (came : ReplyState) (answer : Result Delivered NameRefusal) → HasServed front came served
+  -- a delivery by a pass that has the answer to the batch is work
+  pub works_delivery : (v w : NameKnown D W) (served : KmsKnown D W) (front : ℕ) (came : ReplyState) (answer : Result Delivered NameRefusal) → HasAnswer front came served
       → MakesMeeting state to_come v served (act.Deliver front came) (acted.Deliver answer) w → Works IsNameWork v [] w
   works_delivery v w served front came answer has m =
       let e = m.makes.entry in
       works_entry IsNameWork v w (act.Deliver front came) (acted.Deliver answer) m.makes
-      (subst (λ (q : NameAct). IsWorkBy q e) (sym m.makes.call_is) (came_by_meeting front came m.kept served e.after.keys has m.meets))
+      (subst (λ (q : NameAct). IsWorkBy q e) (sym m.makes.call_is) (answer_by_meeting front came m.kept served e.after.keys has m.meets))
 
   -- entries of walks that led to this, if they were not the last
   abbrev pub WalksOnce : NameKnown D W → NPath → Bool → NameKnown D W → Type 0

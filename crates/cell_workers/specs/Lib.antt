@@ -1,3 +1,4 @@
 pub mod Batches
+pub mod Retries
 pub mod Rounds
 pub mod Work

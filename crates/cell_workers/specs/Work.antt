@@ -15,7 +15,7 @@ use Rattle.kms_cell.specs.declared.filling.FillTurn.{FillTurn}
 use Rattle.name_history.specs.Entries.{NameEntry, NameKnown}
 use Rattle.name_history.specs.declared.acts.NameAct.{NameAct}
 use Rattle.name_history.specs.declared.acts.NameAct.TheVariants as act
-use Rattle.cell_workers.specs.Batches.{CameOf}
+use Rattle.cell_workers.specs.Batches.{AnswerOf}
 
 -- ---- the calls of workers
 
@@ -48,11 +48,11 @@ module _ {Q R S : Type 0} where
 -- ---- workers of the namesystem
 
 module _ {D W : Type 0} where
-  -- an entry with this call is a walk, the delivery of what came of a batch, or an ask of the superuser for the zones or the status of one
+  -- an entry with this call is a walk, the delivery of what a batch was answered with, or an ask of the superuser for the zones or the status of one
   abbrev pub IsWorkBy : NameAct → NameEntry D W → Type 0
   IsWorkBy (act.Call user c) e = (user ≡ superuser) × AsksForZones c
   IsWorkBy (act.Walk path) e = ⊤
-  IsWorkBy (act.Deliver front reply) e = CameOf front e reply
+  IsWorkBy (act.Deliver front reply) e = AnswerOf front e reply
   IsWorkBy _ e = ⊥
 
   abbrev pub IsNameWork : NameEntry D W → Type 0

@@ -64,7 +64,7 @@ pub fn list_zones<S: Turns, R: Wait>(
 
 /// Asks for the status of a zone as the superuser, and returns whether it is still being
 /// re-encrypted. Returns `NoMemory` if allocation fails, here or in the service.
-fn is_going<S: Turns, R: Wait>(
+pub fn is_going<S: Turns, R: Wait>(
     rt: &R,
     alloc: Global,
     shared: &S,

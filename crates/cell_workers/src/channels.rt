@@ -1,14 +1,19 @@
 //! The channels to the workers.
+use crate::tasks::Task;
 use crate::updates::Update;
 use crossbeam_channel::{Receiver, SendError, Sender, unbounded};
 use hk_base::NoMemory;
 use name_calls::NPath;
 use std::alloc::Global;
-use std::sync::{Mutex, Wait};
+use std::sync::{Condvar, Mutex, Wait};
+use std::time::Duration;
 use turns::{Notices, Turns};
 
 /// How many threads fill queues.
 const FILLERS: usize = 2;
+
+/// How long a task that was refused waits until it is tried again, in milliseconds.
+const MOMENT: u64 = 1000;
 
 /// The sending end of a channel. Threads share it, and any of them can close the channel.
 #[derive(Drop)]
@@ -39,6 +44,11 @@ impl<T: Drop> SharedSender<T> {
         }
     }
 
+    /// Returns whether the channel is open.
+    pub fn is_open<R: Wait>(&self, rt: &R) -> bool {
+        self.sender.lock(rt).is_some()
+    }
+
     /// Returns whether the channel is open and fewer than `count` messages wait in it.
     pub fn has_fewer<R: Wait>(&self, rt: &R, count: usize) -> bool {
         match self.sender.lock(rt).as_ref() {
@@ -59,18 +69,23 @@ impl<T: Drop> SharedSender<T> {
 pub struct WorkSenders<D, W, K: Drop, N: Drop, S: Turns<D = D, W = W, Keys = K, Names = N>> {
     /// A queue of ready keys may be low.
     pub low: SharedSender<()>,
-    /// The path of a zone to walk through.
-    pub tasks: SharedSender<NPath>,
+    /// What a batch worker does next.
+    pub tasks: SharedSender<Task<D, W, K, N, S>>,
     /// The reply for a batch, to deliver.
     pub updates: SharedSender<Update<D, W, K, N, S>>,
+    /// A task to send to the batch workers after a moment.
+    pub later: SharedSender<Task<D, W, K, N, S>>,
+    /// Notified once all channels are closed.
+    closed: Condvar,
 }
 
 /// The receiving ends, which the workers share.
 #[derive(Drop)]
 pub struct WorkReceivers<D, W, K: Drop, N: Drop, S: Turns<D = D, W = W, Keys = K, Names = N>> {
     pub low: Receiver<()>,
-    pub tasks: Receiver<NPath>,
+    pub tasks: Receiver<Task<D, W, K, N, S>>,
     pub updates: Receiver<Update<D, W, K, N, S>>,
+    pub later: Receiver<Task<D, W, K, N, S>>,
 }
 
 /// Opens the channels to the workers.
@@ -78,17 +93,21 @@ pub fn open_channels<D, W, K: Drop, N: Drop, S: Turns<D = D, W = W, Keys = K, Na
     alloc: Global,
 ) -> Result<(WorkSenders<D, W, K, N, S>, WorkReceivers<D, W, K, N, S>), NoMemory> {
     let (low, lows) = SharedSender::open(alloc)?;
-    let (tasks, zones) = SharedSender::open(alloc)?;
+    let (tasks, next) = SharedSender::open(alloc)?;
     let (updates, replies) = SharedSender::open(alloc)?;
+    let (later, refused) = SharedSender::open(alloc)?;
     let senders = WorkSenders {
         low,
         tasks,
         updates,
+        later,
+        closed: Condvar::new(),
     };
     let receivers = WorkReceivers {
         low: lows,
-        tasks: zones,
+        tasks: next,
         updates: replies,
+        later: refused,
     };
     Ok((senders, receivers))
 }
@@ -105,6 +124,16 @@ impl<D, W, K: Drop, N: Drop, S: Turns<D = D, W = W, Keys = K, Names = N>> WorkSe
         self.low.close(rt);
         self.tasks.close(rt);
         self.updates.close(rt);
+        self.later.close(rt);
+        self.closed.notify_all();
+    }
+
+    /// Waits for a moment, or until the channels are closed.
+    pub(crate) fn wait_a_moment<R: Wait>(&self, rt: &R) {
+        let seen = self.closed.notifications();
+        if self.later.is_open(rt) {
+            self.closed.sleep(rt, seen, Duration::from_millis(MOMENT));
+        }
     }
 }
 
@@ -119,6 +148,6 @@ impl<D, W, K: Drop, N: Drop, S: Turns<D = D, W = W, Keys = K, Names = N>> Notice
 
     // A zone that can't be sent is left to the last round.
     fn submitted<R: Wait>(&self, rt: &R, zone: NPath) {
-        let _ = self.tasks.send(rt, zone);
+        let _ = self.tasks.send(rt, Task::Walk(zone));
     }
 }

@@ -3,10 +3,14 @@
 #![tactic(auto)]
 
 mod asks;
+mod batches;
 mod channels;
 mod must_join;
+mod retries;
 mod round;
+mod sending;
 mod starting;
+mod tasks;
 mod updates;
 mod walks;
 mod workers;

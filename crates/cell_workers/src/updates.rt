@@ -1,65 +1,53 @@
 //! The replies for batches, on their way to the updater.
 ghost use Rattle.std.specs.Prelude.{◌≡◌};
-ghost use Rattle.cell_workers.specs.Batches.{HasServed};
+ghost use Rattle.cell_workers.specs.Batches.{HasAnswer};
 
-use name_calls::NPath;
+use crate::batches::Batch;
 use reenc_update::BatchReply;
-use std::marker::{Model, PhantomData};
-use std::snapshot::Snapshot;
+use std::marker::Model;
 use turns::Turns;
 
-/// The reply to the call for a batch of a zone, with the front of the walk that gave the batch, and the
-/// pass that made this call and no other. Contracts see the front.
-// All types of `S` are parameters, since the threads of a scope share no type in which one is hidden.
+/// A batch and the reply to the call for it, with the pass that made this call and no other. The call was not
+/// refused for the disk or for memory. Contracts see the batch.
 #[derive(Drop)]
 pub struct Update<D, W, K: Drop, N: Drop, S: Turns<D = D, W = W, Keys = K, Names = N>> {
-    zone: NPath,
-    front: u64,
+    batch: Batch<D, W, K, N, S>,
     keys: K,
     reply: BatchReply,
-    of: PhantomData<Snapshot<(D, W, N, S)>>,
 }
 
 impl<D, W, K: Drop, N: Drop, S: Turns<D = D, W = W, Keys = K, Names = N>> Model
     for Update<D, W, K, N, S> {
-    ghost use Rattle.std.specs.Prelude.{ℕ};
-    ghost use Rattle.cell_workers.specs.Batches.{HasServed};
+    ghost use Rattle.std.specs.Prelude.{◌≡◌};
+    ghost use Rattle.cell_workers.specs.Batches.{BatchState, HasAnswer};
 
-    ghost Value = { ℕ };
+    ghost Value = { BatchState };
 
-    ghost view = { λ u. u.front };
+    ghost view = { λ u. u.batch };
 
-    ghost invariant = { λ u. HasServed u.front u.reply (S.keys_seen u.keys) };
+    ghost invariant = { λ u.
+        (u.reply.note ≡ u.batch.note) × HasAnswer u.batch.front u.reply (S.keys_seen u.keys) };
 }
 
 impl<D, W, K: Drop, N: Drop, S: Turns<D = D, W = W, Keys = K, Names = N>> Update<D, W, K, N, S> {
-    /// A reply that this pass has got, with at least `front` entries before it. The pass made no other
+    /// A reply that this pass has got to the call for the batch, after the front. The pass made no other
     /// call.
-    pub fn new(zone: NPath, front: u64, keys: K, reply: BatchReply) -> Update<D, W, K, N, S>
-        requires { HasServed front reply (S.keys_seen keys) }
-        ensures { result ≡ front }
+    pub fn new(batch: Batch<D, W, K, N, S>, keys: K, reply: BatchReply) -> Update<D, W, K, N, S>
+        requires note { reply.note ≡ batch.note }
+        requires served { HasAnswer batch.front reply (S.keys_seen keys) }
+        ensures { result ≡ batch }
     {
-        Update {
-            zone,
-            front,
-            keys,
-            reply,
-            of: PhantomData,
-        }
+        Update { batch, keys, reply }
     }
 
-    /// Returns the zone, the front, the pass and the reply.
-    pub fn into_parts(self) -> (NPath, u64, K, BatchReply)
-        ensures front { result.1 ≡ self }
-        ensures got { HasServed result.1 result.3 (S.keys_seen result.2) }
+    /// Returns the batch, its front, the pass and the reply.
+    pub fn into_parts(self) -> (Batch<D, W, K, N, S>, u64, K, BatchReply)
+        ensures batch { result.0 ≡ self }
+        ensures note { result.3.note ≡ self.note }
+        ensures served { HasAnswer result.1 result.3 (S.keys_seen result.2) }
     {
-        let Update {
-            zone,
-            front,
-            keys,
-            reply,
-            of: _,
-        } = self;
-        (zone, front, keys, reply)
+        let Update { batch, keys, reply } = self;
+        let front = batch.front();
+        (batch, front, keys, reply)
     }
 }

@@ -13,7 +13,7 @@ use std::sync::Wait;
 use turns::{Lent, Turns};
 
 /// Returns the batch that a walk gave.
-pub fn batch_of(gave: Result<Walked, NameRefusal>) -> Option<BatchNote>
+fn batch_of(gave: Result<Walked, NameRefusal>) -> Option<BatchNote>
     ensures { result ≡ batch_of gave }
 {
     match gave {

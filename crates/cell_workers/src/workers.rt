@@ -1,25 +1,23 @@
-//! The workers beside the connections: two fillers, two batch workers and an updater. Each ends once the
-//! channels are closed and what was sent before is done.
-ghost use Rattle.std.specs.Prelude.{◌≡◌, ℕ, List, [], IfSome};
+//! The workers beside the connections: two fillers, two batch workers, an updater and a waiter. Each ends
+//! once the channels are closed and what was sent before is done.
+ghost use Rattle.std.specs.Prelude.{◌≡◌, ℕ, List, [], IfErr, IfOk};
 ghost use Rattle.std.specs.Thread.{IsSend, IsSync};
 ghost use Rattle.cell_workers.specs.Batches.{IsLent};
 ghost use Rattle.cell_workers.specs.Work.{Fills, FillsBoth, IsNameWork, PoolWorks, Works};
 
-use crate::asks::{going_zones, list_zones};
+use crate::asks::{going_zones, is_going, list_zones};
+use crate::batches::Batch;
 use crate::channels::{WorkReceivers, WorkSenders};
+use crate::retries::{AfterDelivery, AfterWalk, after_delivery, after_walk};
+use crate::tasks::Task;
 use crate::updates::Update;
-use crate::walks::batch_of;
 use hk_base::{Gate, NoMemory, Words};
 use kms_cell::FillTurn;
-use name_calls::{NPath, NameRefusal};
-use reenc_walk::BatchNote;
+use name_calls::NPath;
 use std::alloc::Global;
 use std::sync::Wait;
 use std::thread::{Threads, join};
 use turns::{Lent, Turns};
-
-/// How often a walk is tried if memory runs out.
-const WALK_TRIES: u32 = 3;
 
 /// What workers share.
 #[derive(Drop)]
@@ -39,17 +37,6 @@ pub struct WorkerPool<
     pub gate: &'a G,
     pub senders: &'a WorkSenders<D, W, K, N, S>,
     pub receivers: &'a WorkReceivers<D, W, K, N, S>,
-}
-
-/// Returns what was lent, unless memory ran out at the walk.
-fn if_walked<K: Drop>(lent: Lent<K>) -> Option<Lent<K>>
-    ensures { IfSome result (λ given. given ≡ lent) }
-{
-    if matches!(&lent.walked, Err(NameRefusal::NoMemory)) {
-        drop(lent);
-        return None;
-    }
-    Some(lent)
 }
 
 impl<
@@ -94,94 +81,132 @@ impl<
         unreachable!()
     }
 
-    /// Delivers the reply for a batch, and then sends the path of its zone again. If the delivery is
-    /// refused, it is not tried again, and the batch stays outstanding.
+    /// Delivers the reply for a batch, and then has its zone walked through. If the delivery is refused for
+    /// the disk or for memory, the batch is still outstanding, and it is served and delivered again later.
     fn deliver(&self, names: &mut N, update: Update<D, W, K, N, S>)
         ensures { Works IsNameWork (S.names_seen names.old) [] (S.names_seen names.new) }
     {
-        let (zone, front, keys, reply) = update.into_parts();
+        let (batch, front, keys, reply) = update.into_parts();
+        let answer = self
+            .shared
+            .update_turn(self.rt, names, keys, front, reply, self.gate);
+        match after_delivery(&answer) {
+            AfterDelivery::Walk => self.send_now(Task::Walk(batch.into_zone())),
+            AfterDelivery::Again => self.send_later(Task::Serve(batch)),
+            AfterDelivery::Nothing => drop(batch),
+        }
+    }
+
+    /// Has a batch served with a pass that is split for it. The pass makes no other call. Returns the batch
+    /// if it can't be served for the disk or for memory.
+    fn try_serve(
+        &self,
+        batch: Batch<D, W, K, N, S>,
+    ) -> Result<Update<D, W, K, N, S>, Batch<D, W, K, N, S>>
+        ensures served { IfOk result (λ update. update ≡ batch) }
+        ensures unserved { IfErr result (λ left. left ≡ batch) }
+    {
+        let mut batch = batch;
+        let Ok(note) = batch.note(self.alloc) else {
+            return Err(batch);
+        };
+        let mut keys = batch.split_keys(self.rt, self.shared);
         match self
             .shared
-            .update_turn(self.rt, names, keys, front, reply, self.gate)
+            .try_serve_turn(self.rt, self.alloc, &mut keys, note, self.gate)
         {
-            Ok(_) => drop(self.senders.tasks.send(self.rt, zone)),
-            Err(_) => drop(zone),
-        }
-    }
-
-    /// Has a batch served with the pass that its walk lent. The pass makes no other call.
-    fn serve(&self, zone: NPath, batch: BatchNote, front: u64, keys: K) -> Update<D, W, K, N, S>
-        requires { IsLent front (S.keys_seen keys) }
-    {
-        let mut keys = keys;
-        let reply = self
-            .shared
-            .serve_turn(self.rt, self.alloc, &mut keys, batch, self.gate);
-        Update::new(zone, front, keys, reply)
-    }
-
-    /// Walks through a zone once. Returns `None` if memory runs out.
-    fn walk_once(&self, names: &mut N, zone: &NPath) -> Option<Lent<K>>
-        ensures works { Works IsNameWork (S.names_seen names.old) [] (S.names_seen names.new) }
-        ensures lent { IfSome result (λ lent. IsLent lent.front (S.keys_seen lent.keys)) }
-    {
-        let Ok(path) = zone.copy(self.alloc) else {
-            return None;
-        };
-        match self.shared.walk_turn(self.rt, names, path) {
-            Ok(lent) => if_walked(lent),
-            Err(_) => None,
-        }
-    }
-
-    /// Walks through a zone once. If memory runs out, it is tried again, `WALK_TRIES` times in all.
-    fn try_walk(&self, names: &mut N, zone: &NPath) -> Option<Lent<K>>
-        ensures works { Works IsNameWork (S.names_seen names.old) [] (S.names_seen names.new) }
-        ensures lent { IfSome result (λ lent. IsLent lent.front (S.keys_seen lent.keys)) }
-    {
-        for _ in 0..WALK_TRIES {
-            match self.walk_once(names, zone) {
-                Some(lent) => return Some(lent),
-                None => {}
+            Ok(reply) => Ok(Update::new(batch, keys, reply)),
+            Err(note) => {
+                drop(note);
+                drop(keys);
+                Err(batch)
             }
         }
-        None
     }
 
-    /// Walks through a zone once. If there is a batch, it is served and sent to the updater, or
-    /// delivered here if that fails.
-    fn walk(&self, names: &mut N, zone: NPath)
+    /// Has a batch served, and sends the reply to the updater, or delivers it here if that fails. If the
+    /// batch can't be served for the disk or for memory, it is tried again later.
+    fn serve(&self, names: &mut N, batch: Batch<D, W, K, N, S>)
         ensures { Works IsNameWork (S.names_seen names.old) [] (S.names_seen names.new) }
     {
-        let Some(lent) = self.try_walk(names, &zone) else {
-            drop(zone);
-            return;
-        };
+        match self.try_serve(batch) {
+            Err(batch) => self.send_later(Task::Serve(batch)),
+            Ok(update) => match self.senders.updates.send(self.rt, update) {
+                Ok(()) => {}
+                Err(update) => self.deliver(names, update),
+            },
+        }
+    }
+
+    /// Does what follows a walk through a zone.
+    fn follow(&self, names: &mut N, zone: NPath, lent: Lent<K>)
+        requires { IsLent lent.front (S.keys_seen lent.keys) }
+        ensures { Works IsNameWork (S.names_seen names.old) [] (S.names_seen names.new) }
+    {
         let Lent {
             walked,
             front,
             keys,
         } = lent;
-        let Some(batch) = batch_of(walked) else {
-            drop(keys);
-            drop(zone);
-            return;
-        };
-        let update = self.serve(zone, batch, front, keys);
-        match self.senders.updates.send(self.rt, update) {
-            Ok(()) => {}
-            Err(update) => self.deliver(names, update),
+        match after_walk(walked) {
+            AfterWalk::Serve(note) => self.serve(names, Batch::new(zone, note, front, keys)),
+            AfterWalk::Again => {
+                drop(keys);
+                self.send_later(Task::Walk(zone));
+            }
+            AfterWalk::Nothing => {
+                drop(keys);
+                drop(zone);
+            }
         }
     }
 
-    /// Walks through the zones that it is sent.
-    fn walk_all(&self, names: N) -> N
+    /// Walks through a zone once, and has the batch served, if there is one. If the walk is refused for the
+    /// disk or for memory, it is made again later.
+    fn walk(&self, names: &mut N, zone: NPath)
+        ensures { Works IsNameWork (S.names_seen names.old) [] (S.names_seen names.new) }
+    {
+        let Ok(path) = zone.copy(self.alloc) else {
+            self.send_later(Task::Walk(zone));
+            return;
+        };
+        match self.shared.walk_turn(self.rt, names, path) {
+            Ok(lent) => self.follow(names, zone, lent),
+            Err(_) => self.send_later(Task::Walk(zone)),
+        }
+    }
+
+    /// Has a batch served that was refused before, unless the status of its zone shows that the
+    /// re-encryption has ended.
+    fn serve_again(&self, names: &mut N, batch: Batch<D, W, K, N, S>)
+        ensures { Works IsNameWork (S.names_seen names.old) [] (S.names_seen names.new) }
+    {
+        let going = is_going(self.rt, self.alloc, self.shared, names, batch.zone());
+        if matches!(going, Ok(false)) {
+            drop(batch);
+            return;
+        }
+        self.serve(names, batch);
+    }
+
+    /// Does a task.
+    fn work(&self, names: &mut N, task: Task<D, W, K, N, S>)
+        ensures { Works IsNameWork (S.names_seen names.old) [] (S.names_seen names.new) }
+    {
+        match task {
+            Task::Walk(zone) => self.walk(names, zone),
+            Task::Serve(batch) => self.serve_again(names, batch),
+        }
+    }
+
+    /// Does the tasks that it is sent.
+    fn work_all(&self, names: N) -> N
         ensures { Works IsNameWork (S.names_seen names) [] (S.names_seen result) }
     {
         let mut names = names;
         for _ in self.rt.forever() {
             match self.receivers.tasks.recv(self.rt) {
-                Ok(zone) => self.walk(&mut names, zone),
+                Ok(task) => self.work(&mut names, task),
                 Err(_) => return names,
             }
         }
@@ -223,7 +248,7 @@ impl<
     fn send_all(&self, zones: &[NPath]) -> Result<(), NoMemory> {
         for zone in zones {
             let path = zone.copy(self.alloc)?;
-            drop(self.senders.tasks.send(self.rt, path));
+            self.send_now(Task::Walk(path));
         }
         Ok(())
     }
@@ -262,6 +287,20 @@ impl<
         keys
     }
 
+    /// The updater and the waiter.
+    fn updater(&self, names: N) -> N
+        ensures { Works IsNameWork (S.names_seen names) [] (S.names_seen result) }
+    {
+        let (names, _) = join(
+            self.rt,
+            move || -> N
+                ensures { Works IsNameWork (S.names_seen names) [] (S.names_seen result) }
+            { self.update_all(names) },
+            move || -> () { self.send_refused() },
+        );
+        names
+    }
+
     /// Two batch workers.
     fn batch_workers(&self, names: N) -> N
         ensures { (others : List ℕ) ×
@@ -273,17 +312,17 @@ impl<
             self.rt,
             move || -> N
                 ensures { Works IsNameWork (S.names_seen names) [] (S.names_seen result) }
-            { self.walk_all(names) },
+            { self.work_all(names) },
             move || -> N
                 ensures { Works IsNameWork (S.names_seen other) [] (S.names_seen result) }
-            { self.walk_all(other) },
+            { self.work_all(other) },
         );
         let mut names = names;
         self.shared.meet_names(self.rt, &mut names, other);
         names
     }
 
-    /// The updater and the batch workers.
+    /// The updater, the waiter and the batch workers.
     fn reencrypt(&self, names: N) -> N
         ensures { (others : List ℕ) ×
             Works IsNameWork (S.names_seen names) others (S.names_seen result) }
@@ -293,8 +332,10 @@ impl<
         let (other, names) = join(
             self.rt,
             move || -> N
+                requires { IsSync R.row × IsSend K.row × IsSend N.row × IsSync S.row ×
+                    IsSync G.row }
                 ensures { Works IsNameWork (S.names_seen other) [] (S.names_seen result) }
-            { self.update_all(other) },
+            { self.updater(other) },
             move || -> N
                 requires { IsSync R.row × IsSend K.row × IsSend N.row × IsSync S.row ×
                     IsSync G.row }

@@ -1,5 +1,5 @@
 //! Both cells as threads share them.
-use crate::batches::serve_batch;
+use crate::batches::{serve_batch, try_serve_batch};
 use crate::changes::{changes_keys, changes_names, lock_if};
 use crate::keys::KeyService;
 use crate::shared::Shared;
@@ -122,6 +122,18 @@ impl<K: KeyService, N: Naming> Turns for Shared<K, N> {
     ) -> BatchReply {
         gate.pass(rt, Point::BeforeServe);
         serve_batch(rt, alloc, &self.keys, pass, note)
+    }
+
+    fn try_serve_turn<R: Wait, G: Gate>(
+        &self,
+        rt: &R,
+        alloc: Global,
+        pass: &mut K::Pass,
+        note: BatchNote,
+        gate: &G,
+    ) -> Result<BatchReply, BatchNote> {
+        gate.pass(rt, Point::BeforeServe);
+        try_serve_batch(rt, alloc, &self.keys, pass, note)
     }
 
     fn update_turn<R: Wait, G: Gate>(

@@ -1,5 +1,5 @@
 -- The turns of the workers of a re-encryption: each is one entry, or none.
-use Rattle.std.specs.Prelude.{◌≡◌, ◌⊎◌, ℕ, length, Result}
+use Rattle.std.specs.Prelude.{◌≡◌, ◌⊎◌, ℕ, Bool, true, false, length, Result}
 use Rattle.hk_base.specs.Disk.{DiskState}
 use Rattle.kms_calls.specs.declared.calls.KmsRefusal.TheVariants as refusal
 use Rattle.kms_calls.specs.declared.calls.KmsReply.{KmsReply}
@@ -39,3 +39,20 @@ pub record LacksMemoryForBatch {D W : Type 0} (v : keys.KmsKnown D W) (batch : B
 -- memory for the call, and the pass made no entry.
 abbrev pub ServesTurn : {D W : Type 0} → (D → DiskState) → (W → ℕ → ℕ) → keys.KmsKnown D W → BatchNote → ReplyState → keys.KmsKnown D W → Type 0
 ServesTurn state to_come v batch result w = ServesBatch state to_come v batch result w ⊎ LacksMemoryForBatch v batch result w
+
+-- the refusal is for the disk or for memory, so the same call may be answered later
+abbrev pub is_temporary : KmsReply → Bool
+is_temporary (reply.Refused refusal.NoMemory) = true
+is_temporary (reply.Refused refusal.StoreFault) = true
+is_temporary _ = false
+
+-- what a batch comes to without a reply
+abbrev pub unserved : BatchNote → ReplyState
+unserved batch = reply_for batch (reply.Refused refusal.NoMemory)
+
+-- The call for the batch, which the superuser made, and what its reply means for the batch. The reply is no refusal for the disk or for memory.
+pub record AnswersBatch {D W : Type 0} (state : D → DiskState) (to_come : W → ℕ → ℕ) (v : keys.KmsKnown D W) (batch : BatchNote) (result : ReplyState) (w : keys.KmsKnown D W) : Type 0 where
+  pub reply : KmsReply
+  pub makes : keys.Makes state to_come v (key_act.Call superuser (batch_call batch)) (key_acted.Call reply) w
+  pub result_is : result ≡ reply_for batch reply
+  pub lasting : is_temporary reply ≡ false

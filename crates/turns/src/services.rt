@@ -15,7 +15,7 @@ ghost use Rattle.name_history.specs.Served.{GotForBatch, GotForNote};
 ghost use Rattle.name_history.specs.Steps.{NameSteps};
 ghost use Rattle.name_history.specs.declared.acts.NameAct.TheVariants as act;
 ghost use Rattle.name_history.specs.declared.acts.NameActed.TheVariants as acted;
-ghost use Rattle.turns.specs.Turns.{LendsTurn, ServesTurn};
+ghost use Rattle.turns.specs.Turns.{AnswersBatch, LendsTurn, ServesTurn, unserved};
 
 use crate::lent::Lent;
 use hk_base::{Gate, NoMemory, Text, Words};
@@ -153,6 +153,26 @@ pub trait Turns {
         gate: &G,
     ) -> BatchReply
         ensures { ServesTurn state to_come (keys_seen pass.old) note result (keys_seen pass.new) };
+
+    /// Passes the gate, and has a batch re-encrypted, as `serve_turn` does. If the key management service refuses the
+    /// call for the disk or for memory, or there is no memory for the call, the same call may be answered later: the
+    /// batch is returned.
+    fn try_serve_turn<R: Wait, G: Gate>(
+        &self,
+        rt: &R,
+        alloc: Global,
+        pass: &mut Self::Keys,
+        note: BatchNote,
+        gate: &G,
+    ) -> Result<BatchReply, BatchNote>
+        ensures served { IfOk result
+            (λ came.
+            AnswersBatch state to_come (keys_seen pass.old) note came (keys_seen pass.new)) }
+        ensures unserved { IfErr result
+            (λ left.
+            (left ≡ note) ×
+            ServesTurn state to_come (keys_seen pass.old) note (unserved note)
+            (keys_seen pass.new)) };
 
     /// Passes the gate, and delivers the reply to the call for a batch, with the front of its walk. `keys` must have got
     /// the reply, with at least as many entries before it. It is met into the pass that the namesystem keeps.

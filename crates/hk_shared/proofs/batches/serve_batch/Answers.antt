@@ -1,7 +1,10 @@
-use Rattle.hk_shared.proofs.TurnLemmas.{batch_is_served}
+use Rattle.hk_shared.proofs.TurnLemmas.{answer_serves, left_serves}
 use Rattle.hk_shared.proofs.batches.serve_batch.Goals as goal
 
-pub returns : goal.returns
-returns g c =
-    batch_is_served g.K.D.Disk.state g.K.KeysCell.to_come (g.K.KeysCell.seen c.args.pass.now) (g.K.KeysCell.seen c.call-reply.new.pass) c.in-Ok.prepared.0 c.args.note c.in-Ok.prepared.1.call c.call-reply.result c.reply_for.result
-    c.in-Ok.ensures.user c.in-Ok.ensures.call c.call-reply.ensures c.reply_for.ensures
+pub returns-in-Ok : goal.returns-in-Ok
+returns-in-Ok g c =
+    answer_serves g.K.D.Disk.state g.K.KeysCell.to_come (g.K.KeysCell.seen c.args.pass.now) (g.K.KeysCell.seen c.try_serve_batch.new.pass) c.args.note c.in-Ok.reply c.in-Ok.ensures.served
+
+pub returns-in-Err : goal.returns-in-Err
+returns-in-Err g c =
+    left_serves g.K.D.Disk.state g.K.KeysCell.to_come (g.K.KeysCell.seen c.args.pass.now) (g.K.KeysCell.seen c.try_serve_batch.new.pass) c.args.note c.in-Err.note c.new.result c.in-Err.ensures.unserved c.new.ensures
