@@ -8,7 +8,7 @@ use Rattle.hk_base.specs.declared.ended.Ended.{Ended}
 use Rattle.kms_cell.specs.Entries.{KmsEntry, KmsKnown}
 use Rattle.name_history.specs.Entries.{NameEntry, NameKnown}
 use Rattle.server_parts.specs.Doors.{DoorState, with_accepted, with_left, with_more}
-use Rattle.cell_server.specs.Connections.{AllFresh, AllServed, Connections, EndsServed, GoesOn, Going, HasMet, Serving, Start, Visit, came_of, ends_of, keys_of, left_of, names_of}
+use Rattle.cell_server.specs.Connections.{AllFresh, AllServed, Connections, EndsServed, ConnectionsGoOn, Going, HasMet, Serving, Start, Visit, came_of, ends_of, keys_of, left_of, names_of}
 use Rattle.cell_workers.specs.Work.{PoolWorks, IsFresh}
 use Rattle.cell_workers.proofs.WorkLemmas.{in_left, in_right, work_seen}
 
@@ -124,7 +124,7 @@ module _ {I O D W : Type 0} (serves : Serving I O D W) where
   }
 
   pub going_accepts : (door : DoorState I O) (keys : KmsKnown D W) (names : NameKnown D W) (running : List (Start I O D W)) (door' : DoorState I O) (keys' : KmsKnown D W) (names' : NameKnown D W) (s : Start I O D W)
-      → door' ≡ with_accepted door (ends_of s) → keys' ≡ keys → names' ≡ names → Splits keys s.keys → Splits names s.names → GoesOn serves door keys names running door' keys' names' (running ++ s ∷ [])
+      → door' ≡ with_accepted door (ends_of s) → keys' ≡ keys → names' ≡ names → Splits keys s.keys → Splits names s.names → ConnectionsGoOn serves door keys names running door' keys' names' (running ++ s ∷ [])
   going_accepts door keys names running door' keys' names' s more still still' splits splits' door0 keys0 names0 g =
       let accepted : door'.accepted ≡ door.accepted + 1 = ap (λ (d : DoorState I O). d.accepted) more in
       let left : door'.left ≡ door.left = ap (λ (d : DoorState I O). d.left) more in
@@ -149,7 +149,7 @@ module _ {I O D W : Type 0} (serves : Serving I O D W) where
       (input : I) (out : O) (theirs : KmsKnown D W) (their_names : NameKnown D W) (how : Ended)
       → EndsServed serves s input out theirs their_names how → door' ≡ with_left door (record { input = input; out = out; ended = how })
       → Meets keys theirs keys' → Meets names their_names names'
-      → GoesOn serves door keys names (s ∷ running) door' keys' names' running
+      → ConnectionsGoOn serves door keys names (s ∷ running) door' keys' names' running
   going_finishes door keys names s running door' keys' names' input out theirs their_names how done left met met' door0 keys0 names0 g =
       let t : Visit I O = record { keys = theirs.number; names = their_names.number; input = s.input; out = s.out; left = record { input = input; out = out; ended = how } } in
       let none : theirs.ended ≡ [] = done.keys_ended ∙ g.fresh.0.1 in

@@ -120,8 +120,8 @@ module _ {I O D W : Type 0} (serves : Serving I O D W) where
     pub fresh : AllFresh running
 
   -- what goes on from any first state still does
-  abbrev pub GoesOn : DoorState I O → KmsKnown D W → NameKnown D W → List (Start I O D W) → DoorState I O → KmsKnown D W → NameKnown D W → List (Start I O D W) → Type 0
-  GoesOn door keys names running door' keys' names' running' =
+  abbrev pub ConnectionsGoOn : DoorState I O → KmsKnown D W → NameKnown D W → List (Start I O D W) → DoorState I O → KmsKnown D W → NameKnown D W → List (Start I O D W) → Type 0
+  ConnectionsGoOn door keys names running door' keys' names' running' =
       (door0 : DoorState I O) (keys0 : KmsKnown D W) (names0 : NameKnown D W) → Going door0 keys0 names0 door keys names running → Going door0 keys0 names0 door' keys' names' running'
 
   -- Connections came and were all left, in the order in which they came. Each was served by the entries of two numbers of its own, which the

@@ -3,7 +3,7 @@ ghost use Rattle.std.specs.Prelude.{◌≡◌, ◌≢◌, ◌+◌, ◌<◌, ◌�
 ghost use Rattle.std.specs.VecDeque.{deque_len, deque_capacity};
 ghost use Rattle.hk_base.specs.Faults.{Rose};
 ghost use Rattle.server_parts.specs.Doors.{DoorState, with_accepted};
-ghost use Rattle.cell_server.specs.Connections.{GoesOn, HasOut, Start, serving_by};
+ghost use Rattle.cell_server.specs.Connections.{ConnectionsGoOn, HasOut, Start, serving_by};
 
 use crate::context::ServeContext;
 use crate::ends::ServeEnd;
@@ -25,7 +25,7 @@ fn finish<'a, R: Threads + Wait, S: Turns, G: Gate, H: Notices, A: Door>(
 )
     requires { HasOut (A.state door.old) 1 }
     ensures goes_on { (more : List (Start A.In A.Out S.D S.W)) →
-        GoesOn (serving_by A.In.Source A.Out.Sink)
+        ConnectionsGoOn (serving_by A.In.Source A.Out.Sink)
         (A.state door.old) (S.keys_seen keys.old) (S.names_seen names.old) (oldest ∷ more)
         (A.state door.new) (S.keys_seen keys.new) (S.names_seen names.new) more }
     ensures left { (A.state door.new).left ≡ (A.state door.old).left + 1 }
@@ -56,7 +56,7 @@ fn finish_first<'a, R: Threads + Wait, S: Turns, G: Gate, H: Notices, A: Door>(
 )
     requires count { count ≤ deque_len queue.old }
     requires running { HasOut (A.state door.old) (deque_len queue.old) }
-    ensures goes_on { GoesOn (serving_by A.In.Source A.Out.Sink)
+    ensures goes_on { ConnectionsGoOn (serving_by A.In.Source A.Out.Sink)
         (A.state door.old) (S.keys_seen keys.old) (S.names_seen names.old) queue.old.items
         (A.state door.new) (S.keys_seen keys.new) (S.names_seen names.new) queue.new.items }
     ensures fewer { deque_len queue.new + count ≡ deque_len queue.old }
@@ -98,7 +98,7 @@ where
     A::Handle: 's,
     requires room { deque_len queue.old < deque_capacity queue.old }
     ensures goes_on { (door : DoorState A.In A.Out) →
-        GoesOn (serving_by A.In.Source A.Out.Sink) door (S.keys_seen keys.old)
+        ConnectionsGoOn (serving_by A.In.Source A.Out.Sink) door (S.keys_seen keys.old)
         (S.names_seen names.old) queue.old.items
         (with_accepted door (accepted.input, accepted.out)) (S.keys_seen keys.new)
         (S.names_seen names.new) queue.new.items }
@@ -139,7 +139,7 @@ where
     A::Handle: 's,
     requires room { deque_len queue.old < deque_capacity queue.old }
     requires running { HasOut (A.state door.old) (deque_len queue.old) }
-    ensures goes_on { GoesOn (serving_by A.In.Source A.Out.Sink)
+    ensures goes_on { ConnectionsGoOn (serving_by A.In.Source A.Out.Sink)
         (A.state door.old) (S.keys_seen keys.old) (S.names_seen names.old) queue.old.items
         (A.state door.new) (S.keys_seen keys.new) (S.names_seen names.new) queue.new.items }
     ensures capacity { deque_capacity queue.new ≡ deque_capacity queue.old }
@@ -172,7 +172,7 @@ pub fn drain<'a, R: Threads + Wait, S: Turns, G: Gate, H: Notices, A: Door>(
     queue: &mut Queue<A, S>,
 )
     requires { HasOut (A.state door.old) (deque_len queue.old) }
-    ensures goes_on { GoesOn (serving_by A.In.Source A.Out.Sink)
+    ensures goes_on { ConnectionsGoOn (serving_by A.In.Source A.Out.Sink)
         (A.state door.old) (S.keys_seen keys.old) (S.names_seen names.old) queue.old.items
         (A.state door.new) (S.keys_seen keys.new) (S.names_seen names.new) [] }
     ensures none { queue.new.items ≡ [] }
@@ -212,7 +212,7 @@ where
     A::Handle: 's,
     requires capacity { 0 < deque_capacity queue.old }
     requires running { HasOut (A.state door.old) (deque_len queue.old) }
-    ensures goes_on { GoesOn (serving_by A.In.Source A.Out.Sink)
+    ensures goes_on { ConnectionsGoOn (serving_by A.In.Source A.Out.Sink)
         (A.state door.old) (S.keys_seen keys.old) (S.names_seen names.old) queue.old.items
         (A.state door.new) (S.keys_seen keys.new) (S.names_seen names.new) queue.new.items }
     ensures running { HasOut (A.state door.new) (deque_len queue.new) }

@@ -14,7 +14,7 @@ use Rattle.hk_serve.specs.Ends.{Ends}
 use Rattle.hk_serve.specs.Exchanges.{AsksInOrder, Exchange, Leaves, ReadsInOrder, Stand, WentOn, bytes_in, response_of, responses_of}
 use Rattle.hk_serve.specs.Served.{Served}
 use Rattle.hk_serve.specs.Transactions.{Answering}
-use Rattle.hk_serve.specs.Turns.{Answered, GoesOn, Turns}
+use Rattle.hk_serve.specs.Turns.{Answered, TurnGoesOn, Turns}
 use Rattle.hk_serve.proofs.RequestLemmas.{requests_answered}
 
 -- what is known between two requests
@@ -51,7 +51,7 @@ nothing_yet answers old = record {
   counted = refl;
 }
 
-pub one_more : {D : Type 0} (answers : Answering D) (old now new : Stand D) (bytes bytes' : ℕ) → SoFar answers old now bytes → GoesOn answers bytes bytes' now new → SoFar answers old new bytes'
+pub one_more : {D : Type 0} (answers : Answering D) (old now new : Stand D) (bytes bytes' : ℕ) → SoFar answers old now bytes → TurnGoesOn answers bytes bytes' now new → SoFar answers old new bytes'
 one_more answers old now new bytes bytes' so_far on =
     let went = so_far.went_on in
     let all = so_far.exchanges in

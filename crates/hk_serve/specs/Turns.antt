@@ -44,7 +44,7 @@ pub record Answered {D : Type 0} (answers : Answering D) (request : Message) (by
   pub response : AnswersSo (record { request = request; outcome = outcome }) bytes bytes' written now result
 
 -- A request was read and answered, and the connection goes on.
-pub record GoesOn {D : Type 0} (answers : Answering D) (bytes bytes' : ℕ) (old new : Stand D) : Type 0 where
+pub record TurnGoesOn {D : Type 0} (answers : Answering D) (bytes bytes' : ℕ) (old new : Stand D) : Type 0 where
   pub exchange : Exchange
   pub takes : TakesRequest old.ahead new.ahead exchange.request
   pub comes : ComesOf exchange.request exchange.outcome
@@ -54,7 +54,7 @@ pub record GoesOn {D : Type 0} (answers : Answering D) (bytes bytes' : ℕ) (old
 
 -- the change of a connection by one request, or by the lack of one
 abbrev pub Turns : {D : Type 0} → Answering D → ℕ → ℕ → Stand D → Option Ended → Stand D → Type 0
-Turns answers bytes bytes' old None new = GoesOn answers bytes bytes' old new
+Turns answers bytes bytes' old None new = TurnGoesOn answers bytes bytes' old new
 Turns answers bytes bytes' old (Some how) new = Ends answers bytes old new how
 
 -- how a connection ends if a response was not written whole

@@ -1,11 +1,11 @@
 use Rattle.std.proofs.Common.{◌≡◌, ◌+◌}
 use Rattle.std.specs.VecDeque.{deque_capacity, deque_len}
-use Rattle.cell_server.specs.Connections.{GoesOn, HasOut, ServesEnds}
+use Rattle.cell_server.specs.Connections.{ConnectionsGoOn, HasOut, ServesEnds}
 use Rattle.cell_server.proofs.acceptor.finish_first.Given as goal
 
 abbrev pub invariant-loop : goal.invariant-loop
 invariant-loop g l =
-    GoesOn (ServesEnds g.A.In.Source.left g.A.In.Source.faults g.A.Out.Sink.written g.A.Out.Sink.faults)
+    ConnectionsGoOn (ServesEnds g.A.In.Source.left g.A.In.Source.faults g.A.Out.Sink.written g.A.Out.Sink.faults)
     (g.A.Door.state l.initial.door) (g.S.Turns.keys_seen l.initial.keys) (g.S.Turns.names_seen l.initial.names) l.initial.queue.items (g.A.Door.state l.door) (g.S.Turns.keys_seen l.keys) (g.S.Turns.names_seen l.names) l.queue.items
     × (deque_len l.queue + l.counter ≡ deque_len l.initial.queue)
     × (deque_capacity l.queue ≡ deque_capacity l.initial.queue)
