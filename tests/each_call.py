@@ -92,9 +92,8 @@ def find_whole_wrong(fault, tried):
     for event in reading:
         if (count := len(refused.pop(event, []))) != 1:
             wrong.append(f"{fault}: event {event + 1} is refused by {count} calls, and reads one material")
-    # A restart whose call fails ends the run.
-    if not reading or refused.keys() - {None} != set(written):
-        wrong.append(f"{fault}: the events from 0 that are refused are {sorted(refused.keys() - {None})}, and not {written}")
+    if len(reading) < 2:
+        wrong.append(f"{fault}: only {len(reading)} materials are read")
     for event in written:
         answers = refused.get(event, [])
         if len(answers) != CHANGE or fault == "fail" and not answers[0] == answers[1] == answers[2] != answers[3]:
