@@ -8,9 +8,11 @@ place.
 """
 
 import os
+import random
 import struct
 import subprocess
 import sys
+from collections import Counter
 
 from rows import open_once
 
@@ -27,16 +29,20 @@ def frame(payload):
     return b"\x01" + len(payload).to_bytes(4, "big") + payload
 
 
-def key_log(keys, versions):
-    """A log of so many keys with so many versions each. The versions of a key do not stand together."""
+def key_log(keys, versions, is_shuffled=False):
+    """A log of so many keys with so many versions each. The keys are rolled in turn, or in any order."""
     parts = [b"HKMSKEY1", frame(b"\x01" + struct.pack(">I", 1))]
     for number in range(keys):
         name = b"key-%05d" % number
         head = struct.pack(">BQB", 2, FIRST_BIRTH + number, len(name)) + name
         parts.append(frame(head + struct.pack(">HHQ", 128, 0, number) + MATERIAL))
-    for version in range(1, versions):
-        for number in range(keys):
-            parts.append(frame(struct.pack(">BQH", 3, FIRST_BIRTH + number, version) + MATERIAL))
+    rolled = list(range(keys)) * (versions - 1)
+    if is_shuffled:
+        random.Random(1).shuffle(rolled)
+    last = Counter()
+    for number in rolled:
+        last[number] += 1
+        parts.append(frame(struct.pack(">BQH", 3, FIRST_BIRTH + number, last[number]) + MATERIAL))
     return b"".join(parts) + b"\x00"
 
 
@@ -78,8 +84,10 @@ def main():
     one = opened(program, folder, key_log(KEYS, 1))
     many = opened(program, folder, key_log(KEYS, VERSIONS))
     ratio = many[1] / one[1]
+    shuffled = opened(program, folder, key_log(KEYS, VERSIONS, is_shuffled=True))
     print(f"{KEYS} keys, opened: with one version {one[0]:.2f} s and {one[1]:.1f} MB, with {VERSIONS} each {many[0]:.2f} s and "
-          f"{many[1]:.1f} MB: {ratio:.2f} x the memory, at most {MOST_MEMORY} is wanted")
+          f"{many[1]:.1f} MB: {ratio:.2f} x the memory, at most {MOST_MEMORY} is wanted; if they are rolled in any order {shuffled[0]:.2f} s and "
+          f"{shuffled[1]:.1f} MB")
     log = key_log(1, 10)
     base = run(program, folder, log, "kms a metadata key-00000\n" * DECRYPTS)[0]
     times = {}
