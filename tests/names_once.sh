@@ -16,8 +16,8 @@ import sys
 PARALLEL = [
     # the key management service and the namesystem: their states and calls
     {"kms_core", "name_core"},
-    # the logs of both, and the tables that are made of them
-    {"kms_store", "edit_log", "name_store"},
+    # what a log stands for, the logs of both services, and the tables that are made of them
+    {"log_kinds", "kms_store", "edit_log", "name_store"},
     # the records of both logs
     {"key_rows", "edit_ops"},
     # the requests and responses of both services

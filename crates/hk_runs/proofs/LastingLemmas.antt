@@ -107,7 +107,7 @@ started fact bytes left h l =
 found_holds : (fact : KeyFact) (bytes : List ℕ) (commands : List KeyCommand) (table : Table) → FactOfLog fact bytes → IsKeyLog bytes commands table → FactOfTable fact table
 found_holds fact bytes commands table h log =
     let f = finds bytes h.commands h.more h.table commands table h.log log in
-    subst (FactOfTable fact) (sym f.table_is) (h.holds f.kept)
+    subst (FactOfTable fact) (sym f.made_is) (h.holds f.kept)
 
 module _ (old : DiskState) (fact : KeyFact) (h : FactOfDisk old fact) (names : List ℕ) (one : old.leaves 1 names) where
   in_file : (bytes : List ℕ) → old.leaves 0 bytes → FactOfLog fact bytes

@@ -1,6 +1,6 @@
 -- Commands one after another.
-use Rattle.std.proofs.Common.{◌≡◌, ℕ, ◌+◌, ◌/◌, ◌^◌, ◌&&◌, ◌==◌, Bool, true, false, List, [], ◌∷◌, ◌++◌, map, Some, None, refl, sym, ◌∙◌, ap, subst, arith}
-use Rattle.std.specs.Prelude.{if◌then◌else◌, is_none, nat_lt, length}
+use Rattle.std.proofs.Common.{◌≡◌, ℕ, ◌+◌, ◌/◌, ◌^◌, ◌&&◌, ◌==◌, true, List, [], ◌∷◌, ◌++◌, map, Some, refl, sym, ◌∙◌, ap, subst, arith}
+use Rattle.std.specs.Prelude.{is_none, nat_lt, length}
 use Rattle.std.proofs.lemmas.List.{map-append}
 use Rattle.std.proofs.lemmas.Bool.Decides.{Decides-eqb}
 use Rattle.std.proofs.lemmas.Bool.{and_parts}
@@ -9,20 +9,16 @@ use Rattle.key_rows.specs.Table.{Table, no_keys, applies, after, find_name, is_l
 use Rattle.key_rows.specs.Records.{HasSpelling, spelling}
 use Rattle.key_rows.specs.declared.rows.KeyCommand.{KeyCommand}
 use Rattle.key_rows.specs.declared.rows.KeyCommand.TheVariants.{Opened, Create, Roll, Delete}
+use Rattle.log_kinds.proofs.Replays as kinds
+use Rattle.kms_store.specs.Kind.{key_kind}
 use Rattle.kms_store.specs.Replay.{key_replay, IsNext, IsReplayed, HasRoomForBirths, payload_of}
 
 -- one more command, which applies
 pub replay_more : (t u : Table) (commands : List KeyCommand) (command : KeyCommand) → key_replay t commands ≡ Some u → applies u command ≡ true → key_replay t (commands ++ command ∷ []) ≡ Some (after u command)
-replay_more t u [] command is may =
-    let same : t ≡ u = cc is in
-    let here : applies t command ≡ true = subst (λ (x : Table). applies x command ≡ true) (sym same) may in
-    ap (λ (b : Bool). if b then Some (after t command) else None) here ∙ ap (λ (x : Table). Some (after x command)) same
-replay_more t u (first ∷ rest) command is may =
-    let P : Bool → Type 0 = λ b. (if b then key_replay (after t first) rest else None) ≡ Some u → (if b then key_replay (after t first) (rest ++ command ∷ []) else None) ≡ Some (after u command) in
-    (elim (applies t first) as P [ true ↦ (λ e. replay_more (after t first) u rest command e may) | false ↦ (λ e. absurd (cc e)) ]) is
+replay_more = kinds.replay_more key_kind
 
 pub spelled_more : (commands : List KeyCommand) (command : KeyCommand) → map spelling (commands ++ command ∷ []) ≡ map spelling commands ++ spelling command ∷ []
-spelled_more commands command = map-append spelling commands (command ∷ [])
+spelled_more = kinds.spelled_more key_kind
 
 pub replayed_none : IsReplayed [] no_keys
 replayed_none = record { commands = []; spelled = tt; are = refl; makes = refl }

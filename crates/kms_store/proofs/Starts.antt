@@ -64,11 +64,11 @@ module _ (bytes : List ℕ) (list : List (List ℕ)) (gate : ℕ) (framed : List
       let lies : place_of s.frame ≡ 8 + 5 + length (frames (map payload_of s.before)) = place_at 8 list s.before s.frame s.behind (sym are ∙ s.split) in
       let ends : length (frames (map payload_of s.before)) ≡ length (frames (map spelling s.replayed.commands)) = ap (λ (l : List (List ℕ)). length (frames l)) s.replayed.are in
       record {
-        commands = s.replayed.commands;
+        ops = s.replayed.commands;
         payload = here;
         payloads = rest;
         gate = gate;
-        table = s.table;
+        made = s.table;
         spelled = s.replayed.spelled;
         found = found ∙ ap (λ (l : List (List ℕ)). Found l gate) parts;
         makes = s.replayed.makes;

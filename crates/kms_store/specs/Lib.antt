@@ -1,3 +1,4 @@
 pub mod Keys
+pub mod Kind
 pub mod Replay
 pub mod Store

@@ -1,14 +1,16 @@
 -- The table that the records of a key log make.
-use Rattle.std.specs.Prelude.{◌≡◌, ℕ, ◌+◌, ◌-◌, ◌*◌, ◌^◌, ◌<◌, Bool, true, false, List, [], ◌∷◌, ◌++◌, map, Option, Some, None, if◌then◌else◌}
+use Rattle.std.specs.Prelude.{◌≡◌, ℕ, ◌+◌, ◌-◌, ◌*◌, ◌^◌, ◌<◌, Bool, true, false, List, ◌∷◌, ◌++◌, map, Option, Some}
 use Rattle.std.specs.List.{AllByRecursion}
 use Rattle.key_rows.specs.Table.{Table, no_keys, applies, after}
 use Rattle.key_rows.specs.Records.{HasSpelling, spelling}
 use Rattle.key_rows.specs.declared.rows.KeyCommand.{KeyCommand}
+use Rattle.log_kinds.specs.Kinds.{replay}
+use Rattle.log_kinds.specs.Kinds as kinds
+use Rattle.kms_store.specs.Kind.{key_kind}
 
 -- the table after the commands, or None if one of them doesn't apply
 abbrev pub key_replay : Table → List KeyCommand → Option Table
-key_replay t [] = Some t
-key_replay t (command ∷ commands) = if applies t command then key_replay (after t command) commands else None
+key_replay = replay key_kind
 
 -- the record encodes a command that applies, and this is the table after it
 pub record IsNext (t : Table) (payload : List ℕ) (u : Table) : Type 0 where
@@ -20,7 +22,7 @@ pub record IsNext (t : Table) (payload : List ℕ) (u : Table) : Type 0 where
 
 -- the record encodes no command, or one that doesn't apply
 abbrev pub IsNoNext : Table → List ℕ → Type 0
-IsNoNext t payload = (command : KeyCommand) → HasSpelling command → payload ≡ spelling command → applies t command ≡ false
+IsNoNext = kinds.IsNoNext key_kind
 
 -- whether a record was taken: it is the next command, or is not one
 abbrev pub IsTaken : Table → List ℕ → Table → Bool → Type 0

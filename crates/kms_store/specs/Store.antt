@@ -1,17 +1,15 @@
 -- A store over a key log, and the commands that it holds.
-use Rattle.std.specs.Prelude.{◌≡◌, ◌⊎◌, ℕ, ◌+◌, ◌-◌, Bool, true, false, List, [], ◌∷◌, ◌++◌, length, map, Option, Some, None, option_map, IfSome, slice_get}
+use Rattle.std.specs.Prelude.{◌≡◌, ℕ, ◌-◌, Bool, List, [], ◌∷◌, ◌++◌, length, map, Option, Some, None, option_map, IfSome, slice_get}
 use Rattle.std.specs.List.{AllByRecursion}
 use Rattle.hk_base.specs.Disk.{DiskState, LeavesOnly, RunOn, Tells}
-use Rattle.frame_log.specs.Format.{log_of, Found, NoLog, end_of, IsAtRest, IsBeforeOrAfter, IsRecovered}
 use Rattle.frame_log.specs.Opens.{OpensLog}
 use Rattle.frame_log.specs.Stands.{Stands}
 use Rattle.frame_log.specs.declared.fault.StartFault.{StartFault}
 use Rattle.frame_log.specs.declared.log.Log.{Log}
 use Rattle.key_rows.specs.Sound.{IsRow}
-use Rattle.key_rows.specs.Table.{Table, KeptTable, after, applies, find_birth, find_name, no_keys}
+use Rattle.key_rows.specs.Table.{Table, KeptTable, find_birth, find_name, no_keys}
 use Rattle.key_rows.specs.Records.{HasSpelling, spelling}
 use Rattle.key_rows.specs.declared.rows.KeyCommand.{KeyCommand}
-use Rattle.key_rows.specs.declared.rows.KeyCommand.TheVariants.{Opened}
 use Rattle.key_rows.specs.declared.rows.KeyRow.{KeyRow}
 use Rattle.hk_base.specs.declared.names.Dek.{Dek}
 use Rattle.hk_base.specs.declared.names.VersionName.{VersionName}
@@ -21,7 +19,12 @@ use Rattle.key_index.specs.Cache.{AreCached}
 use Rattle.key_index.specs.Held.{InLog, has_older}
 use Rattle.key_index.specs.Index.{Index, Materials, table_of}
 use Rattle.key_index.specs.Sound.{AllSized}
-use Rattle.kms_store.specs.Replay.{key_replay, IsNoNext}
+use Rattle.log_kinds.specs.Kinds.{AnOpening, IsLog, IsNoLog, Nothing, settled_ops}
+use Rattle.log_kinds.specs.Kinds as kinds
+pub use Rattle.log_kinds.specs.Kinds.{Not_a_log, Not_of_its_kind, Opening, Recovered}
+use Rattle.kms_store.specs.Kind.{key_kind}
+pub use Rattle.kms_store.specs.Kind.{is_key_opening, next_opening, settled_table}
+use Rattle.kms_store.specs.Replay.{key_replay}
 
 -- Its log, the table of keys with its reserved capacity, and the command that waits to be settled. Memory has the table
 -- without its older materials, in an index, and some of these in a cache.
@@ -81,16 +84,9 @@ pub record IsKeyStoreOf (disk : DiskState) (store : StoreState) (commands : List
   pub log : Stands disk store.log (map spelling commands) (option_map spelling store.pending)
   pub materials : HoldsMaterials store commands
 
--- the table, and the newly acknowledged commands, once the pending command was settled: kept or dropped
-abbrev pub settled_table : Bool → Option KeyCommand → Table → Table
-settled_table kept None t = t
-settled_table true (Some command) t = after t command
-settled_table false (Some command) t = t
-
+-- the newly acknowledged commands, once the pending command was settled: kept or dropped
 abbrev pub settled_commands : Bool → Option KeyCommand → List KeyCommand
-settled_commands kept None = []
-settled_commands true (Some command) = command ∷ []
-settled_commands false (Some command) = []
+settled_commands = settled_ops key_kind
 
 -- The pending command was settled: kept or dropped.
 pub record SettlesKeys (old new : DiskState) (store store' : StoreState) (kept : Bool) : Type 0 where
@@ -114,37 +110,24 @@ DropsUnlessGateSet old new store store' =
 
 -- a key log of these commands, with or without one more, both now and once its end gate byte is set to 1
 abbrev pub IsWithOrWithout : List KeyCommand → KeyCommand → List ℕ → Type 0
-IsWithOrWithout commands command bytes = IsBeforeOrAfter 0 (map spelling commands) (spelling command) bytes
+IsWithOrWithout = kinds.IsWithOrWithout key_kind
 
 -- the same for a command that can be encoded
 abbrev pub IsWritten : List KeyCommand → KeyCommand → List ℕ → Type 0
-IsWritten commands command bytes = HasSpelling command × IsWithOrWithout commands command bytes
+IsWritten = kinds.IsWritten key_kind
 
 -- the file is a log of these commands, all of which apply and make this table
-pub record IsKeyLog (bytes : List ℕ) (commands : List KeyCommand) (table : Table) : Type 0 where
-  pub gate : ℕ
-  pub spelled : AllByRecursion HasSpelling commands
-  pub found : log_of 0 bytes ≡ Found (map spelling commands) gate
-  pub makes : key_replay no_keys commands ≡ Some table
+abbrev pub IsKeyLog : List ℕ → List KeyCommand → Table → Type 0
+IsKeyLog = IsLog key_kind
 
 -- The file is a log, and the record whose gate is at this offset is not a command that applies after
 -- those before it.
-pub record IsNoKeyLog (bytes : List ℕ) (at : ℕ) : Type 0 where
-  pub commands : List KeyCommand
-  pub payload : List ℕ
-  pub payloads : List (List ℕ)
-  pub gate : ℕ
-  pub table : Table
-  pub spelled : AllByRecursion HasSpelling commands
-  pub found : log_of 0 bytes ≡ Found (map spelling commands ++ payload ∷ payloads) gate
-  pub makes : key_replay no_keys commands ≡ Some table
-  pub not_next : IsNoNext table payload
-  pub place : at ≡ end_of (map spelling commands)
+abbrev pub IsNoKeyLog : List ℕ → ℕ → Type 0
+IsNoKeyLog = IsNoLog key_kind
 
 -- why a start returns Damaged with this offset
-pub data IsDamagedAt (bytes : List ℕ) (at : ℕ) : Type 0 where
-  Not_a_log : log_of 0 bytes ≡ NoLog at → IsDamagedAt bytes at
-  Not_a_key_log : IsNoKeyLog bytes at → IsDamagedAt bytes at
+abbrev pub IsDamagedAt : List ℕ → ℕ → Type 0
+IsDamagedAt = kinds.IsDamagedAt key_kind
 
 -- the last opening is recorded
 pub record SpentKeys (bytes : List ℕ) : Type 0 where
@@ -153,15 +136,10 @@ pub record SpentKeys (bytes : List ℕ) : Type 0 where
   pub log : IsKeyLog bytes commands table
   pub last : table.opening ≡ 4294967295
 
--- the record of the opening after this table
-abbrev pub next_opening : Table → KeyCommand
-next_opening table = Opened (table.opening + 1)
-
 -- what a start leaves of the file found, from its sync on: what recovery leaves, or the log with or
 -- without the record of the new opening
-pub data IsLeftByStart (found bytes : List ℕ) : Type 0 where
-  Recovered : IsRecovered 0 found bytes → IsLeftByStart found bytes
-  Opening : (commands : List KeyCommand) (table : Table) → IsKeyLog found commands table → IsWritten commands (next_opening table) bytes → IsLeftByStart found bytes
+abbrev pub IsLeftByStart : List ℕ → List ℕ → Type 0
+IsLeftByStart = kinds.IsLeftByStart key_kind
 
 -- A start opens the key log, or fails.
 abbrev pub OpensKeys : DiskState → DiskState → (StartFault → Type 0) → Type 0
@@ -169,8 +147,7 @@ OpensKeys = OpensLog 0 IsDamagedAt SpentKeys IsLeftByStart
 
 -- what a crash may leave of a log: these commands, with or without one more, both now and once the end gate byte is set to 1
 abbrev pub IsLogOf : List KeyCommand → Option KeyCommand → List ℕ → Type 0
-IsLogOf commands None bytes = IsAtRest 0 (map spelling commands) bytes
-IsLogOf commands (Some command) bytes = IsWithOrWithout commands command bytes
+IsLogOf = kinds.IsLogOf key_kind
 
 -- Materials were read, and at most the cache has changed. A crash at any moment of it leaves the log as it is.
 pub record ReadsMaterials (old new : DiskState) (store store' : StoreState) : Type 0 where
@@ -180,35 +157,21 @@ pub record ReadsMaterials (old new : DiskState) (store store' : StoreState) : Ty
   pub run : RunOn 0 old new
 
 abbrev pub Applies : Table → Option KeyCommand → Type 0
-Applies t more = IfSome more (λ command. applies t command ≡ true)
+Applies = kinds.Applies key_kind
 
 -- A key log that a run may start from: its commands make a table, and it may have one more, which applies.
-pub record IsSoundLog (bytes : List ℕ) (commands : List KeyCommand) (more : Option KeyCommand) (table : Table) : Type 0 where
-  pub spelled : AllByRecursion HasSpelling commands
-  pub spelled_more : IfSome more HasSpelling
-  pub makes : key_replay no_keys commands ≡ Some table
-  pub fits : Applies table more
-  pub log : IsLogOf commands more bytes
+abbrev pub IsSoundLog : List ℕ → List KeyCommand → Option KeyCommand → Table → Type 0
+IsSoundLog = kinds.IsSoundLog key_kind
 
--- What a crash may leave of the log of these commands, which make a table, while one is pending: the log with or without the
--- pending command, and with or without one more, which applies. That one is the pending command itself, or one of `own`,
--- which says what may be written after the settled log.
-pub record IsLeftOf (table : Table) (pending : Option KeyCommand) (own : Bool → KeyCommand → Type 0) (commands : List KeyCommand) (bytes : List ℕ) : Type 0 where
-  pub kept : Bool
-  pub more : Option KeyCommand
-  pub more_is : IfSome more (λ command. ((kept ≡ false) × (pending ≡ Some command)) ⊎ own kept command)
-  pub fits : Applies (settled_table kept pending table) more
-  pub spelled : IfSome more HasSpelling
-  pub log : IsLogOf (commands ++ settled_commands kept pending) more bytes
-
-abbrev pub is_key_opening : KeyCommand → Bool
-is_key_opening (Opened opening) = true
-is_key_opening _ = false
+-- What a crash may leave of the log of these commands, which make a table, while one is pending, beside what `own` says may be
+-- written after the settled log.
+abbrev pub IsLeftOf : Table → Option KeyCommand → (Bool → KeyCommand → Type 0) → List KeyCommand → List ℕ → Type 0
+IsLeftOf = kinds.IsLeftOf key_kind
 
 -- what may be written: nothing, or the record of an opening
 
 abbrev pub NoCommand : Bool → KeyCommand → Type 0
-NoCommand kept command = ⊥
+NoCommand = Nothing key_kind
 
 abbrev pub AKeyOpening : Bool → KeyCommand → Type 0
-AKeyOpening kept command = is_key_opening command ≡ true
+AKeyOpening = AnOpening key_kind

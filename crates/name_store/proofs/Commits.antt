@@ -17,10 +17,6 @@ use Rattle.name_store.specs.Replay.{Applies}
 use Rattle.name_store.specs.Store.{CommitsOperation, IsWritten, IsNameStoreOf, StoreState, made_with}
 use Rattle.name_store.proofs.Replays.{replay_more}
 
-pub each_more : {X : Type 0} (P : X → Type 0) (xs : List X) (x : X) → AllByRecursion P xs → P x → AllByRecursion P (xs ++ x ∷ [])
-each_more P [] x each here = (here, tt)
-each_more P (y ∷ ys) x each here = (each.0, each_more P ys x each.1 here)
-
 pub each_last : {X : Type 0} (P : X → Type 0) (xs : List X) (x : X) → AllByRecursion P (xs ++ x ∷ []) → P x
 each_last P [] x each = each.0
 each_last P (y ∷ ys) x each = each_last P ys x each.1

@@ -1,25 +1,18 @@
 -- Operations one after another.
-use Rattle.std.proofs.Common.{◌≡◌, ℕ, Bool, true, false, not, ◌&&◌, ◌||◌, ◌==◌, List, [], ◌∷◌, ◌++◌, map, Some, None, refl, sym, ◌∙◌, ap, subst}
-use Rattle.std.specs.Prelude.{if◌then◌else◌}
+use Rattle.std.proofs.Common.{◌≡◌, ℕ, Bool, true, false, not, ◌&&◌, ◌||◌, ◌==◌, List, [], ◌∷◌, ◌++◌, map, Some, refl, sym, ◌∙◌, ap}
 use Rattle.std.specs.List.{list_any}
-use Rattle.std.proofs.lemmas.List.{map-append}
 use Rattle.edit_ops.specs.Records.{spelling}
 use Rattle.edit_ops.specs.declared.ops.EditOp.{EditOp}
-use Rattle.name_store.specs.Table.{NameTable, Replayed, after, allows, applies, is_among, nothing_logged, uses}
+use Rattle.log_kinds.proofs.Replays as kinds
+use Rattle.name_store.specs.Table.{NameTable, Replayed, after, allows, applies, is_among, name_kind, nothing_logged, uses}
 use Rattle.name_store.specs.Replay.{Ids, IsNext, applies_beside, name_replay}
 
 -- one more operation, which applies
 pub replay_more : (t u : Replayed) (ops : List EditOp) (op : EditOp) → name_replay t ops ≡ Some u → applies u op ≡ true → name_replay t (ops ++ op ∷ []) ≡ Some (after u op)
-replay_more t u [] op is may =
-    let same : t ≡ u = cc is in
-    let here : applies t op ≡ true = subst (λ (x : Replayed). applies x op ≡ true) (sym same) may in
-    ap (λ (b : Bool). if b then Some (after t op) else None) here ∙ ap (λ (x : Replayed). Some (after x op)) same
-replay_more t u (first ∷ rest) op is may =
-    let P : Bool → Type 0 = λ b. (if b then name_replay (after t first) rest else None) ≡ Some u → (if b then name_replay (after t first) (rest ++ op ∷ []) else None) ≡ Some (after u op) in
-    (elim (applies t first) as P [ true ↦ (λ e. replay_more (after t first) u rest op e may) | false ↦ (λ e. absurd (cc e)) ]) is
+replay_more = kinds.replay_more name_kind
 
 pub spelled_more : (ops : List EditOp) (op : EditOp) → map spelling (ops ++ op ∷ []) ≡ map spelling ops ++ spelling op ∷ []
-spelled_more ops op = map-append spelling ops (op ∷ [])
+spelled_more = kinds.spelled_more name_kind
 
 -- ids used, as a list and as a set
 

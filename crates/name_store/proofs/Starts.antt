@@ -23,7 +23,7 @@ use Rattle.edit_log.specs.Log.{EditLogState}
 use Rattle.edit_log.specs.Log as edits
 use Rattle.name_store.specs.Table.{NameTable, Replayed, after, after_table, allows, applies, is_fresh, next_opening, nothing_logged}
 use Rattle.name_store.specs.Replay.{AllBelow, Applies, IsMade, IsNoNext, IsRefusedAt, name_replay}
-use Rattle.name_store.specs.Store.{IsDamagedAt, IsNameLog, IsWritten, Not_a_log, Not_a_name_log, Opening, OpensNames, Recovered, SpentNames, Started, StoreState, made_with}
+use Rattle.name_store.specs.Store.{IsDamagedAt, IsNameLog, IsWritten, Not_a_log, Not_of_its_kind, Opening, OpensNames, Recovered, SpentNames, Started, StoreState, made_with}
 use Rattle.name_store.proofs.Commits.{each_last}
 use Rattle.name_store.proofs.IdLemmas.{used_earlier}
 use Rattle.name_store.proofs.Replays.{replay_more}
@@ -91,7 +91,7 @@ no-next made last payload same none o has is = go (applies made o) refl
 
 -- why the records that a reader had to return make no table
 pub damaged_at : (bytes : List ℕ) (todo : List (List ℕ)) (gate at : ℕ) → log_of 1 bytes ≡ Found todo gate → IsRefusedAt todo at → IsDamagedAt bytes at
-damaged_at bytes todo gate at found r = Not_a_name_log (record {
+damaged_at bytes todo gate at found r = Not_of_its_kind (record {
   ops = r.ops;
   payload = r.payload;
   payloads = r.payloads;

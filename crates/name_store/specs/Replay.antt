@@ -1,25 +1,26 @@
 -- The table that the records of an edit log make.
-use Rattle.std.specs.Prelude.{◌≡◌, ℕ, ◌+◌, ◌*◌, ◌^◌, ◌<◌, Bool, true, false, not, ◌&&◌, ◌||◌, List, [], ◌∷◌, ◌++◌, map, Option, Some, None, IfSome, if◌then◌else◌}
+use Rattle.std.specs.Prelude.{◌≡◌, ℕ, ◌+◌, ◌*◌, ◌^◌, ◌<◌, Bool, true, false, not, ◌&&◌, ◌||◌, List, [], ◌∷◌, ◌++◌, map, Option, Some}
 use Rattle.std.specs.List.{All, AllByRecursion, list_any}
 use Rattle.hk_base.specs.Disk.{DiskState, Tells}
 use Rattle.frame_log.specs.Format.{end_of}
+use Rattle.log_kinds.specs.Kinds.{replay}
+use Rattle.log_kinds.specs.Kinds as kinds
 use Rattle.edit_ops.specs.Records.{HasSpelling, spelling}
 use Rattle.edit_ops.specs.declared.ops.EditOp.{EditOp}
 use Rattle.edit_log.specs.declared.reader.OpReader.{OpReader}
 use Rattle.edit_log.specs.Reader.{OpsAhead}
-use Rattle.name_store.specs.Table.{NameTable, Replayed, after, after_table, allows, applies, is_among, nothing_logged, uses}
+use Rattle.name_store.specs.Table.{NameTable, Replayed, after_table, allows, is_among, name_kind, nothing_logged, uses}
 
 -- the result of the operations after `r`, or None if one of them doesn't apply
 abbrev pub name_replay : Replayed → List EditOp → Option Replayed
-name_replay r [] = Some r
-name_replay r (op ∷ ops) = if applies r op then name_replay (after r op) ops else None
+name_replay = replay name_kind
 
 -- the record spells no operation, or one that doesn't apply
 abbrev pub IsNoNext : Replayed → List ℕ → Type 0
-IsNoNext r payload = (op : EditOp) → HasSpelling op → payload ≡ spelling op → applies r op ≡ false
+IsNoNext = kinds.IsNoNext name_kind
 
 abbrev pub Applies : Replayed → Option EditOp → Type 0
-Applies r more = IfSome more (λ op. applies r op ≡ true)
+Applies = kinds.Applies name_kind
 
 -- all ids are below the bound
 abbrev pub AllBelow : ℕ → List ℕ → Type 0

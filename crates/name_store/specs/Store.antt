@@ -1,18 +1,19 @@
 -- The table of the namesystem over its edit log, and the operations that the log holds.
-use Rattle.std.specs.Prelude.{◌≡◌, ◌⊎◌, ℕ, ◌*◌, ◌^◌, ◌<◌, Bool, true, false, is_some, List, [], ◌∷◌, ◌++◌, map, Option, Some, None, IfSome, IsTrue}
-use Rattle.std.specs.List.{All, AllByRecursion}
+use Rattle.std.specs.Prelude.{◌≡◌, ℕ, ◌*◌, ◌^◌, ◌<◌, Bool, true, false, is_some, List, [], ◌∷◌, ◌++◌, Option, Some, None, IfSome, IsTrue}
+use Rattle.std.specs.List.{All}
 use Rattle.hk_base.specs.Disk.{DiskState, Tells, RunOn, LeavesOnly}
 use Rattle.hk_base.specs.Faults.{Rose}
-use Rattle.frame_log.specs.Format.{log_of, Found, NoLog, end_of, IsAtRest, IsRecovered}
 use Rattle.frame_log.specs.Opens.{OpensLog}
 use Rattle.frame_log.specs.declared.fault.StartFault.{StartFault}
-use Rattle.edit_ops.specs.Records.{HasSpelling, spelling}
 use Rattle.edit_ops.specs.declared.ops.EditOp.{EditOp}
-use Rattle.edit_ops.specs.declared.ops.EditOp.TheVariants as op
+use Rattle.log_kinds.specs.Kinds.{IsLog, IsNoLog, Nothing}
+use Rattle.log_kinds.specs.Kinds as kinds
+pub use Rattle.log_kinds.specs.Kinds.{Not_a_log, Not_of_its_kind, Opening, Recovered}
 use Rattle.edit_log.specs.Log.{EditLogState}
 use Rattle.edit_log.specs.Log as edits
-use Rattle.name_store.specs.Table.{IsNameTable, NameTable, Replayed, after_table, allows, is_fresh, kept_op, next_opening, nothing_logged, settled_log, settled_ops, settled_table, settled_used}
-use Rattle.name_store.specs.Replay.{AllBelow, Applies, IsNoNext, name_replay}
+use Rattle.name_store.specs.Table.{IsNameTable, NameTable, Replayed, after_table, allows, is_fresh, kept_op, name_kind, next_opening, nothing_logged, settled_ops, settled_table, settled_used}
+pub use Rattle.name_store.specs.Table.{is_opening}
+use Rattle.name_store.specs.Replay.{AllBelow, Applies, name_replay}
 
 -- its edit log with the pending operation, and the table
 pub record StoreState : Type 0 where
@@ -31,32 +32,19 @@ pub record IsNameStoreOf (disk : DiskState) (store : StoreState) (used : List �
 
 -- a log of these operations, with one more or without it, now and if its end gate byte is read as 1; that one can be written
 abbrev pub IsWritten : List EditOp → EditOp → List ℕ → Type 0
-IsWritten ops op bytes = HasSpelling op × edits.IsWithOrWithout ops op bytes
+IsWritten = kinds.IsWritten name_kind
 
 -- the file is a log of these operations, each of which applies, and they make `made`
-pub record IsNameLog (bytes : List ℕ) (ops : List EditOp) (made : Replayed) : Type 0 where
-  pub gate : ℕ
-  pub spelled : AllByRecursion HasSpelling ops
-  pub found : log_of 1 bytes ≡ Found (map spelling ops) gate
-  pub makes : name_replay nothing_logged ops ≡ Some made
+abbrev pub IsNameLog : List ℕ → List EditOp → Replayed → Type 0
+IsNameLog = IsLog name_kind
 
 -- The file is a log, and the record whose gate is at this offset is no operation that applies after the earlier ones.
-pub record IsNoNameLog (bytes : List ℕ) (at : ℕ) : Type 0 where
-  pub ops : List EditOp
-  pub payload : List ℕ
-  pub payloads : List (List ℕ)
-  pub gate : ℕ
-  pub made : Replayed
-  pub spelled : AllByRecursion HasSpelling ops
-  pub found : log_of 1 bytes ≡ Found (map spelling ops ++ payload ∷ payloads) gate
-  pub makes : name_replay nothing_logged ops ≡ Some made
-  pub not_next : IsNoNext made payload
-  pub place : at ≡ end_of (map spelling ops)
+abbrev pub IsNoNameLog : List ℕ → ℕ → Type 0
+IsNoNameLog = IsNoLog name_kind
 
 -- why a start answers Damaged with this offset
-pub data IsDamagedAt (bytes : List ℕ) (at : ℕ) : Type 0 where
-  Not_a_log : log_of 1 bytes ≡ NoLog at → IsDamagedAt bytes at
-  Not_a_name_log : IsNoNameLog bytes at → IsDamagedAt bytes at
+abbrev pub IsDamagedAt : List ℕ → ℕ → Type 0
+IsDamagedAt = kinds.IsDamagedAt name_kind
 
 -- the last opening is recorded
 pub record SpentNames (bytes : List ℕ) : Type 0 where
@@ -67,9 +55,8 @@ pub record SpentNames (bytes : List ℕ) : Type 0 where
 
 -- what a crash leaves of the file found, since a start synced it: what recovering leaves, or the log with the record of the
 -- new opening or without it
-pub data IsLeftByStart (found bytes : List ℕ) : Type 0 where
-  Recovered : IsRecovered 1 found bytes → IsLeftByStart found bytes
-  Opening : (ops : List EditOp) (made : Replayed) → IsNameLog found ops made → IsWritten ops (next_opening made.table) bytes → IsLeftByStart found bytes
+abbrev pub IsLeftByStart : List ℕ → List ℕ → Type 0
+IsLeftByStart = kinds.IsLeftByStart name_kind
 
 -- A start opens the edit log, or fails.
 abbrev pub OpensNames : DiskState → DiskState → (StartFault → Type 0) → Type 0
@@ -77,39 +64,24 @@ OpensNames = OpensLog 1 IsDamagedAt SpentNames IsLeftByStart
 
 -- what a crash may leave of a log: these operations, with one more or without it, now and if the end gate byte is read as 1
 abbrev pub IsLogOf : List EditOp → Option EditOp → List ℕ → Type 0
-IsLogOf ops None bytes = IsAtRest 1 (map spelling ops) bytes
-IsLogOf ops (Some op) bytes = edits.IsWithOrWithout ops op bytes
+IsLogOf = kinds.IsLogOf name_kind
 
 -- An edit log that a run may start from: its operations make `made`, and one more, which applies, may follow them.
-pub record IsSoundLog (bytes : List ℕ) (ops : List EditOp) (more : Option EditOp) (made : Replayed) : Type 0 where
-  pub spelled : AllByRecursion HasSpelling ops
-  pub spelled_more : IfSome more HasSpelling
-  pub makes : name_replay nothing_logged ops ≡ Some made
-  pub fits : Applies made more
-  pub log : IsLogOf ops more bytes
+abbrev pub IsSoundLog : List ℕ → List EditOp → Option EditOp → Replayed → Type 0
+IsSoundLog = kinds.IsSoundLog name_kind
 
--- What a crash may leave of the log of these operations, which make `made`, while one is pending: that log, or the one with the
--- pending operation; with one more operation, which applies, or without it. That one is the pending operation itself, or one of
--- `own`, which says what may be written after the settled log.
-pub record IsLeftOf (made : Replayed) (pending : Option EditOp) (own : Bool → EditOp → Type 0) (ops : List EditOp) (bytes : List ℕ) : Type 0 where
-  pub kept : Bool
-  pub more : Option EditOp
-  pub more_is : IfSome more (λ op. ((kept ≡ false) × (pending ≡ Some op)) ⊎ own kept op)
-  pub fits : Applies (settled_log kept pending made) more
-  pub spelled : IfSome more HasSpelling
-  pub log : IsLogOf (ops ++ settled_ops kept pending) more bytes
-
-abbrev pub is_opening : EditOp → Bool
-is_opening (op.Opened opening) = true
-is_opening _ = false
+-- What a crash may leave of the log of these operations, which make `made`, while one is pending, beside what `own` says may be
+-- written after the settled log.
+abbrev pub IsLeftOf : Replayed → Option EditOp → (Bool → EditOp → Type 0) → List EditOp → List ℕ → Type 0
+IsLeftOf = kinds.IsLeftOf name_kind
 
 -- operations that may be written: none, and an opening
 
 abbrev pub NothingMore : Bool → EditOp → Type 0
-NothingMore kept op = ⊥
+NothingMore = Nothing name_kind
 
 abbrev pub AnOpening : Bool → EditOp → Type 0
-AnOpening kept op = is_opening op ≡ true
+AnOpening = kinds.AnOpening name_kind
 
 -- What a start found in the log, and what the log holds after it: the operations found, and the next opening.
 pub record StartedLog (old new : DiskState) (store : StoreState) (found : NameTable) : Type 0 where

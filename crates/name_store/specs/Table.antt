@@ -15,6 +15,9 @@ use Rattle.snap_store.specs.Snapshots.{IsSnapshots, SnapTable, Snapshot, no_snap
 pub use Rattle.snap_store.specs.Snapshots.{is_among}
 use Rattle.zone_table.specs.declared.statuses.StatusRow.{StatusRow}
 use Rattle.zone_table.specs.Statuses.{StatusesFit, counted, ended, goes_on_under, new_status, status_of, with_status, without_below}
+use Rattle.log_kinds.specs.Kinds.{LogKind}
+use Rattle.log_kinds.specs.Kinds as kinds
+use Rattle.edit_ops.specs.Records.{HasSpelling, spelling}
 use Rattle.edit_ops.specs.declared.files.FileKey.{FileKey}
 use Rattle.edit_ops.specs.declared.ops.EditOp.{EditOp}
 use Rattle.edit_ops.specs.declared.ops.EditOp.TheVariants.{Opened, Mkdir, File, Remove, Rename, Zone, Allow, Disallow, Snap, Unsnap, Submit, Update, Cancel, Complete}
@@ -182,7 +185,7 @@ after r op = record { table = after_table r.table op; used = uses op ++ r.used }
 abbrev pub next_opening : NameTable → EditOp
 next_opening t = Opened (t.opening + 1)
 
--- the table, the ids and the acknowledged operations, after the pending operation was settled: kept or dropped
+-- the table and the ids, after the pending operation was settled: kept or dropped
 
 abbrev pub settled_table : Bool → Option EditOp → NameTable → NameTable
 settled_table kept None t = t
@@ -194,11 +197,6 @@ settled_used kept None used = used
 settled_used true (Some op) used = uses op ++ used
 settled_used false (Some op) used = used
 
-abbrev pub settled_ops : Bool → Option EditOp → List EditOp
-settled_ops kept None = []
-settled_ops true (Some op) = op ∷ []
-settled_ops false (Some op) = []
-
 -- the operation that was kept
 abbrev pub kept_op : Bool → Option EditOp → Option EditOp
 kept_op kept None = None
@@ -207,6 +205,31 @@ kept_op false (Some op) = None
 
 abbrev pub settled_log : Bool → Option EditOp → Replayed → Replayed
 settled_log kept pending r = record { table = settled_table kept pending r.table; used = settled_used kept pending r.used }
+
+-- the edit log as a log of records
+
+abbrev pub is_opening : EditOp → Bool
+is_opening (Opened opening) = true
+is_opening _ = false
+
+abbrev pub name_kind : LogKind
+name_kind = record {
+  file = 1;
+  Op = EditOp;
+  HasSpelling = HasSpelling;
+  spelling = spelling;
+  State = Replayed;
+  empty = nothing_logged;
+  applies = applies;
+  after = after;
+  settled = settled_log;
+  next_opening = λ r. next_opening r.table;
+  is_opening = is_opening;
+}
+
+-- the newly acknowledged operations, after the pending one was settled
+abbrev pub settled_ops : Bool → Option EditOp → List EditOp
+settled_ops = kinds.settled_ops name_kind
 
 -- the rows of entries, whatever their paths
 abbrev pub rows_of_entries : List Entry → List Row

@@ -67,7 +67,7 @@ found-linked : (past : Past) (c : Image) (commands : List KeyCommand) (table : T
 found-linked past c commands table ops made s keys names =
     let f = finds (c 0) s.commands s.more s.table commands table s.keys keys in
     let g = finds_names (c 1) s.ops s.more_ops s.made ops made s.names names in
-    subst (λ (t : Table). LinkedTables past t made.table) (sym f.table_is)
+    subst (λ (t : Table). LinkedTables past t made.table) (sym f.made_is)
     (subst (λ (m : Replayed). LinkedTables past (settled_table f.kept s.more s.table) m.table) (sym g.made_is) (s.linked f.kept g.kept))
 
 pub sound_files_begin_linked : {D W : Type 0} → SoundFilesBeginLinked D W

@@ -82,10 +82,10 @@ keys-reopened old new w w' of_file fit held s = go old.tells refl
         let f = finds (old.reads 0) before.0.keys w.keys.store.pending w.keys.store.table.keys log.0 s.table (sound_store old w.keys.store before.0.keys of_file may before.1.keys) log.1 in
         let logged : List KeyCommand = settled_commands f.kept w.keys.store.pending ++ next_opening s.table ∷ [] in
         let all : log.0 ++ next_opening s.table ∷ [] ≡ before.0.keys ++ logged =
-        ap (λ (l : List KeyCommand). l ++ next_opening s.table ∷ []) f.commands_are ∙ append_assoc before.0.keys (settled_commands f.kept w.keys.store.pending) (next_opening s.table ∷ []) in
+        ap (λ (l : List KeyCommand). l ++ next_opening s.table ∷ []) f.ops_are ∙ append_assoc before.0.keys (settled_commands f.kept w.keys.store.pending) (next_opening s.table ∷ []) in
         record {
           logged = logged;
-          found = λ again. record { kept = f.kept; table_is = f.table_is; commands_are = refl };
+          found = λ again. record { kept = f.kept; table_is = f.made_is; commands_are = refl };
           stands = λ again commands other.
               let one : commands ≡ before.0.keys = stands_once old w.keys.store before.0.keys commands log.0 s.table of_file may before.1.keys other log.1 in
               subst (IsKeyStoreOf new w'.keys.store) (all ∙ ap (λ (l : List KeyCommand). l ++ logged) (sym one)) log.2;
@@ -130,7 +130,7 @@ keys-fail old new w w' words fault m n same keys_file names_file fit held o = re
   spent = λ is tells.
       let k = o.why.spent is tells in
       let f = finds (old.reads 0) (held tells).0.keys w.keys.store.pending w.keys.store.table.keys k.commands k.table (sound tells) k.log in
-      (f.kept, ap (λ (t : Table). t.opening) (sym f.table_is) ∙ k.last);
+      (f.kept, ap (λ (t : Table). t.opening) (sym f.made_is) ∙ k.last);
   cause = o.why.cause;
   survives = survives;
   survives_then = λ tells done s c image. left-then old new w AKeyOpening NothingMore m n o.run.later done (survives tells done s) (now done s) c image;

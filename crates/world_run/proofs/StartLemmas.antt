@@ -336,7 +336,7 @@ found-linked : (past : Past) (a b : List ℕ) (commands : List KeyCommand) (tabl
 found-linked past a b commands table ops made s keys names =
     let f = finds a s.commands s.more s.table commands table s.keys keys in
     let g = finds_names b s.ops s.more_ops s.made ops made s.names names in
-    subst (λ (t : Table). LinkedTables past t made.table) (sym f.table_is)
+    subst (λ (t : Table). LinkedTables past t made.table) (sym f.made_is)
     (subst (λ (m : Replayed). LinkedTables past (settled_table f.kept s.more s.table) m.table) (sym g.made_is) (s.linked f.kept g.kept))
 
 pub begins : (sizes : SizeValues) (old mid new : DiskState) (r : RunningWorld) → r.keys.ready ≡ no_queues sizes → Moment old → r.keys.store.log.file ≡ 0 → r.names.store.log.log.file ≡ 1 → ServicesFit (world_of r) → r.kept ≡ none_kept

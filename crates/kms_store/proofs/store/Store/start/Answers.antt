@@ -5,7 +5,7 @@ use Rattle.hk_base.proofs.Runs.{Going, compose, weaker}
 use Rattle.frame_log.specs.Faults.{start_fault}
 use Rattle.frame_log.specs.declared.fault.StartFault.TheVariants as start
 use Rattle.frame_log.proofs.Openings.{log_ok, opens_fault, opens_then, rose_since, run_then, same_fault}
-use Rattle.kms_store.specs.Store.{IsLeftByStart, Not_a_key_log, Opening}
+use Rattle.kms_store.specs.Store.{IsLeftByStart, Not_of_its_kind, Opening}
 use Rattle.kms_store.proofs.Starts.{Recovers, damage_found, if_ok, keys_found, opens_log, reading_left}
 use Rattle.kms_store.proofs.store.Store.start.Goals as goal
 
@@ -43,7 +43,7 @@ returns-in_err-keys-clause-opens g c =
     let o = c.in_ok-log.ensures.opens in
     opens_then old mid now (log_ok _ start.StoreFault) (opens_log old mid o) run (λ tells. weaker (reading_left bytes mid log records c.in_ok-log.ensures.settled.0 (found tells)) reading)
     (record {
-      damaged = λ at is tells. Not_a_key_log (damage_found bytes mid log records at reader.1 (found tells) (c.replay.ensures.damaged at (before (start.Damaged at) is) (first tells) (found tells).0 (found tells).3));
+      damaged = λ at is tells. Not_of_its_kind (damage_found bytes mid log records at reader.1 (found tells) (c.replay.ensures.damaged at (before (start.Damaged at) is) (first tells) (found tells).0 (found tells).3));
       spent = λ is. absurd (c.replay.ensures.spent (before start.Spent is));
       cause = λ is. rose_since o.run.faults (c.replay.ensures.cause (before start.StoreFault is));
     })
