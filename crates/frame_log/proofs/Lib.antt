@@ -1,11 +1,15 @@
 mod Aheads
+pub mod Bases
 mod Bytes
+pub mod Closing
 mod Found
 mod Goings
 mod Head
 pub mod Layers
+pub mod Movings
 pub mod Openings
 pub mod Reading
 mod Scans
 mod Steps
+pub mod Torn
 mod Windows

@@ -1,7 +1,10 @@
 pub mod Ahead
+pub mod Bases
 pub mod Examples
+pub mod ExamplesTwo
 pub mod Faults
 pub mod Format
+pub mod FormatTwo
 pub mod Opens
 pub mod Scan
 pub mod Stands
