@@ -1,6 +1,6 @@
 # Completion of hkms for bash. Source this file, or install it as /usr/share/bash-completion/completions/hkms.
 _hkms() {
-    local at=1 words='--dir --help --version -h -V replay pipe serve load'
+    local at=1 words='--dir --help --version -h -V replay pipe serve load check'
     # The command stands after `--dir FOLDER`. In `--dir=FOLDER` bash takes `=` for a word of its own.
     if [ "${COMP_WORDS[1]}" = --dir ]; then
         at=3 words=${words#--dir }

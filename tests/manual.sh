@@ -64,6 +64,7 @@ words_of() {
     'hkms pipe') cat <<<'< \fIREQUESTS\fR > \fIRESPONSES\fR' ;;
     'hkms serve') cat <<<'[\-\-port \fIN\fR] [\-\-conns \fIN\fR] [\-\-connections \fIN\fR]' ;;
     'hkms load') cat <<<'\fIN\fR' ;;
+    'hkms check') cat <<<'> \fILINES\fR' ;;
     'hkfs put') cat <<<'\fIUSER PATH\fR < \fIBODY\fR' ;;
     'hkfs read' | 'hkcopy read') cat <<<'\fIUSER PATH FROM COUNT\fR > \fIBYTES\fR' ;;
     'hkcopy copy') cat <<<'\fIFROM TO\fR' ;;

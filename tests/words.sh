@@ -77,6 +77,11 @@ for word in --help -h; do
     shows 'Usage: hkms load <N>'
     shows '  <N>  Steps, from 1 to 20000'
     shows '     8    none                 the output cannot be written'
+
+    helps check "$word"
+    shows 'Says what keys.log and names.log make, and which files are lost'
+    shows 'Usage: hkms check'
+    shows '          damaged names AT     names.log is damaged at byte AT'
 done
 
 for word in --version -V; do
@@ -108,6 +113,9 @@ refuses replay load
 refuses replay load --help
 refuses load
 refuses load 1 2
+refuses check 1
+refuses check check
+refuses checks
 refuses serve 9600
 refuses serve replay
 refuses serve -p 9600
@@ -153,6 +161,7 @@ refuses replay --version
 refuses pipe -V
 refuses serve --version
 refuses load --version
+refuses check --version
 
 # Words that are not ASCII.
 refuses $'r\xc3\xa9play'
@@ -176,7 +185,7 @@ left=$(cd "$room" && { "$hkms" pipes >/dev/null 2>&1; cat; } <<<'kms alice names
     failures=$((failures + 1))
 }
 
-# No word but a command makes a log, and `load` makes none.
+# No word but a command makes a log, and `load` and `check` make none.
 if [ -n "$(ls -A "$room")" ]; then
     printf '%s: the folder has %s\n' "$0" "$(ls -A "$room")"
     failures=$((failures + 1))

@@ -63,11 +63,16 @@ pub load : NamesCommand line.hkms (codes "load")
 unfolding clap_on_literals
 load = record { met = refl; other = refl; entered = λ rest. refl }
 
+pub check : NamesCommand line.hkms (codes "check")
+unfolding clap_on_literals
+check = record { met = refl; other = refl; entered = λ rest. refl }
+
 names_command : (command : Text) → IsCommand command → NamesCommand line.hkms command
 names_command command (inl is) = subst (NamesCommand line.hkms) (sym is) replay
 names_command command (inr (inl is)) = subst (NamesCommand line.hkms) (sym is) pipe
 names_command command (inr (inr (inl is))) = subst (NamesCommand line.hkms) (sym is) serve
-names_command command (inr (inr (inr is))) = subst (NamesCommand line.hkms) (sym is) load
+names_command command (inr (inr (inr (inl is)))) = subst (NamesCommand line.hkms) (sym is) load
+names_command command (inr (inr (inr (inr is)))) = subst (NamesCommand line.hkms) (sym is) check
 
 pub says_in_folder : (folder : Text) (front : List Text) (command : Text) (rest : List Text) → SpellsFolder folder front → IsCommand command
     → SaysInFolder line.hkms order_named folder (front ++ command ∷ rest) (command ∷ rest)

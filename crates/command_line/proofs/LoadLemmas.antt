@@ -15,7 +15,7 @@ use Rattle.clap_lines.proofs.OrderLemmas.{refused_by_clap}
 use Rattle.command_line.specs.Line as line
 use Rattle.command_line.specs.Orders.{HasRightCount, IsOrderOf, IsRightCount, Names, conns_at, count_at, in_range, line_fault, load_order, number_at, order_named, places_at, port_at, serve_order}
 use Rattle.command_line.specs.declared.order.Order.{Order}
-use Rattle.command_line.specs.declared.order.Order.TheVariants.{Replay, Pipe, Serve, Load, Help, Version}
+use Rattle.command_line.specs.declared.order.Order.TheVariants.{Replay, Pipe, Serve, Load, Check, Help, Version}
 use Rattle.command_line.proofs.NumberLemmas.{IsNumberWord, IsRefusedWord, number_at-word, number_word, other_number}
 use Rattle.command_line.proofs.SpellingLemmas.{Reading, reading_at}
 
@@ -70,17 +70,18 @@ no_load None conns places count e = cc
 
 entered_count : (entered : Option (Text × List Row)) (count : ℕ) → order_at order_named entered ≡ Some (Load count) → IsRightCount count
 entered_count None count e = cc
-entered_count (Some command) count e = by (bytes_eq command.0 (codes "serve")) (bytes_eq command.0 (codes "load")) (bytes_eq command.0 (codes "replay")) (bytes_eq command.0 (codes "pipe")) e
+entered_count (Some command) count e = by (bytes_eq command.0 (codes "serve")) (bytes_eq command.0 (codes "load")) (bytes_eq command.0 (codes "replay")) (bytes_eq command.0 (codes "pipe")) (bytes_eq command.0 (codes "check")) e
   where
-    by : (serves loads replays pipes : Bool)
+    by : (serves loads replays pipes checks : Bool)
         → (if serves then serve_order (port_at command.1) (conns_at command.1) (places_at command.1)
-        else (if loads then load_order (count_at command.1) else (if replays then Some Replay else (if pipes then Some Pipe else None)))) ≡ Some (Load count)
+        else (if loads then load_order (count_at command.1) else (if replays then Some Replay else (if pipes then Some Pipe else (if checks then Some Check else None))))) ≡ Some (Load count)
         → IsRightCount count
-    by true loads replays pipes e = absurd (no_load (port_at command.1) (conns_at command.1) (places_at command.1) count e)
-    by false true replays pipes e = counted_at (first_of (codes "count") command.1) count (of_load (count_at command.1) count e)
-    by false false true pipes e = cc
-    by false false false true e = cc
-    by false false false false e = cc
+    by true loads replays pipes checks e = absurd (no_load (port_at command.1) (conns_at command.1) (places_at command.1) count e)
+    by false true replays pipes checks e = counted_at (first_of (codes "count") command.1) count (of_load (count_at command.1) count e)
+    by false false true pipes checks e = cc
+    by false false false true checks e = cc
+    by false false false false true e = cc
+    by false false false false false e = cc
 
 right_count : (order : Order) (words : List Text) → IsOrderOf order words → HasRightCount order
 right_count Replay words answers = tt
@@ -89,6 +90,7 @@ right_count (Serve port conns places) words answers = tt
 right_count (Load count) words (inl read) = entered_count (subcommand_of line.hkms words) count read.1
 right_count (Load count) words (inr (inl help)) = absurd help.0
 right_count (Load count) words (inr (inr version)) = absurd version.0
+right_count Check words answers = tt
 right_count (Help text) words answers = tt
 right_count (Version text) words answers = tt
 

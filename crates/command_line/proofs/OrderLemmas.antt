@@ -13,7 +13,7 @@ use Rattle.clap_lines.proofs.ParseLemmas.{IsKnownApp}
 use Rattle.command_line.specs.Line as line
 use Rattle.command_line.specs.Orders.{IsSpelled, Names, order_named}
 use Rattle.command_line.specs.declared.order.Order.{Order}
-use Rattle.command_line.specs.declared.order.Order.TheVariants.{Replay, Pipe, Serve, Load, Help, Version}
+use Rattle.command_line.specs.declared.order.Order.TheVariants.{Replay, Pipe, Serve, Load, Check, Help, Version}
 use Rattle.command_line.proofs.LoadLemmas.{load_reads}
 use Rattle.command_line.proofs.SpellingLemmas.{Reading, reads_places, serve_reads}
 
@@ -35,6 +35,10 @@ pub pipe_is_named : Names Pipe (codes "pipe" ∷ [])
 unfolding clap_on_literals
 pipe_is_named = record { no_fault = refl; command = refl }
 
+pub check_is_named : Names Check (codes "check" ∷ [])
+unfolding clap_on_literals
+check_is_named = record { no_fault = refl; command = refl }
+
 replay_reads : Reading (codes "replay" ∷ []) Replay
 unfolding Reading
 replay_reads = replay_is_named
@@ -42,6 +46,10 @@ replay_reads = replay_is_named
 pipe_reads : Reading (codes "pipe" ∷ []) Pipe
 unfolding Reading
 pipe_reads = pipe_is_named
+
+check_reads : Reading (codes "check" ∷ []) Check
+unfolding Reading
+check_reads = check_is_named
 
 -- words that spell an order
 
@@ -52,6 +60,7 @@ spelled (Serve port conns places) words (inl (at_a_time, port_words, conns_words
     serve_reads port conns places words port_words conns_words at_a_time port_is conns_is order
 spelled (Serve port conns places) words (inr (port_is, conns_is, places_words, places_is, is)) = reads_places port conns places words places_words port_is conns_is places_is is
 spelled (Load count) words s = load_reads count words s.0 s.1
+spelled Check words s = rw s check_reads
 spelled (Help text) words s = absurd s
 spelled (Version text) words s = absurd s
 

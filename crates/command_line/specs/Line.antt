@@ -57,4 +57,4 @@ with_load program = with_subcommand program load.top
 
 -- the program with its commands
 abbrev pub hkms : App
-hkms = with_load (with_serve (with_plain (with_plain top (codes "replay")) (codes "pipe")))
+hkms = with_plain (with_load (with_serve (with_plain (with_plain top (codes "replay")) (codes "pipe")))) (codes "check")

@@ -12,7 +12,7 @@ use Rattle.clap_lines.specs.declared.told.Told.{Told}
 use Rattle.clap_lines.specs.declared.told.Told.TheVariants as told
 use Rattle.command_line.specs.Line as line
 use Rattle.command_line.specs.declared.order.Order.{Order}
-use Rattle.command_line.specs.declared.order.Order.TheVariants.{Replay, Pipe, Serve, Load, Help, Version}
+use Rattle.command_line.specs.declared.order.Order.TheVariants.{Replay, Pipe, Serve, Load, Check, Help, Version}
 
 -- the number, if it is one from 1 to `most`
 abbrev pub in_range : ℕ → ℕ → Option ℕ
@@ -57,7 +57,8 @@ order_named name rows =
     if bytes_eq name (codes "serve") then serve_order (port_at rows) (conns_at rows) (places_at rows)
     else (if bytes_eq name (codes "load") then load_order (count_at rows)
     else (if bytes_eq name (codes "replay") then Some Replay
-    else (if bytes_eq name (codes "pipe") then Some Pipe else None)))
+    else (if bytes_eq name (codes "pipe") then Some Pipe
+    else (if bytes_eq name (codes "check") then Some Check else None))))
 
 -- The faults of the words: those that clap finds, or else that of the values. Clap takes `+1` and `01` for numbers, too.
 abbrev pub line_fault : List Text → Kinds
@@ -117,6 +118,7 @@ IsSpelled (Serve port conns places) words =
     ⊎ ((port ≡ 9600) × (conns ≡ 4294967295) × (places_words : List Text) × IsOption (codes "--connections") 16 1024 places places_words
     × (words ≡ codes "serve" ∷ places_words))
 IsSpelled (Load count) words = IsRightCount count × (words ≡ codes "load" ∷ decimal count ∷ [])
+IsSpelled Check words = words ≡ codes "check" ∷ []
 IsSpelled (Help text) words = ⊥
 IsSpelled (Version text) words = ⊥
 
@@ -126,7 +128,7 @@ IsHelpFlag word = (word ≡ codes "--help") ⊎ (word ≡ codes "-h")
 
 -- the word is the name of a command
 abbrev pub IsCommand : Text → Type 0
-IsCommand word = (word ≡ codes "replay") ⊎ ((word ≡ codes "pipe") ⊎ ((word ≡ codes "serve") ⊎ (word ≡ codes "load")))
+IsCommand word = (word ≡ codes "replay") ⊎ ((word ≡ codes "pipe") ⊎ ((word ≡ codes "serve") ⊎ ((word ≡ codes "load") ⊎ (word ≡ codes "check"))))
 
 -- the words begin with a request for help with the program or with a command, whatever follows
 abbrev pub AsksForHelp : List Text → Type 0

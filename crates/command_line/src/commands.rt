@@ -141,5 +141,6 @@ pub(crate) fn hkms<'a>(alloc: Global) -> Result<Command<'a>, AllocError>
     let half = with_plain(alloc, program, "replay", help::REPLAY, help::REPLAY_NOTES)?;
     let most = with_plain(alloc, half, "pipe", help::PIPE, help::PIPE_NOTES)?;
     let served = with_serve(alloc, most)?;
-    with_load(alloc, served)
+    let loaded = with_load(alloc, served)?;
+    with_plain(alloc, loaded, "check", help::CHECK, help::CHECK_NOTES)
 }

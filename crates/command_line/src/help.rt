@@ -16,12 +16,13 @@ pub(crate) const PROGRAM_NOTES: &str =
                        that it has begun
 A log that is missing is made, for its owner alone to read. Where there is no
 kms-acls.properties, everybody may do everything. The pipe need not be there. One
-process at a time can use the logs of a folder.
+process at a time can use the logs of a folder. 'check' reads the two logs alone and
+makes none, and it may run beside that process.
 
 Exit status:
    0  the input was read to its end, or a request closed the connection, or all
       connections of 'serve' were served, or a byte came on hkms.stop, or 'load'
-      came to its end
+      or 'check' came to its end
    2  the command line has a mistake; nothing was read, and no log was made
    3  the input or kms-acls.properties has a mistake
    4  keys.log or names.log is damaged
@@ -185,3 +186,38 @@ of files that got another encrypted key. It is the same in each run.
      8    none                 the output cannot be written
 
 docs/operations.md says what it is good for.";
+
+/// The purpose of `check`, in one line.
+pub(crate) const CHECK: &str = "Says what keys.log and names.log make, and which files are lost";
+
+/// The output and the exit statuses of `check`.
+pub(crate) const CHECK_NOTES: &str =
+    "It reads both logs and changes neither. It takes no lock, so it may run beside
+'serve'. A log that is missing is taken for an empty one and is not made. Standard
+input and kms-acls.properties are not read.
+
+Standard output gets a line for each lost file, and a line of numbers, such as
+
+    lost /z/f k@0
+    check keys=1 versions=2 directories=2 files=5 zones=1 snapshots=0 reencryptions=0 lost=1
+
+A file is lost if its encrypted key is under a version of a key that keys.log does
+not have: the key was deleted, or the two logs do not belong together. A key that
+was made anew under the same name has versions of the same names, so its older
+files are not seen as lost. The files of snapshots are not looked at.
+
+The numbers are those of keys, of versions of all keys, of directories with the
+root, of files, of encryption zones, of snapshots, of zones whose re-encryption has
+not ended, and of lost files.
+
+  Status  Last line            Cause
+     0    the line above       both logs could be read, whether files are lost or not
+     4    damaged keys AT      keys.log is damaged at byte AT
+          damaged names AT     names.log is damaged at byte AT
+     5    store fault          the folder or a log cannot be read
+     6    no memory            there was no memory
+     7    no random source     /dev/urandom cannot be read
+     8    none                 the output cannot be written
+    10    openings spent       a log was opened 4,294,967,295 times
+
+docs/operations.md says when to use it.";

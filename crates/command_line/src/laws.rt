@@ -8,12 +8,13 @@ ghost use Rattle.command_line.specs.Line as line;
 ghost use Rattle.command_line.specs.Orders.{IsCommand, IsRightCount, Names, line_fault, order_named};
 ghost use Rattle.command_line.specs.declared.order.Order.TheVariants as order;
 
-/// As clap reads them, the word `replay` names the replay, the word `pipe` the connection, and the
-/// word `serve` the server on port 9600, which ends after 4,294,967,295 connections and serves at most
-/// 16 at a time.
+/// As clap reads them, the word `replay` names the replay, the word `pipe` the connection, the word
+/// `check` the check of both logs, and the word `serve` the server on port 9600, which ends after
+/// 4,294,967,295 connections and serves at most 16 at a time.
 pub fn commands_alone_are_named()
     ensures replay { Names order.Replay (codes "replay" ∷ []) }
     ensures pipe { Names order.Pipe (codes "pipe" ∷ []) }
+    ensures check { Names order.Check (codes "check" ∷ []) }
     ensures serve { Names (order.Serve 9600 4294967295 16) (codes "serve" ∷ []) }
 {}
 

@@ -22,6 +22,8 @@ pub enum Order {
         /// From 1 to 20,000.
         count: u32,
     },
+    /// Write what both logs make, without changing them.
+    Check,
     /// Write this help text to standard output and end with status 0. It ends with a line feed.
     Help(String),
     /// Write this text, the program's name and version, to standard output and end with status 0.

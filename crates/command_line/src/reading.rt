@@ -90,6 +90,8 @@ fn order_named(name: &str, options: &ArgMatches) -> Option<Order>
         Some(Order::Replay)
     } else if name == "pipe" {
         Some(Order::Pipe)
+    } else if name == "check" {
+        Some(Order::Check)
     } else {
         None
     }
@@ -131,7 +133,7 @@ fn read<'a, S: AsStr>(alloc: Global, words: &'a [S]) -> Result<Order, OrderFault
 
 /// Parses the words of a command line, without the program's own name.
 ///
-/// `replay` and `pipe` are commands, of one word each. `serve` is a command with the options
+/// `replay`, `pipe` and `check` are commands, of one word each. `serve` is a command with the options
 /// `--port N`, `--conns N` and `--connections N`, each also with `=` before its number. `load` is a command
 /// whose next word is a number from 1 to 20,000. Numbers are decimal, without a sign or a leading zero. `--help`
 /// or `-h` asks for a help text, and `--version` or `-V` for the version; what follows them counts for nothing.

@@ -1,3 +1,4 @@
+mod CheckLemmas
 mod LoadLemmas
 mod OrderLemmas
 mod ServerHeadlineLemmas

@@ -32,10 +32,10 @@ kept_as_before : (past : Past) (yard yard' : YardState) → SoundFiles past yard
 kept_as_before past yard yard' sound same = subst (λ (y : YardState). ImageKept past y.reads) (sym same) (image_kept past yard.reads sound)
 
 -- if there is no memory to read the words, yard and door are as they were, and so is all that an order leaves as it was
-pub unread_wants : (order : OrderRead) (replays pipes : Type 0) (serves : ℕ → ℕ → Type 0) (loads : ℕ → Type 0) (same idle : Type 0) (written now : Option (List ℕ)) (status : ℕ) → order ≡ Err NoMemory
-    → Obeys order replays pipes serves loads same written now status → LeavesServing order idle → WantsMemory (same × idle) written now status
-unread_wants order replays pipes serves loads same idle written now status is obeys leaves =
-    let wants : WantsMemory same written now status = subst (λ (o : OrderRead). Obeys o replays pipes serves loads same written now status) is obeys in
+pub unread_wants : (order : OrderRead) (replays pipes : Type 0) (serves : ℕ → ℕ → Type 0) (loads : ℕ → Type 0) (checks same idle : Type 0) (written now : Option (List ℕ)) (status : ℕ) → order ≡ Err NoMemory
+    → Obeys order replays pipes serves loads checks same written now status → LeavesServing order idle → WantsMemory (same × idle) written now status
+unread_wants order replays pipes serves loads checks same idle written now status is obeys leaves =
+    let wants : WantsMemory same written now status = subst (λ (o : OrderRead). Obeys o replays pipes serves loads checks same written now status) is obeys in
     ((wants.0, subst (λ (o : OrderRead). LeavesServing o idle) is leaves), wants.1)
 
 module _ {D I O : Type 0} (state : D → DiskState) (to_come : ChaCha → ℕ → ℕ) (serves : Serving I O D ChaCha) (unread same : Type 0) (past : Past) (port conns : ℕ) (acls acls' : Option (List ℕ)) (words words' : ℕ → ℕ) (yard yard' : YardState)

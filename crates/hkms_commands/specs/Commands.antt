@@ -18,6 +18,8 @@ use Rattle.clap_lines.specs.declared.told.OrderFault.{OrderFault}
 use Rattle.command_line.specs.Orders.{Names}
 use Rattle.command_line.specs.declared.order.Order.{Order}
 use Rattle.command_line.specs.declared.order.Order.TheVariants.{Serve}
+use Rattle.check_run.specs.Checks.{Checks}
+use Rattle.check_run.specs.Looks.{OnlyLooks}
 use Rattle.load_run.specs.Load.{Load}
 use Rattle.hk_runs.specs.Pipe.{Pipes}
 use Rattle.hk_runs.specs.Replay.{Replays}
@@ -51,6 +53,16 @@ module _ {D A S K W : Type 0} (of_out : sinks.Ghosts K) (old new : Environment D
   -- such a load, or there is no memory to read the words
   abbrev pub LoadsSteps : random.Ghosts W → ℕ → ℕ → Type 0
   LoadsSteps of_rand count status = LoadsAlone of_rand count status ⊎ LacksMemory status
+
+  -- a check, which only reads the disk, and uses nothing else but the output
+  abbrev pub ChecksAlone : disks.Ghosts D → ℕ → Type 0
+  ChecksAlone of_disk status =
+      Checks (of_out.written old.out) (of_out.written new.out) status (of_disk.state old.disk) (of_disk.state new.disk) × OnlyLooks (of_disk.state old.disk) (of_disk.state new.disk)
+      × ((new.acls ≡ old.acls) × (new.input ≡ old.input) × (new.rand ≡ old.rand) × same_clock)
+
+  -- such a check, or there is no memory to read the words
+  abbrev pub ChecksLogs : disks.Ghosts D → ℕ → Type 0
+  ChecksLogs of_disk status = ChecksAlone of_disk status ⊎ LacksMemory status
 
 module _ {D A S K W : Type 0} (of_disk : disks.Ghosts D) (of_acls : sources.Ghosts A) (of_input : sources.Ghosts S) (of_out : sinks.Ghosts K) (of_rand : random.Ghosts W) (old new : Environment D A S K W) where
   -- a replay, which has read its input to the end if the status is 0
@@ -111,4 +123,5 @@ module _ {D A S K W C Y O P I U H : Type 0} (of_acls : sources.Ghosts A) (of_out
   CarriesOut of_disk of_input order status =
       Obeys order (ReplaysToEnd of_disk of_acls of_input of_out of_rand old.env new.env status) (Pipes of_disk of_acls of_input of_out of_rand old.env new.env (new.clock ≡ old.clock) status)
       (λ port conns. ServesAlone port conns status) (λ count. LoadsAlone of_out old.env new.env (new.clock ≡ old.clock) of_rand count status)
+      (ChecksAlone of_out old.env new.env (new.clock ≡ old.clock) of_disk status)
       (ReadsNothing old new) (of_out.written old.env.out) (of_out.written new.env.out) status

@@ -6,9 +6,10 @@ ghost use Rattle.command_line.specs.Orders.{FindsHelp, FindsVersion, Names, line
 ghost use Rattle.command_line.specs.declared.order.Order.TheVariants as order;
 ghost use Rattle.command_io.specs.Environment.{environment};
 ghost use Rattle.hk_runs.specs.Headline.{FromSoundFiles, PipeKeeps, ReplayKeeps};
-ghost use Rattle.hkms_commands.specs.Commands.{CarriesOut, KeepsByWords, LoadsSteps, PipesRequests, RefusesWords, ReplaysLines, ServesByWords, ShowsOwnText, given};
-ghost use Rattle.hkms_commands.specs.Orders.{ByLogs, LeavesServing, UsesDisk, UsesYard};
+ghost use Rattle.hkms_commands.specs.Commands.{CarriesOut, ChecksLogs, KeepsByWords, LoadsSteps, PipesRequests, RefusesWords, ReplaysLines, ServesByWords, ShowsOwnText, given};
+ghost use Rattle.hkms_commands.specs.Orders.{ByLogs, LeavesServing, UsesDisk, UsesLogs, UsesYard};
 
+use check_run::run_check;
 use command_io::{show, show_made};
 use command_line::{Order, OrderFault, read_order};
 use hk_base::{Clock, Disk, Sink, Source, Text, Words};
@@ -55,13 +56,14 @@ fn obey<
         ByLogs order
         (Rose (S.faults input.old) (S.faults input.new) ⊎
         Rose (A.faults acls.old) (A.faults acls.new))
-        (Rose (A.faults acls.old) (A.faults acls.new)) }
+        ⊥ (Rose (A.faults acls.old) (A.faults acls.new)) }
     ensures write { result ≡ 8 → Rose (K.faults out.old) (K.faults out.new) }
     ensures idle { LeavesServing order ((yard.new ≡ yard.old) × (door.new ≡ door.old)) }
     ensures store { result ≡ 5 →
         ByLogs order (Rose (D.state disk.old).faults (D.state disk.new).faults)
+        (Rose (D.state disk.old).faults (D.state disk.new).faults)
         (Rose (Y.state yard.old).faults (Y.state yard.new).faults) }
-    ensures door { result ≡ 9 → ByLogs order ⊥ (Rose (P.faults door.old) (P.faults door.new)) }
+    ensures door { result ≡ 9 → ByLogs order ⊥ ⊥ (Rose (P.faults door.old) (P.faults door.new)) }
 {
     match order {
         Ok(Order::Replay) => run_replay(alloc, acls, input, out, disk, rand),
@@ -76,6 +78,7 @@ fn obey<
             rt, alloc, acls, out, yard, rand, clock, door, port, conns, places,
         ),
         Ok(Order::Load { count }) => run_load(alloc, count, out, rand),
+        Ok(Order::Check) => run_check(alloc, disk, out),
         Ok(Order::Help(text)) => show_made(out, text),
         Ok(Order::Version(text)) => show_made(out, text),
         Err(OrderFault::Usage) => show(out, b"usage refused\n", 2),
@@ -97,11 +100,14 @@ fn obey<
 /// `load` does a load over a disk of its own, in memory, and writes the line that sums it up. It uses the
 /// output and the random words alone.
 ///
+/// `check` writes what the two logs on the disk make, and which files are lost. It only reads the disk, and
+/// uses nothing else but the output.
+///
 /// Help and version are printed with status 0, whatever other words there are. A mistake in the words
 /// gives status 2 and the line `usage refused`. If allocation fails while the words are read, the status
-/// is 6 and the line is `no memory`. Anything but the four commands uses the output alone. A status
+/// is 6 and the line is `no memory`. Anything but the five commands uses the output alone. A status
 /// that tells of a fault comes only if the count of what the command uses rose: `replay` and `pipe`
-/// use the disk and the input, `serve` the yard and the door.
+/// use the disk and the input, `check` the disk, `serve` the yard and the door.
 pub fn hkms<
     R: Threads + Wait + Sync,
     A: Source,
@@ -171,6 +177,11 @@ pub fn hkms<
         (environment disk.old acls.old input.old out.old rand.old)
         (environment disk.new acls.new input.new out.new rand.new) (clock.new ≡ clock.old) W.Words
         count result }
+    ensures check { Names order.Check words.now →
+        ChecksLogs K.Sink
+        (environment disk.old acls.old input.old out.old rand.old)
+        (environment disk.new acls.new input.new out.new rand.new) (clock.new ≡ clock.old) D.Disk
+        result }
     ensures idle { UsesYard words.now ⊎ ((yard.new ≡ yard.old) × (door.new ≡ door.old)) }
     ensures read { result ≡ 7 →
         (UsesDisk words.now ×
@@ -179,7 +190,7 @@ pub fn hkms<
         (UsesYard words.now × Rose (A.faults acls.old) (A.faults acls.new)) }
     ensures write { result ≡ 8 → Rose (K.faults out.old) (K.faults out.new) }
     ensures store { result ≡ 5 →
-        (UsesDisk words.now × Rose (D.state disk.old).faults (D.state disk.new).faults) ⊎
+        (UsesLogs words.now × Rose (D.state disk.old).faults (D.state disk.new).faults) ⊎
         (UsesYard words.now × Rose (Y.state yard.old).faults (Y.state yard.new).faults) }
     ensures door { result ≡ 9 → UsesYard words.now × Rose (P.faults door.old) (P.faults door.new) }
 {

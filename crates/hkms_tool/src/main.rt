@@ -8,6 +8,7 @@ ghost use Rattle.hkms_tool.specs.Starting.{EndsUnopened};
 ghost use Rattle.program_start.specs.Starting.{EndsProgram, EndsWith};
 
 mod announcing;
+mod looking;
 mod opening;
 mod stopping;
 
@@ -17,7 +18,7 @@ use disk_kinds::{Alarm, ChaWords, PlainDisk, Reading, WallClock, Writing};
 use door_kinds::{MemDoor, MemYard};
 use hk_base::{Disk, Source, Text};
 use hkms_commands::hkms;
-use opening::{Unopened, enter_given, open_disk, open_yard};
+use opening::{Unopened, enter_given, open_disk, open_look, open_yard};
 use program_start::{PROPERTIES, end_with, fill_standard, random_seed, words_given};
 use server_parts::{Door, Yard};
 use std::alloc::Global;
@@ -208,6 +209,19 @@ fn serve<T: Threads + Wait + Sync>(
     serve_opened(rt, threads, words, seed, alarm, opened)
 }
 
+/// Checks the logs of the folder that the words of the command line give, or else of the current one.
+fn check_logs<T: Threads + Wait + Sync>(
+    rt: &HostRuntime,
+    threads: &T,
+    words: &[Text],
+    seed: [u8; 32],
+) -> u8
+    ensures { result ≡ 2 → IsMistake (line_fault words.now) }
+{
+    let opened = open_look(rt, rt.alloc(), words, rt.stderr());
+    run_opened(rt, threads, words, Output::Lines, seed, opened)
+}
+
 /// Runs words that name no command, or one without files. Opens no file.
 fn run_without_files<T: Threads + Wait + Sync>(
     rt: &HostRuntime,
@@ -262,6 +276,7 @@ fn run<T: Threads + Wait + Sync>(
                 open_disk(rt, alloc, words, rt.stderr()),
             )
         }
+        Ok(Order::Check) => check_logs(rt, threads, words, seed),
         Ok(Order::Serve { .. }) => serve(rt, threads, words, seed),
         Err(OrderFault::NoMemory) => report_fault(rt, Output::Lines, b"no memory\n", 6),
         _ => run_without_files(rt, threads, words, seed),

@@ -2,6 +2,7 @@
 ghost use Rattle.std.specs.Prelude.{IfOk, IsTrue};
 ghost use Rattle.door_kinds.specs.Yards.{file_yard_state};
 
+use crate::looking::LookDisk;
 use command_line::read_folder;
 use disk_kinds::{Alarm, FileDisk, Reading};
 use door_kinds::FileYard;
@@ -45,6 +46,21 @@ pub fn open_disk<R: Files<File = File> + Env>(
     let acls = open_properties(files).map_err(Unopened::Properties)?;
     match FileDisk::open(files, alloc, ".", errors) {
         Ok(disk) => Ok((acls, disk)),
+        Err(error) => Err(Unopened::Logs(error)),
+    }
+}
+
+/// Opens both logs of the folder that the words of the command line give, or else of the current one, for
+/// reading alone, beside an empty source in place of the properties. Faults of the logs are told on `errors`.
+pub fn open_look<R: Files<File = File> + Env>(
+    files: &R,
+    alloc: Global,
+    words: &[Text],
+    errors: Stderr,
+) -> Result<(Reading<io::Empty>, LookDisk), Unopened> {
+    enter_given(files, alloc, words, errors)?;
+    match LookDisk::open(files, errors) {
+        Ok(disk) => Ok((Reading::new(io::empty()), disk)),
         Err(error) => Err(Unopened::Logs(error)),
     }
 }

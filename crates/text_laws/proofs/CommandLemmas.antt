@@ -130,8 +130,10 @@ none_above command flag more (inr (inl c)) (inl f) = rw (c, f) (stopped_fault pr
 none_above command flag more (inr (inl c)) (inr f) = rw (c, f) (stopped_fault program.top (names_of program) (start (codes "pipe")) (codes "pipe", codes "-h" ∷ []) more)
 none_above command flag more (inr (inr (inl c))) (inl f) = rw (c, f) (stopped_fault program.top (names_of program) (start (codes "serve")) (codes "serve", codes "--help" ∷ []) more)
 none_above command flag more (inr (inr (inl c))) (inr f) = rw (c, f) (stopped_fault program.top (names_of program) (start (codes "serve")) (codes "serve", codes "-h" ∷ []) more)
-none_above command flag more (inr (inr (inr c))) (inl f) = rw (c, f) (stopped_fault program.top (names_of program) (start (codes "load")) (codes "load", codes "--help" ∷ []) more)
-none_above command flag more (inr (inr (inr c))) (inr f) = rw (c, f) (stopped_fault program.top (names_of program) (start (codes "load")) (codes "load", codes "-h" ∷ []) more)
+none_above command flag more (inr (inr (inr (inl c)))) (inl f) = rw (c, f) (stopped_fault program.top (names_of program) (start (codes "load")) (codes "load", codes "--help" ∷ []) more)
+none_above command flag more (inr (inr (inr (inl c)))) (inr f) = rw (c, f) (stopped_fault program.top (names_of program) (start (codes "load")) (codes "load", codes "-h" ∷ []) more)
+none_above command flag more (inr (inr (inr (inr c)))) (inl f) = rw (c, f) (stopped_fault program.top (names_of program) (start (codes "check")) (codes "check", codes "--help" ∷ []) more)
+none_above command flag more (inr (inr (inr (inr c)))) (inr f) = rw (c, f) (stopped_fault program.top (names_of program) (start (codes "check")) (codes "check", codes "-h" ∷ []) more)
 
 stops_at : (command flag : Text) (more : List Text) → IsCommand command → IsHelpFlag flag
     → (walk program.top.rules (names_of program) nothing_held (command ∷ flag ∷ more)).stopped ≡ Some (command, flag ∷ more)
@@ -142,8 +144,10 @@ stops_at command flag more (inr (inl c)) (inl f) = rw (c, f) (ap (λ (w : Walk).
 stops_at command flag more (inr (inl c)) (inr f) = rw (c, f) (ap (λ (w : Walk). w.stopped) (sym (walk_stopped program.top.rules (names_of program) (start (codes "pipe")) (codes "pipe") (codes "-h" ∷ []) more)))
 stops_at command flag more (inr (inr (inl c))) (inl f) = rw (c, f) (ap (λ (w : Walk). w.stopped) (sym (walk_stopped program.top.rules (names_of program) (start (codes "serve")) (codes "serve") (codes "--help" ∷ []) more)))
 stops_at command flag more (inr (inr (inl c))) (inr f) = rw (c, f) (ap (λ (w : Walk). w.stopped) (sym (walk_stopped program.top.rules (names_of program) (start (codes "serve")) (codes "serve") (codes "-h" ∷ []) more)))
-stops_at command flag more (inr (inr (inr c))) (inl f) = rw (c, f) (ap (λ (w : Walk). w.stopped) (sym (walk_stopped program.top.rules (names_of program) (start (codes "load")) (codes "load") (codes "--help" ∷ []) more)))
-stops_at command flag more (inr (inr (inr c))) (inr f) = rw (c, f) (ap (λ (w : Walk). w.stopped) (sym (walk_stopped program.top.rules (names_of program) (start (codes "load")) (codes "load") (codes "-h" ∷ []) more)))
+stops_at command flag more (inr (inr (inr (inl c)))) (inl f) = rw (c, f) (ap (λ (w : Walk). w.stopped) (sym (walk_stopped program.top.rules (names_of program) (start (codes "load")) (codes "load") (codes "--help" ∷ []) more)))
+stops_at command flag more (inr (inr (inr (inl c)))) (inr f) = rw (c, f) (ap (λ (w : Walk). w.stopped) (sym (walk_stopped program.top.rules (names_of program) (start (codes "load")) (codes "load") (codes "-h" ∷ []) more)))
+stops_at command flag more (inr (inr (inr (inr c)))) (inl f) = rw (c, f) (ap (λ (w : Walk). w.stopped) (sym (walk_stopped program.top.rules (names_of program) (start (codes "check")) (codes "check") (codes "--help" ∷ []) more)))
+stops_at command flag more (inr (inr (inr (inr c)))) (inr f) = rw (c, f) (ap (λ (w : Walk). w.stopped) (sym (walk_stopped program.top.rules (names_of program) (start (codes "check")) (codes "check") (codes "-h" ∷ []) more)))
 
 help_below : (command flag : Text) (more : List Text) → IsCommand command → IsHelpFlag flag → entered_fault program (Some (command, flag ∷ more)) ≡ DisplayHelp ∷ []
 unfolding clap_on_literals
@@ -153,8 +157,10 @@ help_below command flag more (inr (inl c)) (inl f) = rw (c, f) refl
 help_below command flag more (inr (inl c)) (inr f) = rw (c, f) refl
 help_below command flag more (inr (inr (inl c))) (inl f) = rw (c, f) refl
 help_below command flag more (inr (inr (inl c))) (inr f) = rw (c, f) refl
-help_below command flag more (inr (inr (inr c))) (inl f) = rw (c, f) refl
-help_below command flag more (inr (inr (inr c))) (inr f) = rw (c, f) refl
+help_below command flag more (inr (inr (inr (inl c)))) (inl f) = rw (c, f) refl
+help_below command flag more (inr (inr (inr (inl c)))) (inr f) = rw (c, f) refl
+help_below command flag more (inr (inr (inr (inr c)))) (inl f) = rw (c, f) refl
+help_below command flag more (inr (inr (inr (inr c)))) (inr f) = rw (c, f) refl
 
 first_kind : (some below rest : Kinds) → some ≡ [] → below ≡ DisplayHelp ∷ [] → or_else some (or_else below rest) ≡ DisplayHelp ∷ []
 first_kind some below rest none is = rw (none, is) refl

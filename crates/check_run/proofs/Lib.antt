@@ -1,0 +1,6 @@
+mod Examples
+mod FoundLemmas
+mod LookLemmas
+mod RowLemmas
+mod SnapshotLemmas
+mod VersionLemmas

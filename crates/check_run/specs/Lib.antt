@@ -1,0 +1,4 @@
+pub mod Checks
+pub mod Looks
+pub mod Rows
+pub mod Summary
