@@ -1,0 +1,4 @@
+mod ByZone
+mod Fronts
+mod ImageExamples
+mod ImageLaws

@@ -1,0 +1,6 @@
+//! Images of the namesystem's table: the bytes that stand for it.
+#![tactic(auto)]
+
+mod laws;
+
+pub use laws::an_image_stands_for_one_table;
