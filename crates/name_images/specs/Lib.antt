@@ -1,3 +1,4 @@
 pub mod Fields
 pub mod Images
 pub mod Laws
+pub mod Pieces

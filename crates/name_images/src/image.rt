@@ -1,0 +1,59 @@
+//! Bytes that are told piece by piece, of which a buffer keeps some. It takes no memory.
+ghost use Rattle.std.specs.Prelude.{ℕ, List, ◌≡◌, ◌<◌, ◌≤◌, ◌+◌, ◌-◌, ◌++◌, length, nat_lt, slice_index_or, if◌then◌else◌};
+ghost use Rattle.name_images.specs.Pieces.{IsTold, kept_byte};
+
+/// Copies the first bytes, as many as there is room for.
+fn copy_front(room: &mut [u8], bytes: &[u8])
+    ensures length { length room.new ≡ length room.old }
+    ensures copied { (i : ℕ) → i < length room.old →
+        slice_index_or room.new i 0 ≡
+        (if nat_lt i (length bytes.now) then slice_index_or bytes.now i 0
+        else slice_index_or room.old i 0) }
+{
+    let count = room.len().min(bytes.len());
+    let (front, _) = room.split_at_mut(count);
+    front.copy_from_slice(&bytes[..count]);
+}
+
+/// Copies bytes to the place `start` on, as many as there is room for.
+fn copy_from(buf: &mut [u8], start: usize, bytes: &[u8])
+    requires { start ≤ length buf.old }
+    ensures length { length buf.new ≡ length buf.old }
+    ensures before { (i : ℕ) → i < start → slice_index_or buf.new i 0 ≡ slice_index_or buf.old i 0 }
+    ensures copied { (i : ℕ) → start ≤ i → i < length buf.old →
+        slice_index_or buf.new i 0 ≡
+        (if nat_lt (i - start) (length bytes.now) then slice_index_or bytes.now (i - start) 0
+        else slice_index_or buf.old i 0) }
+{
+    let (_, room) = buf.split_at_mut(start);
+    copy_front(room, bytes);
+}
+
+/// Keeps those of the bytes after the first `seen` ones that have a place in the buffer, whose first
+/// byte is the one at the offset `at`.
+fn keep(buf: &mut [u8], at: u64, seen: u64, bytes: &[u8])
+    ensures length { length buf.new ≡ length buf.old }
+    ensures kept { (i : ℕ) → i < length buf.old →
+        slice_index_or buf.new i 0 ≡ kept_byte at seen bytes.now buf.old i }
+{
+    let skip = at.saturating_sub(seen);
+    let start = seen.saturating_sub(at);
+    if skip >= bytes.len() as u64 {
+        return;
+    }
+    if start >= buf.len() as u64 {
+        return;
+    }
+    copy_from(buf, start as usize, &bytes[skip as usize..]);
+}
+
+/// Tells the bytes after the first `seen` ones, and returns how many were told: at most the greatest
+/// number of 64 bits. The buffer keeps what falls into it, from the offset `at` on.
+pub fn put(buf: &mut [u8], at: u64, seen: u64, bytes: &[u8]) -> u64
+    ensures length { length buf.new ≡ length buf.old }
+    ensures told { (all : List ℕ) → IsTold at seen all buf.old →
+        IsTold at result (all ++ bytes.now) buf.new }
+{
+    keep(buf, at, seen, bytes);
+    seen.saturating_add(bytes.len() as u64)
+}
