@@ -105,7 +105,7 @@ from-end p from = go p from (length p - (length p - from)) (omega arith) (λ h. 
         cases a b e f = grind arith
     go (x ∷ p) (suc from) (suc k) h e f = go p from k (omega arith) (λ g. let i = e (omega arith) in omega arith) (λ g. let i = f (omega arith) in omega arith)
 
-get-row : (ns : List Node) (order : List ℕ) (at : ℕ) → at < length order → slice_get (rows_of ns order) at ≡ Some (entry_at ns (get_or order at 0))
+pub get-row : (ns : List Node) (order : List ℕ) (at : ℕ) → at < length order → slice_get (rows_of ns order) at ≡ Some (entry_at ns (get_or order at 0))
 get-row ns [] at h = absurd (omega arith)
 get-row ns (n ∷ order) zero h = refl
 get-row ns (n ∷ order) (suc at) h = get-row ns order at (omega arith)

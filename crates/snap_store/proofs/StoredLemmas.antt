@@ -110,6 +110,14 @@ module _ (ns : List FrozenNode) where
   holds-same rows (x ∷ xs) [] p c = absurd (omega arith)
   holds-same rows (x ∷ xs) (r ∷ rs) p c = ap (λ (b : Bool). at_or_below rows x.dir p || b) (holds-same rows xs rs p (omega arith))
 
+  -- the snapshot at an index
+  pub at-same : (xs : List Snapshot) (rs : List ℕ) (at : ℕ) (x : Snapshot) (r : ℕ) → length rs ≡ length xs → at < length xs → x ≡ get_or xs at x → r ≡ get_or rs at r
+      → slice_get (snapshots_of ns xs rs) at ≡ Some (record x { rows = rows_from ns r })
+  at-same [] rs at x r c lt e f = absurd (omega arith)
+  at-same (y ∷ xs) [] at x r c lt e f = absurd (omega arith)
+  at-same (y ∷ xs) (q ∷ rs) zero x r c lt e f = λ i. Some (record (sym e i) { rows = rows_from ns (sym f i) })
+  at-same (y ∷ xs) (q ∷ rs) (suc at) x r c lt e f = at-same xs rs at x r (omega arith) (omega arith) e f
+
   -- a name that is free
   pub free-key : (xs : List Snapshot) (rs : List ℕ) (dir : ℕ) (name : List ℕ) → length rs ≡ length xs → snapshot_named (snapshots_of ns xs rs) dir name ≡ None → snapshot_named xs dir name ≡ None
   free-key [] rs dir name c h = refl

@@ -5,4 +5,4 @@ mod order;
 mod reserved;
 mod snaps;
 
-pub use snaps::{MOST_SNAPSHOTS, Snaps};
+pub use snaps::{MOST_SNAPSHOTS, PlacedSnapshot, Snaps};

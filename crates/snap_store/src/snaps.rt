@@ -6,7 +6,7 @@ ghost use Rattle.std.specs.Option.{option_map, option_map_or};
 ghost use Rattle.std.specs.Ordering.{nat_cmp};
 ghost use Rattle.inode_tree.specs.Below.{at_or_above, at_or_below};
 ghost use Rattle.inode_tree.specs.Rows.{row_at};
-ghost use Rattle.frozen_nodes.specs.Forest.{AreBelow};
+ghost use Rattle.frozen_nodes.specs.Forest.{AreBelow, rows_from};
 ghost use Rattle.frozen_nodes.specs.Moves.{AllReached};
 ghost use Rattle.snap_store.specs.Ordered.{IsRisingBy};
 ghost use Rattle.snap_store.specs.Snapshots.{IsSnapshotReady, IsSnapshots, Snapshot, allowed_above, allowed_at_or_above, allowed_at_or_below, allowed_below, count_in, count_of, holds_snapshot, is_among, is_directory, is_named, key_of, list_in, names_of, no_snaps, rows_in, snapshot_named, table_after_allow, table_after_disallow, table_after_disallow_below, table_after_remove, table_after_take, with_id, without_below, without_id, zone_depth};
@@ -146,6 +146,16 @@ fn name_for(alloc: Global, kept: Option<Text>, name: &Text) -> Result<Text, NoMe
         }
         None => copy_of(alloc, name),
     }
+}
+
+/// A snapshot as it is read in order: its directory and its name, and the node of its directory among
+/// the nodes of all snapshots.
+#[derive(Clone, Copy)]
+pub struct PlacedSnapshot<'a> {
+    pub dir: u64,
+    pub name: &'a Text,
+    pub forest: &'a Forest,
+    pub root: u32,
 }
 
 /// The directories that may have snapshots, and the snapshots. In contracts their value is the ids
@@ -399,6 +409,42 @@ impl Snaps {
             Some(self.taken[first + at as usize].name())
         } else {
             None
+        }
+    }
+
+    /// Returns the ids of the directories that may have snapshots, in rising order.
+    pub fn allowed(&self) -> &[u64]
+        ensures { result.now ≡ self.now.table.allowed }
+    {
+        self.allowed.as_slice()
+    }
+
+    /// Returns the number of snapshots of all directories.
+    pub fn len(&self) -> usize
+        ensures { result ≡ length self.now.table.taken }
+    {
+        self.taken.len()
+    }
+
+    /// Returns the snapshot at index `at`, from 0, in the order of directory and name. It builds no
+    /// list of its rows: they are read node by node.
+    pub fn nth(&self, at: usize) -> PlacedSnapshot<'_>
+        requires { at < length self.now.table.taken }
+        ensures snapshot { slice_get self.now.table.taken at ≡
+            Some
+            (record {
+              dir = result.dir;
+              name = result.name.now;
+              rows = rows_from result.forest.now.nodes result.root;
+            }) }
+        ensures within { result.root < length result.forest.now.nodes }
+    {
+        let taken = &self.taken[at];
+        PlacedSnapshot {
+            dir: taken.dir(),
+            name: taken.name(),
+            forest: &self.forest,
+            root: self.roots[at],
         }
     }
 

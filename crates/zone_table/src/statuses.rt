@@ -1,5 +1,5 @@
 //! The statuses of zones that were submitted for re-encryption.
-ghost use Rattle.std.specs.Prelude.{◌≡◌, ◌<◌, ◌≤◌, ◌+◌, [], false, position, vec_len, vec_capacity, IsOk, OnOk, OnErr};
+ghost use Rattle.std.specs.Prelude.{◌≡◌, ◌<◌, ◌≤◌, ◌+◌, [], false, length, position, slice_get, vec_len, vec_capacity, IsOk, OnOk, OnErr};
 ghost use Rattle.std.specs.Option.{option_map, option_map_or};
 ghost use Rattle.zone_table.specs.Statuses.{capped, counted, ended, goes_on, goes_on_under, is_of, need_status, new_status, session_goes_on, status_of, with_counts, with_end, with_status, without_below, zone_goes_on};
 
@@ -175,6 +175,25 @@ impl Statuses {
         match find(&self.rows, zone) {
             Some(at) => Some(&self.rows[at]),
             None => None,
+        }
+    }
+
+    /// Returns the number of statuses.
+    pub fn len(&self) -> usize
+        ensures { result ≡ length self.now.rows }
+    {
+        self.rows.len()
+    }
+
+    /// Returns the status at index `at`, from 0, in the order of the first submissions. Returns `None`
+    /// if there are no more.
+    pub fn nth(&self, at: usize) -> Option<&StatusRow>
+        ensures { option_map (λ row. row.now) result ≡ slice_get self.now.rows at }
+    {
+        if at < self.rows.len() {
+            Some(&self.rows[at])
+        } else {
+            None
         }
     }
 

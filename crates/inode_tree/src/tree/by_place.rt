@@ -1,8 +1,9 @@
 //! Rows by their place in path order, and their paths relative to a directory.
-ghost use Rattle.std.specs.Prelude.{◌≡◌, ◌<◌, ◌≤◌, ◌-◌, Some, length, drop, slice_get, IsTrue, IfOk};
+ghost use Rattle.std.specs.Prelude.{◌≡◌, ◌<◌, ◌≤◌, ◌-◌, [], Some, length, drop, slice_get, slice_index_or, IsTrue, IfOk};
 ghost use Rattle.std.specs.Option.{option_map};
 ghost use Rattle.inode_tree.specs.Arena.{IsLinked, path_of, rank};
 ghost use Rattle.inode_tree.specs.Below.{at_or_above, at_or_below, view_of};
+ghost use Rattle.inode_tree.specs.Rows.{Entry};
 ghost use Rattle.name_calls.specs.Paths.{is_prefix, is_relative, last_name};
 
 use super::{Tree, extend};
@@ -58,6 +59,17 @@ impl Tree {
         }
     }
 
+    /// Returns the `k`-th name of the path of the row at a place, counted from 0, which its path must
+    /// have. It builds no path, and takes a step for each name after that one.
+    pub fn name_at_place(&self, at: u32, k: usize) -> &[u8]
+        requires at { at < length self.now.rows }
+        requires k { (e : Entry) → slice_get self.now.rows at ≡ Some e → k < length e.path }
+        ensures { (e : Entry) → slice_get self.now.rows at ≡ Some e →
+            result.now ≡ slice_index_or e.path k [] }
+    {
+        name_of(&self.nodes, self.order.get(at as usize), k)
+    }
+
     /// Returns whether the path of the row at a place is the path or lies below it.
     pub fn place_is_below(&self, at: u32, path: &NPath) -> bool
         requires { at < length self.now.rows }
@@ -110,6 +122,22 @@ fn own_name(nodes: &Nodes, n: u32) -> &[u8]
         return b"";
     }
     nodes.link(n).name.as_bytes()
+}
+
+/// Returns the `k`-th name of a node's path, counted from 0.
+fn name_of(nodes: &Nodes, n: u32, k: usize) -> &[u8]
+    requires linked { IsLinked nodes.now.items }
+    requires live { n < length nodes.now.items }
+    requires k { k < length (path_of nodes.now.items n) }
+    ensures { result.now ≡ slice_index_or (path_of nodes.now.items n) k [] }
+{
+    let mut m = n;
+    let mut left = depth(nodes, n) - k - 1;
+    'climb: while left != 0 {
+        m = nodes.link(m).parent;
+        left -= 1;
+    }
+    own_name(nodes, m)
 }
 
 /// Builds a path from the last `count` names of a node's path.
