@@ -7,6 +7,6 @@ abbrev pub kept_byte : ℕ → ℕ → List ℕ → List ℕ → ℕ → ℕ
 kept_byte at seen bytes old i = if nat_le seen (at + i) && nat_lt (at + i) (seen + length bytes) then slice_index_or bytes (at + i - seen) 0 else slice_index_or old i 0
 
 -- All of these bytes were told. The buffer has those from the offset on, as far as it reaches.
-pub record IsTold (at seen : ℕ) (all buf : List ℕ) : Type 0 where
+pub record KeepsPart (at seen : ℕ) (all buf : List ℕ) : Type 0 where
   pub count : seen ≡ capped (length all)
   pub holds : length all < 2 ^ 64 → (i : ℕ) → i < length buf → at + i < length all → slice_index_or buf i 0 ≡ slice_index_or all (at + i) 0

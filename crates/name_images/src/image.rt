@@ -1,6 +1,6 @@
 //! Bytes that are told piece by piece, of which a buffer keeps some. It takes no memory.
 ghost use Rattle.std.specs.Prelude.{ℕ, List, ◌≡◌, ◌<◌, ◌≤◌, ◌+◌, ◌-◌, ◌++◌, length, nat_lt, slice_index_or, if◌then◌else◌};
-ghost use Rattle.name_images.specs.Pieces.{IsTold, kept_byte};
+ghost use Rattle.name_images.specs.Pieces.{KeepsPart, kept_byte};
 
 /// Copies the first bytes, as many as there is room for.
 fn copy_front(room: &mut [u8], bytes: &[u8])
@@ -51,8 +51,8 @@ fn keep(buf: &mut [u8], at: u64, seen: u64, bytes: &[u8])
 /// number of 64 bits. The buffer keeps what falls into it, from the offset `at` on.
 pub fn put(buf: &mut [u8], at: u64, seen: u64, bytes: &[u8]) -> u64
     ensures length { length buf.new ≡ length buf.old }
-    ensures told { (all : List ℕ) → IsTold at seen all buf.old →
-        IsTold at result (all ++ bytes.now) buf.new }
+    ensures told { (all : List ℕ) → KeepsPart at seen all buf.old →
+        KeepsPart at result (all ++ bytes.now) buf.new }
 {
     keep(buf, at, seen, bytes);
     seen.saturating_add(bytes.len() as u64)

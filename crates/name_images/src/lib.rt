@@ -1,8 +1,10 @@
 //! Images of the namesystem's table: the bytes that stand for it.
 #![tactic(auto)]
 
+mod fields;
 mod image;
 mod laws;
 
+pub use fields::{put_kind, put_version};
 pub use image::put;
 pub use laws::an_image_stands_for_one_table;
