@@ -2,3 +2,4 @@ mod ByZone
 mod Fronts
 mod ImageExamples
 mod ImageLaws
+mod Lists

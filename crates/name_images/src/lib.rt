@@ -5,6 +5,6 @@ mod fields;
 mod image;
 mod laws;
 
-pub use fields::{put_kind, put_version};
+pub use fields::{put_ids, put_kind, put_path, put_status};
 pub use image::put;
 pub use laws::an_image_stands_for_one_table;
