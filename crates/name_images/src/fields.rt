@@ -202,8 +202,8 @@ fn put_opt_path(buf: &mut [u8], at: u64, seen: u64, path: &Option<NPath>) -> u64
     }
 }
 
-/// Tells a status up to its mark: the zone, the session, the noted version, and whether it has ended
-/// and was cancelled.
+/// Tells a status up to its mark: the zone, the session, the noted version, and whether it has
+/// ended and was cancelled.
 fn put_status_head(buf: &mut [u8], at: u64, seen: u64, status: &StatusRow) -> u64
     ensures length { length buf.new ≡ length buf.old }
     ensures told { (all : List ℕ) → KeepsPart at seen all buf.old →

@@ -29,7 +29,7 @@ fn copy_from(buf: &mut [u8], start: usize, bytes: &[u8])
     copy_front(room, bytes);
 }
 
-/// Keeps those of the bytes after the first `seen` ones that have a place in the buffer, whose first
+/// Keeps those of the bytes after the first `seen` ones that have a place in the buffer. Its first
 /// byte is the one at the offset `at`.
 fn keep(buf: &mut [u8], at: u64, seen: u64, bytes: &[u8])
     ensures length { length buf.new ≡ length buf.old }
@@ -47,8 +47,8 @@ fn keep(buf: &mut [u8], at: u64, seen: u64, bytes: &[u8])
     copy_from(buf, start as usize, &bytes[skip as usize..]);
 }
 
-/// Tells the bytes after the first `seen` ones, and returns how many were told: at most the greatest
-/// number of 64 bits. The buffer keeps what falls into it, from the offset `at` on.
+/// Tells the bytes after the first `seen` ones, and returns how many were told: at most the
+/// greatest number of 64 bits. The buffer keeps what falls into it, from the offset `at` on.
 pub fn put(buf: &mut [u8], at: u64, seen: u64, bytes: &[u8]) -> u64
     ensures length { length buf.new ≡ length buf.old }
     ensures told { (all : List ℕ) → KeepsPart at seen all buf.old →
