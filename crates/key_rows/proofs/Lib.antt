@@ -4,3 +4,4 @@ pub mod TableLemmas
 pub mod Orders
 pub mod FieldLemmas
 pub mod RecordLemmas
+pub mod ImageLemmas

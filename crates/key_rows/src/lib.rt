@@ -14,6 +14,6 @@ pub use kms_calls::{
     AclOp, AclTable, Description, EdekList, KeyMeta, KeyVersion, KmsCall, KmsRefusal, KmsReply,
     MetaList, NameList, RawEdek, RawEdekList, VersionList,
 };
-pub use laws::commands_have_one_spelling;
+pub use laws::{commands_have_one_spelling, images_have_one_table};
 pub use rows::{DekList, KeyCommand, KeyRow};
 pub use table::KeyTable;
