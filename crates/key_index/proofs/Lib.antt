@@ -2,6 +2,7 @@ pub mod Standing
 pub mod Searches
 pub mod Commands
 pub mod Sounds
+pub mod Addings
 pub mod Lookups
 pub mod Holding
 pub mod LogLemmas

@@ -1,8 +1,8 @@
 -- Rows of an index in order of birth, and where a key is found.
-use Rattle.std.proofs.Common.{◌≡◌, ℕ, zero, suc, ◌+◌, ◌<◌, ◌≤◌, Bool, true, false, cond, List, [], ◌∷◌, length, find, get_or, map, set, ◌++◌, All, Option, None, Some, option_map, IfSome, Result, Ok, Err, refl, ap, sym, ◌∙◌, arith, inl, inr}
+use Rattle.std.proofs.Common.{◌≡◌, ℕ, zero, suc, ◌+◌, ◌<◌, ◌≤◌, Bool, true, false, cond, List, [], ◌∷◌, length, find, get_or, map, set, ◌++◌, All, Option, None, Some, option_map, IfSome, Result, Ok, Err, refl, ap, sym, subst, ◌∙◌, arith, inl, inr}
 use Rattle.std.specs.Prelude.{MatchResult}
 use Rattle.std.specs.List.{AllByRecursion, HoldsAt}
-use Rattle.std.specs.List.Sorted.{IsSortedBy, IsBinarySearchResult}
+use Rattle.std.specs.List.Sorted.{IsSortedBy, IsBinarySearchResult, IsNonDecreasingBy}
 use Rattle.std.specs.Ordering.{nat_cmp, is_lt}
 use Rattle.std.proofs.lemmas.Bool.{cases_lt}
 use Rattle.std.proofs.lemmas.Bool.Decides.{Decides-eqb, nat_tests}
@@ -105,6 +105,12 @@ module _ (m : Materials) where
 
   births_sorted : (low : ℕ) (rows : List PlacedRow) (top : ℕ) → AreRowsRising low (rows_of m rows) top → IsSortedBy (λ (a b : PlacedRow). is_lt (nat_cmp a.row.birth b.row.birth)) rows
   births_sorted low rows top rising k d above within = not_below _ _ (rising_at low rows top k (k + 1) d rising (omega arith) within)
+
+  pub births_rise : (low : ℕ) (rows : List PlacedRow) (top : ℕ) → AreRowsRising low (rows_of m rows) top → IsNonDecreasingBy (λ (placed : PlacedRow). placed.row.birth) rows
+  births_rise low rows top rising i j d order within = elim (cases_lt i j) [
+    | inl less ↦ omega (arith, rising_at low rows top i j d rising less within)
+    | inr more ↦ let same : i ≡ j = omega arith in subst (λ (k : ℕ). (get_or rows i d).row.birth ≤ (get_or rows k d).row.birth) same (omega arith)
+  ]
 
   pub birth_searched : (low : ℕ) (rows : List PlacedRow) (top birth : ℕ) (r : Result ℕ ℕ) → AreRowsRising low (rows_of m rows) top → IsBinarySearchResult (λ (placed : PlacedRow). nat_cmp placed.row.birth birth) rows r
       → MatchResult r (HoldsAt (λ placed. placed.row.birth ≡ birth) rows) (λ _. All (λ placed. is_born birth placed ≡ false) rows)

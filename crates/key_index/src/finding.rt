@@ -73,7 +73,7 @@ pub(crate) fn with_place(
 }
 
 /// Makes room for one more key, and inserts its name. Returns `Ok` if there is capacity for both.
-fn insert_name(
+pub(crate) fn insert_name(
     rows: &mut Vec<PlacedRow>,
     names: &mut Vec<NamedBirth>,
     row: &IndexRow,

@@ -5,10 +5,12 @@ ghost use Rattle.key_rows.specs.declared.rows.KeyCommand.TheVariants.{Delete, Ro
 ghost use Rattle.key_rows.specs.Names.{AreNames};
 ghost use Rattle.key_rows.specs.Sound.{IsKeyTable};
 ghost use Rattle.key_rows.specs.Table.{after, applies, current_of, find_birth, find_name, need};
+ghost use Rattle.key_index.specs.Adding.{MayAddRow, index_since, with_placed};
 ghost use Rattle.key_index.specs.Held.{AreHeld, HoldsMaterial, IsMaterialAt, has_older};
 ghost use Rattle.key_index.specs.Index.{Materials, after_at, applies_at, is_born, is_named, materials_after, may_create_at, no_index, place_of, row_of, table_of, with_row};
 ghost use Rattle.key_index.specs.Sound.{AllSized, IsIndexRow, IsSoundIndex};
 
+use crate::adding::{add, with_places};
 use crate::applying::applies_to;
 use crate::by_name::{NamedBirth, copy_names, remove_birth};
 use crate::finding::{insert, remove, roll, row_at, row_of, with_place};
@@ -81,6 +83,21 @@ impl KeyIndex {
             alloc,
             opening: 0,
             greatest: 0,
+            rows: Vec::new(alloc),
+            names: Vec::new(alloc),
+            ready: Vec::new(alloc),
+        }
+    }
+
+    /// Creates an index without keys, after this last opening. `greatest` is the greatest birth that any
+    /// key ever had, or 0. Does not allocate.
+    pub fn since(alloc: Global, opening: u32, greatest: u64) -> KeyIndex
+        ensures { result.index ≡ index_since opening greatest }
+    {
+        KeyIndex {
+            alloc,
+            opening,
+            greatest,
             rows: Vec::new(alloc),
             names: Vec::new(alloc),
             ready: Vec::new(alloc),
@@ -210,6 +227,19 @@ impl KeyIndex {
             None => None,
             Some(placed) => placed.older_place(version.number),
         }
+    }
+
+    /// Adds a key that other commands made, with the places of its materials in order of number, the
+    /// current one's last. Its name and birth must be new, its birth at most the greatest one, and fewer
+    /// than 10,000 keys may be there. Returns `NoMemory` if allocation fails; the index is then unchanged.
+    pub fn add_row(&mut self, row: IndexRow, places: &[u64]) -> Result<(), NoMemory>
+        requires { MayAddRow self.old.index row places.now }
+        ensures ok { OnOk result (self.new.index ≡ with_placed self.old.index row places.now) }
+        ensures err { OnErr result (self.new.index ≡ self.old.index) }
+    {
+        let placed = with_places(self.alloc, row, places)?;
+        add(&mut self.rows, &mut self.names, placed)?;
+        Ok(())
     }
 
     /// Returns whether a command applies to the table, as `KeyTable::applies` does.

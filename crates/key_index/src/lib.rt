@@ -2,6 +2,7 @@
 //! the place of each material in the key log. And a cache of older materials.
 #![tactic(auto)]
 
+mod adding;
 mod applying;
 mod by_name;
 mod cache;

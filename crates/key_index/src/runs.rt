@@ -6,6 +6,7 @@ ghost use Rattle.std.specs.List.{concat};
 ghost use Rattle.key_index.specs.Runs.{AreRuns, GoesOn, IsSecond, run_places};
 
 use hk_base::NoMemory;
+use std::alloc::Global;
 use std::marker::Model;
 
 /// One or more places at equal distances: `count` of them from `first`, each `step` above the one before.
@@ -171,6 +172,19 @@ impl Model for PlaceList {
 }
 
 impl PlaceList {
+    /// Creates a list of these places.
+    pub(crate) fn of(alloc: Global, places: &[u64]) -> Result<PlaceList, NoMemory>
+        ensures { IfOk result (λ list. list ≡ places.now) }
+    {
+        let mut list = PlaceList {
+            runs: Vec::new(alloc),
+        };
+        for place in places {
+            list.push_in(Vec::new(alloc), *place)?;
+        }
+        Ok(list)
+    }
+
     /// Creates a list with the place of version 0 in a given buffer. Returns `Ok` if the buffer has
     /// capacity for it.
     pub(crate) fn in_buffer(buffer: Vec<PlaceRun>, first: u64) -> Result<PlaceList, NoMemory>
