@@ -1,0 +1,5 @@
+pub mod ChunkLemmas
+pub mod RowReads
+pub mod KeyLemmas
+pub mod Passing
+pub mod Headers

@@ -1,0 +1,5 @@
+pub mod Chunks
+pub mod Rows
+pub mod Places
+pub mod Adding
+pub mod Images

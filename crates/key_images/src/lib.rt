@@ -1,0 +1,11 @@
+//! Reading the image of the table of keys.
+#![tactic(auto)]
+
+mod keys;
+mod reading;
+mod rows;
+mod span;
+mod table;
+
+pub use reading::read_key_image;
+pub use span::ImageSpan;
