@@ -3,3 +3,4 @@ pub mod RowReads
 pub mod KeyLemmas
 pub mod Passing
 pub mod Headers
+pub mod Holds

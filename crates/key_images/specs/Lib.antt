@@ -3,3 +3,4 @@ pub mod Rows
 pub mod Places
 pub mod Adding
 pub mod Images
+pub mod Laws

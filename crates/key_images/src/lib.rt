@@ -2,10 +2,12 @@
 #![tactic(auto)]
 
 mod keys;
+mod laws;
 mod reading;
 mod rows;
 mod span;
 mod table;
 
+pub use laws::images_hold_materials;
 pub use reading::read_key_image;
 pub use span::ImageSpan;
