@@ -1,9 +1,8 @@
 -- The materials of an image, at their places in the file.
-use Rattle.std.proofs.Common.{◌≡◌, ℕ, zero, suc, ◌+◌, ◌-◌, ◌*◌, ◌/◌, ◌<◌, ◌≤◌, Bool, true, false, cond, ◌==◌, List, [], ◌∷◌, ◌++◌, length, take, drop, map, get_or, find, Option, Some, None, refl, sym, ap, subst, ◌∙◌, append_assoc, arith, length-append, length-take, length-drop, inl, inr}
+use Rattle.std.proofs.Common.{◌≡◌, ℕ, zero, suc, ◌+◌, ◌-◌, ◌*◌, ◌/◌, ◌<◌, ◌≤◌, cond, List, [], ◌∷◌, ◌++◌, length, take, drop, map, get_or, Option, Some, None, refl, sym, ap, subst, ◌∙◌, append_assoc, arith, length-append, length-take, length-drop}
 use Rattle.std.specs.Int.{w32, w64, to_be_bytes}
 use Rattle.std.specs.List.{AllByRecursion, concat}
 use Rattle.std.proofs.Math.Seq.{drop-append_seam, take-append_seam, take-length, take-suc}
-use Rattle.std.proofs.lemmas.Bool.{cases_lt}
 use Rattle.std.proofs.lemmas.Bool.Decides.{Decides-eqb}
 use Rattle.std.proofs.lemmas.List.{take-append-drop}
 use Rattle.hk_base.specs.Disk.{piece}
@@ -11,11 +10,10 @@ use Rattle.hk_base.specs.declared.names.Dek.{Dek}
 use Rattle.key_rows.specs.declared.rows.KeyRow.{KeyRow}
 use Rattle.key_rows.specs.Image.{IsKeyImage, key_head, key_image, key_row_image, key_rows_image}
 use Rattle.key_rows.specs.Sound.{AreRowsRising, IsRow}
-use Rattle.key_rows.specs.Table.{Table, find_birth, is_born}
+use Rattle.key_rows.specs.Table.{Table, find_birth}
 use Rattle.key_rows.proofs.Births.{other_number}
-use Rattle.key_index.specs.declared.rows.PlacedRow.{PlacedRow}
-use Rattle.key_index.specs.Held.{AreHeld, IsHeld}
-use Rattle.key_index.specs.Index.{Materials, older, row_of, rows_of, table_of}
+use Rattle.key_index.specs.Held.{IsHeld}
+use Rattle.key_index.specs.Index.{Materials, older, row_of, rows_of}
 use Rattle.key_index.specs.Runs.{run_places}
 use Rattle.key_images.specs.Laws.{StandsInFile}
 use Rattle.key_images.specs.Places.{brief, index_at, last_of, newest_of, placed_key, placed_keys}

@@ -4,3 +4,4 @@ pub mod Places
 pub mod Adding
 pub mod Images
 pub mod Laws
+pub mod Parts

@@ -3,11 +3,13 @@
 
 mod keys;
 mod laws;
+mod parts;
 mod reading;
 mod rows;
 mod span;
 mod table;
 
 pub use laws::images_hold_materials;
+pub use parts::put;
 pub use reading::read_key_image;
 pub use span::ImageSpan;
