@@ -5,3 +5,4 @@ pub mod Passing
 pub mod Headers
 pub mod Holds
 pub mod PartLemmas
+pub mod Lengths
