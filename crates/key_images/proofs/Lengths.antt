@@ -10,7 +10,7 @@ use Rattle.key_index.specs.Sound.{AreSized}
 use Rattle.key_index.proofs.Standing.{versions_of}
 use Rattle.key_images.proofs.ChunkLemmas.{length_concat}
 
-head_length : (birth : ℕ) (name : List ℕ) (bits : ℕ) (description : List ℕ) (created : ℕ) → length (key_head birth name bits description created) ≡ 21 + length name + length description
+pub head_length : (birth : ℕ) (name : List ℕ) (bits : ℕ) (description : List ℕ) (created : ℕ) → length (key_head birth name bits description created) ≡ 21 + length name + length description
 head_length birth name bits description created =
     omega (arith, length-append name (to_be_bytes w16 bits ++ (text_field description ++ to_be_bytes w64 created)), length-append description (to_be_bytes w64 created))
 

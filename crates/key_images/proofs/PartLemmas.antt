@@ -62,3 +62,26 @@ module _ (at : ℕ) (whole bytes old front free more new : List ℕ) (filled ski
       let T = piece at (length old) (whole ++ bytes) in
       let held : take (length T) (front ++ new) ≡ T = ap (take (length T)) parts ∙ take-append_seam T rest in
       subst (λ n. take (length (piece at n (whole ++ bytes))) (front ++ new) ≡ piece at n (whole ++ bytes)) (sym same_length) held
+
+-- the bytes that were put so far, and what the buffer keeps of them
+pub record PutSoFar (at seen : ℕ) (whole buf : List ℕ) : Type 0 where
+  pub counted : length whole ≡ seen
+  pub keeps : KeepsPart at whole buf
+
+pub then_put : (at seen later : ℕ) (whole bytes old new : List ℕ) (field : List ℕ) → PutSoFar at seen whole old → ((w : List ℕ) → length w ≡ seen → KeepsPart at w old → KeepsPart at (w ++ bytes) new)
+    → later ≡ seen + length bytes → bytes ≡ field → PutSoFar at later (whole ++ field) new
+then_put at seen later whole bytes old new field so_far kept counts is = record {
+  counted = omega (arith, length-append whole field, so_far.counted, counts, ap length is);
+  keeps = subst (λ (w : List ℕ). KeepsPart at (whole ++ w) new) is (kept whole so_far.counted so_far.keeps);
+}
+
+-- eight fields one after the other
+pub eight : (w a b c d e f g h : List ℕ) → (((((((w ++ a) ++ b) ++ c) ++ d) ++ e) ++ f) ++ g) ++ h ≡ w ++ (a ++ (b ++ (c ++ (d ++ (e ++ (f ++ (g ++ h)))))))
+eight w a b c d e f g h =
+    append_assoc (((((((w ++ a) ++ b) ++ c) ++ d) ++ e) ++ f)) g h
+    ∙ append_assoc ((((((w ++ a) ++ b) ++ c) ++ d) ++ e)) f (g ++ h)
+    ∙ append_assoc (((((w ++ a) ++ b) ++ c) ++ d)) e (f ++ (g ++ h))
+    ∙ append_assoc ((((w ++ a) ++ b) ++ c)) d (e ++ (f ++ (g ++ h)))
+    ∙ append_assoc (((w ++ a) ++ b)) c (d ++ (e ++ (f ++ (g ++ h))))
+    ∙ append_assoc ((w ++ a)) b (c ++ (d ++ (e ++ (f ++ (g ++ h)))))
+    ∙ append_assoc w a (b ++ (c ++ (d ++ (e ++ (f ++ (g ++ h))))))
