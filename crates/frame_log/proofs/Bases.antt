@@ -75,9 +75,9 @@ module _ (file : ℕ) (start : Option LogStart) (base : List ℕ) (on : IsBaseOf
             let same : front_on base payloads ++ h ∷ later ≡ front_on base (payloads ++ payload ∷ []) ++ 0 ∷ rest = ap (λ (x : ℕ). front_on base payloads ++ x ∷ later) one ∙ with_one in
             inr (ap (λ (l : List ℕ). set l k 1) same ∙ shut_stays (payloads ++ payload ∷ []) rest (own_more payloads payload own fits) k (subst (λ (l : List ℕ). IsTorn file l k) same torn) ∙ sym same)
         | inr shut ↦ elim (on.torn payloads h later own shut k torn) [
-            | inl end ↦ inl end
-            | inr open_one ↦ inr (still payloads (h ∷ later) k open_one.0 open_one.1)
-          ]
+          | inl end ↦ inl end
+          | inr open_one ↦ inr (still payloads (h ∷ later) k open_one.0 open_one.1)
+        ]
       ]
 
 -- ---- the magic
@@ -122,8 +122,8 @@ moved_more : (file : ℕ) (old : List (List ℕ)) (q : ℕ) (a b tail more : Lis
 moved_more file old q a b tail more =
     append_assoc (front file old) (1 ∷ (behind (moved q) ++ 0 ∷ (a ++ (b ++ tail)))) more
     ∙ ap (λ (l : List ℕ). front file old ++ 1 ∷ l)
-      (append_assoc (behind (moved q)) (0 ∷ (a ++ (b ++ tail))) more
-      ∙ ap (λ (l : List ℕ). behind (moved q) ++ 0 ∷ l) (append_assoc a (b ++ tail) more ∙ ap (λ (l : List ℕ). a ++ l) (append_assoc b tail more)))
+    (append_assoc (behind (moved q)) (0 ∷ (a ++ (b ++ tail))) more
+    ∙ ap (λ (l : List ℕ). behind (moved q) ++ 0 ∷ l) (append_assoc a (b ++ tail) more ∙ ap (λ (l : List ℕ). a ++ l) (append_assoc b tail more)))
 
 -- the bytes before the first selector, and those before the second one
 before_first : ℕ → List (List ℕ) → ℕ → List ℕ
@@ -331,13 +331,13 @@ module _ (file : ℕ) (old : List (List ℕ)) (q at other : ℕ) (a b : ℕ → 
   torn_by h c is k torn =
       elim (one_of_three q (q + 17) (end_gate c) k (sym (ap (list_any (λ g. g == k)) (gates_by h c is)) ∙ torn.gate)) [
         | inl first ↦ elim which [
-            | inl w ↦ inl (first ∙ sym w.0)
-            | inr w ↦ inr (inl (first ∙ sym w.1))
-          ]
+          | inl w ↦ inl (first ∙ sym w.0)
+          | inr w ↦ inr (inl (first ∙ sym w.1))
+        ]
         | inr (inl second) ↦ elim which [
-            | inl w ↦ inr (inl (second ∙ sym w.1))
-            | inr w ↦ inl (second ∙ sym w.0)
-          ]
+          | inl w ↦ inr (inl (second ∙ sym w.1))
+          | inr w ↦ inl (second ∙ sym w.0)
+        ]
         | inr (inr end) ↦ inr (inr end)
       ]
 
@@ -346,9 +346,9 @@ module _ (file : ℕ) (old : List (List ℕ)) (q at other : ℕ) (a b : ℕ → 
     stays_by h c is k torn = elim (torn_by h c is k torn) [
       | inl here ↦ inl here
       | inr (inl there) ↦ elim (whole_other h) [
-          | inl zero_there ↦ absurd (torn.not_shut (ap (λ (x : ℕ). byte_at x (by_gate h)) there ∙ zero_there))
-          | inr one_there ↦ inr (set_one (by_gate h) k (ap (λ (x : ℕ). byte_at x (by_gate h)) there ∙ one_there))
-        ]
+        | inl zero_there ↦ absurd (torn.not_shut (ap (λ (x : ℕ). byte_at x (by_gate h)) there ∙ zero_there))
+        | inr one_there ↦ inr (set_one (by_gate h) k (ap (λ (x : ℕ). byte_at x (by_gate h)) there ∙ one_there))
+      ]
       | inr (inr end) ↦ absurd (torn.not_shut (ap (λ (x : ℕ). byte_at x (by_gate h)) end ∙ ends h c is))
     ]
 

@@ -55,8 +55,8 @@ front_reads file payloads gate rest own shut found =
     let group : front file payloads ++ gate ∷ rest ≡ magic file ++ (frames payloads ++ gate ∷ rest) = append_assoc (magic file) (frames payloads) (gate ∷ rest) in
     let back : drop 8 (front file payloads ++ gate ∷ rest) ≡ frames payloads ++ gate ∷ rest = ap (drop 8) group ∙ drop_at (magic file) (frames payloads ++ gate ∷ rest) 8 (magic_long file) in
     same_log file (front file payloads ++ gate ∷ rest) payloads gate
-      (ap (moving_at (length (front file payloads ++ gate ∷ rest)) 8) back ∙ none_moves payloads gate rest own shut (length (front file payloads ++ gate ∷ rest)) 8)
-      found
+    (ap (moving_at (length (front file payloads ++ gate ∷ rest)) 8) back ∙ none_moves payloads gate rest own shut (length (front file payloads ++ gate ∷ rest)) 8)
+    found
 
 -- the payload of Moved
 moved_fits : (q : ℕ) → IsPayload (moved q)

@@ -10,12 +10,12 @@ pub one_of_three : (x y z k : ℕ) → list_any (λ g. g == k) (x ∷ y ∷ z �
 one_of_three x y z k is = elim (cases_eq x k) [
   | inl same ↦ inl (sym same)
   | inr no_x ↦ elim (cases_eq y k) [
-      | inl same ↦ inr (inl (sym same))
-      | inr no_y ↦ elim (cases_eq z k) [
-          | inl same ↦ inr (inr (sym same))
-          | inr no_z ↦ let none : list_any (λ g. g == k) (x ∷ y ∷ z ∷ []) ≡ false = grind (arith, nat_tests) in absurd (cc (is, none))
-        ]
+    | inl same ↦ inr (inl (sym same))
+    | inr no_y ↦ elim (cases_eq z k) [
+      | inl same ↦ inr (inr (sym same))
+      | inr no_z ↦ let none : list_any (λ g. g == k) (x ∷ y ∷ z ∷ []) ≡ false = grind (arith, nat_tests) in absurd (cc (is, none))
     ]
+  ]
 ]
 
 -- a file of which reading a gate as 1 changes nothing
