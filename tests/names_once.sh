@@ -18,8 +18,6 @@ PARALLEL = [
     {"kms_core", "name_core"},
     # what a log stands for, the logs of both services, and the tables that are made of them
     {"log_kinds", "kms_store", "edit_log", "name_store"},
-    # the images of both tables
-    {"key_images", "name_images"},
     # the records of both logs
     {"key_rows", "edit_ops"},
     # the requests and responses of both services

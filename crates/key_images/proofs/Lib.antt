@@ -4,5 +4,4 @@ pub mod KeyLemmas
 pub mod Passing
 pub mod Headers
 pub mod Holds
-pub mod PartLemmas
 pub mod Lengths

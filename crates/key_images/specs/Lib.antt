@@ -4,4 +4,3 @@ pub mod Places
 pub mod Adding
 pub mod Images
 pub mod Laws
-pub mod Parts

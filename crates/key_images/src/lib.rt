@@ -11,7 +11,7 @@ mod span;
 mod table;
 
 pub use laws::images_hold_materials;
-pub use parts::{put, put_head};
+pub use parts::put_head;
 pub use reading::read_key_image;
 pub use sizes::row_size;
 pub use span::ImageSpan;

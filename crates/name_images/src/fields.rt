@@ -5,10 +5,11 @@ ghost use Rattle.key_rows.specs.Records.{name_field};
 ghost use Rattle.edit_ops.specs.Records.{edek_field, list_field, opt_field, path_field, version_field};
 ghost use Rattle.name_calls.specs.Paths.{names_text, path_text};
 ghost use Rattle.name_images.specs.Fields.{kind_field, status_field, truth_field};
-ghost use Rattle.name_images.specs.Pieces.{KeepsPart, status_head, status_rest};
+ghost use Rattle.image_parts.specs.Parts.{KeepsPart};
+ghost use Rattle.name_images.specs.Pieces.{status_head, status_rest};
 
-use crate::image::put;
 use hk_base::{Edek, KeyName, VersionName};
+use image_parts::put;
 use inode_tree::Kind;
 use name_calls::NPath;
 use zone_table::StatusRow;

@@ -2,9 +2,7 @@
 #![tactic(auto)]
 
 mod fields;
-mod image;
 mod laws;
 
 pub use fields::{put_ids, put_kind, put_path, put_status};
-pub use image::put;
 pub use laws::an_image_stands_for_one_table;

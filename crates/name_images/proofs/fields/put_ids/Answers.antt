@@ -2,7 +2,7 @@ use Rattle.std.proofs.Common.{◌∙◌, ◌++◌, ℕ, List, take, get_or, sym,
 use Rattle.std.specs.Int.{w64, to_be_bytes}
 use Rattle.std.proofs.lemmas.List.{get_or_default, take_all}
 use Rattle.edit_ops.specs.Records.{list_field}
-use Rattle.name_images.specs.Pieces.{KeepsPart}
+use Rattle.image_parts.specs.Parts.{KeepsPart}
 use Rattle.name_images.proofs.Lists.{fields-more}
 use Rattle.name_images.proofs.fields.put_ids.Goals as goal
 

@@ -1,7 +1,7 @@
 use Rattle.std.proofs.Common.{◌≡◌, ◌++◌, ℕ, List, length, take}
 use Rattle.std.specs.Int.{w64, to_be_bytes}
 use Rattle.edit_ops.specs.Records.{list_field}
-use Rattle.name_images.specs.Pieces.{KeepsPart}
+use Rattle.image_parts.specs.Parts.{KeepsPart}
 use Rattle.name_images.proofs.fields.put_ids.Given as goal
 
 abbrev pub invariant-loop-id : goal.invariant-loop-id

@@ -1,7 +1,7 @@
 use Rattle.std.proofs.Common.{◌∙◌, ◌++◌, ◌∷◌, [], ℕ, List, take, refl, subst, arith}
 use Rattle.name_calls.specs.Paths.{names_text}
 use Rattle.name_calls.proofs.PathLemmas.{text-more}
-use Rattle.name_images.specs.Pieces.{KeepsPart}
+use Rattle.image_parts.specs.Parts.{KeepsPart}
 use Rattle.name_images.proofs.fields.put_names.Goals as goal
 
 pub loop-k-preserved : goal.loop-k-preserved

@@ -1,6 +1,6 @@
 use Rattle.std.proofs.Common.{◌≡◌, ◌++◌, ℕ, List, length, take}
 use Rattle.name_calls.specs.Paths.{names_text}
-use Rattle.name_images.specs.Pieces.{KeepsPart}
+use Rattle.image_parts.specs.Parts.{KeepsPart}
 use Rattle.name_images.proofs.fields.put_names.Given as goal
 
 abbrev pub invariant-loop-k : goal.invariant-loop-k

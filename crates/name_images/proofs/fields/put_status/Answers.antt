@@ -3,7 +3,8 @@ use Rattle.std.specs.Int.{w64, to_be_bytes}
 use Rattle.edit_ops.specs.Records.{version_field}
 use Rattle.zone_table.specs.declared.statuses.StatusRow.{StatusRow}
 use Rattle.name_images.specs.Fields.{status_field, truth_field}
-use Rattle.name_images.specs.Pieces.{KeepsPart, status_head, status_rest}
+use Rattle.image_parts.specs.Parts.{KeepsPart}
+use Rattle.name_images.specs.Pieces.{status_head, status_rest}
 use Rattle.name_images.proofs.fields.put_status.Goals as goal
 
 joined : (z s v c d rest : List ℕ) → (z ++ (s ++ (v ++ (c ++ d)))) ++ rest ≡ z ++ (s ++ (v ++ (c ++ (d ++ rest))))

@@ -1,7 +1,7 @@
 use Rattle.std.proofs.Common.{◌≡◌, ◌∙◌, ◌++◌, ℕ, List, subst, append_assoc}
 use Rattle.edit_ops.specs.Records.{version_field}
 use Rattle.name_images.specs.Fields.{truth_field}
-use Rattle.name_images.specs.Pieces.{KeepsPart}
+use Rattle.image_parts.specs.Parts.{KeepsPart}
 use Rattle.name_images.proofs.fields.put_status_head.Goals as goal
 
 -- five pieces, one after the other

@@ -1,6 +1,6 @@
 use Rattle.std.proofs.Common.{◌≡◌, ◌∙◌, ◌++◌, ℕ, List, subst, append_assoc}
 use Rattle.edit_ops.specs.Records.{opt_field, path_field}
-use Rattle.name_images.specs.Pieces.{KeepsPart}
+use Rattle.image_parts.specs.Parts.{KeepsPart}
 use Rattle.name_images.proofs.fields.put_status_rest.Goals as goal
 
 -- three pieces, one after the other

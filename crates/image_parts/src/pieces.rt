@@ -1,6 +1,6 @@
 //! Bytes that are told piece by piece, of which a buffer keeps some. It takes no memory.
 ghost use Rattle.std.specs.Prelude.{ℕ, List, ◌≡◌, ◌<◌, ◌≤◌, ◌+◌, ◌-◌, ◌++◌, length, nat_lt, slice_index_or, if◌then◌else◌};
-ghost use Rattle.name_images.specs.Pieces.{KeepsPart, kept_byte};
+ghost use Rattle.image_parts.specs.Parts.{KeepsPart, kept_byte};
 
 /// Copies the first bytes, as many as there is room for.
 fn copy_front(room: &mut [u8], bytes: &[u8])
