@@ -138,9 +138,13 @@ def check_under_load(server, request, check):
         end_load(load)
 
 
+def check_successes(failed):
+    equal("the number of responses that were no success", failed, 0)
+
+
 def end_load(load, early=False):
     figures, failed = load.end(early)
-    equal("the number of responses that were no success", failed, 0)
+    check_successes(failed)
     return figures
 
 
