@@ -1,9 +1,10 @@
 -- Reading files, piece by piece.
-use Rattle.std.proofs.Common.{◌≡◌, ◌∙◌, inl, inr, ⊎_elim, ℕ, zero, suc, ◌+◌, ◌-◌, ◌<◌, ◌≤◌, List, [], ◌++◌, length, take, refl, sym, ap, subst, arith}
+use Rattle.std.proofs.Common.{◌≡◌, ◌∙◌, inl, inr, ⊎_elim, ℕ, zero, suc, ◌+◌, ◌-◌, ◌<◌, ◌≤◌, List, ◌++◌, length, take, refl, sym, ap, subst, arith}
 use Rattle.std.specs.Prelude.{IsTrue, min}
 use Rattle.std.proofs.Math.Seq.{take-add}
+use Rattle.std.proofs.lemmas.List.{take_all}
 use Rattle.hk_base.specs.Disk.{CallOn, DiskState, Reads, Tells, piece}
-use Rattle.check_run.specs.Looks.{AppendsPiece, OnlyLooks}
+use Rattle.check_run.specs.Looks.{AppendsPiece, IsWholeCopy, IsFrontOf, OnlyLooks}
 
 -- before the first call
 pub looks_not : (d : DiskState) → OnlyLooks d d
@@ -78,14 +79,40 @@ pub record CopiedUpTo (file at size : ℕ) (old mid : DiskState) (bytes : List �
   pub inside : Tells old → at ≤ length (old.reads file)
   pub copied : Tells old → bytes ≡ take at (old.reads file)
 
-pub copied_none : (file size : ℕ) (old mid : DiskState) (bytes : List ℕ) → OnlyLooks old mid → bytes ≡ [] → size ≤ 4611686018427387904 → (Tells old → size ≡ length (old.reads file)) → CopiedUpTo file 0 size old mid bytes
-copied_none file size old mid bytes looks none small is = record {
+pub copied_front : (file from size : ℕ) (old mid : DiskState) (bytes : List ℕ) → OnlyLooks old mid → length bytes ≡ from → IsFrontOf old file from bytes → size ≤ 4611686018427387904 → (Tells old → size ≡ length (old.reads file)) → CopiedUpTo file from size old mid bytes
+copied_front file from size old mid bytes looks count front small is = record {
   looks = looks;
-  length_is = ap length none;
+  length_is = count;
   small = small;
   size_is = is;
-  inside = λ telling. omega arith;
-  copied = λ telling. none;
+  inside = front.inside;
+  copied = front.front;
+}
+
+-- all of the file was copied
+pub copied_all : (file at size : ℕ) (old mid : DiskState) (bytes : List ℕ) → CopiedUpTo file at size old mid bytes → size ≤ at → IsWholeCopy old file at bytes
+copied_all file at size old mid bytes so_far end = record {
+  count_is = so_far.length_is;
+  whole = λ telling. so_far.copied telling ∙ take_all at (old.reads file) (omega (arith, end, so_far.size_is telling));
+}
+
+-- what was copied is the front of a file that has not changed
+pub front_of_copy : (file count : ℕ) (old mid : DiskState) (bytes : List ℕ) → file < 2 → OnlyLooks old mid → IsWholeCopy old file count bytes → IsFrontOf mid file count bytes
+front_of_copy file count old mid bytes file_in looks copy = record {
+  inside = λ telling.
+      let told : Tells old = subst (λ b. IsTrue b) looks.tells telling in
+      omega (arith, copy.count_is, ap length (copy.whole told ∙ sym (looks.reads told file file_in)));
+  front = λ telling.
+      let told : Tells old = subst (λ b. IsTrue b) looks.tells telling in
+      let whole : bytes ≡ mid.reads file = copy.whole told ∙ sym (looks.reads told file file_in) in
+      whole ∙ sym (take_all count (mid.reads file) (omega (arith, copy.count_is, ap length whole)));
+}
+
+-- and a copy of that file is one of the file before
+pub copy_before : (file count : ℕ) (old mid : DiskState) (bytes : List ℕ) → file < 2 → OnlyLooks old mid → IsWholeCopy mid file count bytes → IsWholeCopy old file count bytes
+copy_before file count old mid bytes file_in looks copy = record {
+  count_is = copy.count_is;
+  whole = λ telling. copy.whole (telling_on old mid looks telling) ∙ looks.reads telling file file_in;
 }
 
 -- one more piece

@@ -1,5 +1,5 @@
 -- A disk that is only read.
-use Rattle.std.specs.Prelude.{◌≡◌, ◌⊎◌, ℕ, ◌+◌, ◌-◌, ◌<◌, ◌≤◌, min, List, ◌++◌, length}
+use Rattle.std.specs.Prelude.{◌≡◌, ◌⊎◌, ℕ, ◌+◌, ◌-◌, ◌<◌, ◌≤◌, min, List, ◌++◌, length, take}
 use Rattle.hk_base.specs.Disk.{DiskState, Image, IsImage, Tells, piece}
 use Rattle.hk_base.specs.Faults.{Rose}
 use Rattle.command_io.specs.declared.ends.ReplayEnd.{ReplayEnd}
@@ -24,3 +24,13 @@ pub record AppendsPiece (file at : ℕ) (old : DiskState) (bytes bytes' : List �
   pub few : n ≤ 4096
   pub count : Tells old → n ≡ min 4096 (length (old.reads file) - at)
   pub copied : Tells old → bytes' ≡ bytes ++ piece at n (old.reads file)
+
+-- the bytes are the first ones of a file, if the disk tells what it holds
+pub record IsFrontOf (disk : DiskState) (file from : ℕ) (bytes : List ℕ) : Type 0 where
+  pub inside : Tells disk → from ≤ length (disk.reads file)
+  pub front : Tells disk → bytes ≡ take from (disk.reads file)
+
+-- so many bytes are all of a file, if the disk tells what it holds
+pub record IsWholeCopy (disk : DiskState) (file count : ℕ) (bytes : List ℕ) : Type 0 where
+  pub count_is : length bytes ≡ count
+  pub whole : Tells disk → bytes ≡ disk.reads file

@@ -3,7 +3,7 @@ ghost use Rattle.std.specs.Prelude.{◌≡◌, ◌-◌, ◌<◌, ◌≤◌, ◌+
 ghost use Rattle.disk_kinds.specs.Plain.{contents};
 ghost use Rattle.hk_base.specs.Disk.{Tells};
 ghost use Rattle.check_run.specs.Checks.{AreBytesOf};
-ghost use Rattle.check_run.specs.Looks.{CannotLook, AppendsPiece, OnlyLooks};
+ghost use Rattle.check_run.specs.Looks.{AppendsPiece, CannotLook, IsWholeCopy, IsFrontOf, OnlyLooks};
 
 use command_io::ReplayEnd;
 use disk_kinds::PlainDisk;
@@ -12,6 +12,9 @@ use std::alloc::Global;
 
 /// The most bytes that are read at a time.
 const PIECE: usize = 4096;
+
+/// How many times a file is read on if it grows.
+const ROUNDS: u32 = 1000;
 
 /// Appends bytes to a file in memory that has `at` bytes.
 fn append(copy: &mut PlainDisk, file: u8, at: u64, bytes: &[u8]) -> Result<(), NoMemory>
@@ -55,7 +58,42 @@ fn copy_piece<D: Disk>(
     }
 }
 
-/// Reads a file of a disk to its end into an empty file in memory.
+/// Reads a file of a disk from `from` on to its end, and appends that to a file in memory that has its first
+/// `from` bytes. Returns the number of bytes that are in memory then.
+fn copy_more<D: Disk>(
+    disk: &mut D,
+    file: u8,
+    from: u64,
+    copy: &mut PlainDisk,
+) -> Result<u64, ReplayEnd>
+    requires file { file < 2 }
+    requires end { length (contents copy.old file) ≡ from }
+    requires front { IsFrontOf (D.state disk.old) file from (contents copy.old file) }
+    ensures copied { IfOk result
+        (λ end. IsWholeCopy (D.state disk.old) file end (contents copy.new file)) }
+    ensures other { contents copy.new (1 - file) ≡ contents copy.old (1 - file) }
+    ensures looks { OnlyLooks (D.state disk.old) (D.state disk.new) }
+    ensures ends { IfErr result (CannotLook (D.state disk.old) (D.state disk.new)) }
+{
+    let size = match disk.len(file) {
+        Ok(size) => size,
+        Err(_) => return Err(ReplayEnd::StoreFault),
+    };
+    let mut at = from;
+    'pieces: while at < size {
+        match copy_piece(disk, file, at, copy) {
+            Err(end) => return Err(end),
+            // The file has got shorter.
+            Ok(0) => return Ok(at),
+            Ok(count) => at += count,
+        }
+    }
+    Ok(at)
+}
+
+/// Reads a file of a disk to its end into an empty file in memory. A server may append to the file
+/// meanwhile, and then sets a byte that comes before what it appended. So it reads on until the file has
+/// not grown.
 fn copy_file<D: Disk>(disk: &mut D, file: u8, copy: &mut PlainDisk) -> Result<(), ReplayEnd>
     requires file { file < 2 }
     requires empty { contents copy.old file ≡ [] }
@@ -65,18 +103,13 @@ fn copy_file<D: Disk>(disk: &mut D, file: u8, copy: &mut PlainDisk) -> Result<()
     ensures looks { OnlyLooks (D.state disk.old) (D.state disk.new) }
     ensures ends { IfErr result (CannotLook (D.state disk.old) (D.state disk.new)) }
 {
-    let size = match disk.len(file) {
-        Ok(size) => size,
-        Err(_) => return Err(ReplayEnd::StoreFault),
-    };
-    let mut at: u64 = 0;
-    'pieces: while at < size {
-        match copy_piece(disk, file, at, copy) {
-            Err(end) => return Err(end),
-            // The file has got shorter.
-            Ok(0) => return Ok(()),
-            Ok(count) => at += count,
+    let mut at = copy_more(disk, file, 0, copy)?;
+    'rounds: for _ in 0..ROUNDS {
+        let end = copy_more(disk, file, at, copy)?;
+        if end == at {
+            return Ok(());
         }
+        at = end;
     }
     Ok(())
 }

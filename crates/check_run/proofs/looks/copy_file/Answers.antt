@@ -1,12 +1,7 @@
-use Rattle.std.proofs.Common.{◌∙◌}
 use Rattle.disk_kinds.specs.Plain.{contents}
-use Rattle.check_run.proofs.LookLemmas.{copied_more}
+use Rattle.check_run.proofs.LookLemmas.{front_of_copy}
 use Rattle.check_run.proofs.looks.copy_file.Goals as goal
 
-pub pieces-preserved : goal.pieces-preserved
-pieces-preserved g c = record {
-  so_far =
-      copied_more c.args.file c.pieces.at c.in-Ok.size (g.D.Disk.state c.args.disk.now) (g.D.Disk.state c.pieces.disk) (g.D.Disk.state c.copy_piece.new.disk) (contents c.pieces.copy c.args.file) (contents c.copy_piece.new.copy c.args.file)
-      c.in-Ok-copy_piece.count c.requires.file c.pieces.invariant.so_far c.copy_piece.ensures.looks c.in-Ok-copy_piece.ensures.copied;
-  other = c.copy_piece.ensures.other ∙ c.pieces.invariant.other;
-}
+pub copy_more-requires-in-rounds-clause-front : goal.copy_more-requires-in-rounds-clause-front
+copy_more-requires-in-rounds-clause-front g c =
+    front_of_copy c.args.file c.rounds.at (g.D.Disk.state c.args.disk.now) (g.D.Disk.state c.rounds.disk) (contents c.rounds.copy c.args.file) c.requires.file c.rounds.invariant.looks c.rounds.invariant.copied

@@ -1,13 +1,11 @@
 use Rattle.std.proofs.Common.{◌≡◌, ◌-◌}
 use Rattle.disk_kinds.specs.Plain.{contents}
-use Rattle.check_run.proofs.LookLemmas.{CopiedUpTo}
+use Rattle.check_run.specs.Looks.{IsWholeCopy, OnlyLooks}
 use Rattle.check_run.proofs.looks.copy_file.Given as goal
 
-abbrev pub invariant-pieces : goal.invariant-pieces
-invariant-pieces g l = record {
-  so_far : CopiedUpTo l.file l.at l.size (g.D.Disk.state l.fn.disk) (g.D.Disk.state l.disk) (contents l.copy l.file);
+abbrev pub invariant-rounds : goal.invariant-rounds
+invariant-rounds g l = record {
+  looks : OnlyLooks (g.D.Disk.state l.fn.disk) (g.D.Disk.state l.disk);
+  copied : IsWholeCopy (g.D.Disk.state l.fn.disk) l.file l.at (contents l.copy l.file);
   other : contents l.copy (1 - l.file) ≡ contents l.fn.copy (1 - l.file);
 }
-
-abbrev pub decreases-pieces : goal.decreases-pieces
-decreases-pieces g l = l.size - l.at
