@@ -12,7 +12,7 @@ use Rattle.kms_store.specs.Store.{IsKeyLog, IsKeyStoreOf, StoreState, next_openi
 use Rattle.name_store.specs.Store.{Started}
 use Rattle.name_store.specs.Store as names
 use Rattle.name_store.specs.Table.{NameTable}
-use Rattle.check_run.specs.Checks.{IsUnsummed, IsUnsummedNames, ReportsFound, SumsUp, SumsUpNames}
+use Rattle.check_run.specs.Checks.{IsAnyKeyLog, IsUnsummed, IsUnsummedNames, ReportsFound, SumsUp, SumsUpNames}
 use Rattle.check_run.specs.Summary.{check_text}
 
 -- a start of the edit log adds an opening, which no line shows
@@ -63,24 +63,27 @@ sums_both found found' opened (Ok text) keys same sums = record {
   text_is = sums.text_is ∙ ap (λ (t : Table). check_text t sums.made.table) keys.opened_is;
 }
 
-unsummed_too : (found : ℕ → List ℕ) (end : ReplayEnd) → IsUnsummedNames (found 1) end → IsUnsummed found end
-unsummed_too found (replay_end.DamagedNames at) is = is
-unsummed_too found replay_end.Spent is = inr is
-unsummed_too found replay_end.NoMemory is = tt
-unsummed_too found replay_end.Done is = absurd is
-unsummed_too found (replay_end.AclRefused number) is = absurd is
-unsummed_too found (replay_end.AclRepeated number) is = absurd is
-unsummed_too found (replay_end.AclUnknown number) is = absurd is
-unsummed_too found replay_end.AclTooLong is = absurd is
-unsummed_too found replay_end.BadLine is = absurd is
-unsummed_too found (replay_end.DamagedKeys at) is = absurd is
-unsummed_too found replay_end.StoreFault is = absurd is
-unsummed_too found replay_end.ReadFault is = absurd is
-unsummed_too found replay_end.WriteFault is = absurd is
+any_key_log : (bytes : List ℕ) (opened : Table) → FindsKeys bytes opened → IsAnyKeyLog bytes
+any_key_log bytes opened keys = record { commands = keys.commands; table = keys.table; log = keys.log }
 
-pub unsummed_both : (found found' : ℕ → List ℕ) (r : Result (List ℕ) ReplayEnd) → found' 1 ≡ found 1 → IfErr r (IsUnsummedNames (found' 1)) → IfErr r (IsUnsummed found)
-unsummed_both found found' (Ok text) same is = tt
-unsummed_both found found' (Err end) same is = unsummed_too found end (subst (λ (bytes : List ℕ). IsUnsummedNames bytes end) same is)
+unsummed_too : (found : ℕ → List ℕ) (opened : Table) (end : ReplayEnd) → FindsKeys (found 0) opened → IsUnsummedNames (found 1) end → IsUnsummed found end
+unsummed_too found opened (replay_end.DamagedNames at) keys is = (any_key_log (found 0) opened keys, is)
+unsummed_too found opened replay_end.Spent keys is = inr (any_key_log (found 0) opened keys, is)
+unsummed_too found opened replay_end.NoMemory keys is = tt
+unsummed_too found opened replay_end.Done keys is = absurd is
+unsummed_too found opened (replay_end.AclRefused number) keys is = absurd is
+unsummed_too found opened (replay_end.AclRepeated number) keys is = absurd is
+unsummed_too found opened (replay_end.AclUnknown number) keys is = absurd is
+unsummed_too found opened replay_end.AclTooLong keys is = absurd is
+unsummed_too found opened replay_end.BadLine keys is = absurd is
+unsummed_too found opened (replay_end.DamagedKeys at) keys is = absurd is
+unsummed_too found opened replay_end.StoreFault keys is = absurd is
+unsummed_too found opened replay_end.ReadFault keys is = absurd is
+unsummed_too found opened replay_end.WriteFault keys is = absurd is
+
+pub unsummed_both : (found found' : ℕ → List ℕ) (opened : Table) (r : Result (List ℕ) ReplayEnd) → FindsKeys (found 0) opened → found' 1 ≡ found 1 → IfErr r (IsUnsummedNames (found' 1)) → IfErr r (IsUnsummed found)
+unsummed_both found found' opened (Ok text) keys same is = tt
+unsummed_both found found' opened (Err end) keys same is = unsummed_too found opened end keys (subst (λ (bytes : List ℕ). IsUnsummedNames bytes end) same is)
 
 pub reports_found : (found : ℕ → List ℕ) (r : Result (List ℕ) ReplayEnd) (written now : Option (List ℕ)) (status : ℕ) → IfOk r (SumsUp found) → IfErr r (IsUnsummed found)
     → MatchResult r (λ text. ShowsWith text 0 written now status) (λ end. Reports end written now status) → ReportsFound written now status found

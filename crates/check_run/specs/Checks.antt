@@ -39,11 +39,17 @@ abbrev pub ended_in_memory : ℕ → StartFault → ReplayEnd
 ended_in_memory file start_fault.StoreFault = replay_end.NoMemory
 ended_in_memory file fault = ended_by file fault
 
--- why the bytes of the files are not summed up
+-- the bytes are a key log, whatever it makes
+pub record IsAnyKeyLog (bytes : List ℕ) : Type 0 where
+  pub commands : List KeyCommand
+  pub table : Table
+  pub log : IsKeyLog bytes commands table
+
+-- why the bytes of the files are not summed up: the fault of the key log, or that of the edit log beside a key log
 abbrev pub IsUnsummed : (ℕ → List ℕ) → ReplayEnd → Type 0
 IsUnsummed found (replay_end.DamagedKeys at) = key_log.IsDamagedAt (found 0) at
-IsUnsummed found (replay_end.DamagedNames at) = edit_log.IsDamagedAt (found 1) at
-IsUnsummed found replay_end.Spent = SpentKeys (found 0) ⊎ SpentNames (found 1)
+IsUnsummed found (replay_end.DamagedNames at) = IsAnyKeyLog (found 0) × edit_log.IsDamagedAt (found 1) at
+IsUnsummed found replay_end.Spent = SpentKeys (found 0) ⊎ (IsAnyKeyLog (found 0) × SpentNames (found 1))
 IsUnsummed found replay_end.NoMemory = ⊤
 IsUnsummed found _ = ⊥
 

@@ -9,4 +9,4 @@ returns-in-Ok-clause-sums c =
     (c.start.ensures.opens.run.other_reads refl) c.text_beside-text.ensures.sums
 
 pub returns-in-Ok-clause-ends : goal.returns-in-Ok-clause-ends
-returns-in-Ok-clause-ends c = unsummed_both (contents c.args.copy.now) (contents c.start.new.disk) c.text_beside-text.result (c.start.ensures.opens.run.other_reads refl) c.text_beside-text.ensures.ends
+returns-in-Ok-clause-ends c = unsummed_both (contents c.args.copy.now) (contents c.start.new.disk) c.in-Ok.keys.table.keys c.text_beside-text.result (finds_keys (contents c.args.copy.now 0) (state_of c.start.new.disk) c.in-Ok.keys (c.in-Ok.ensures.log refl)) (c.start.ensures.opens.run.other_reads refl) c.text_beside-text.ensures.ends
