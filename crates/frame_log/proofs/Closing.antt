@@ -4,8 +4,7 @@ use Rattle.std.specs.List.{AllByRecursion, list_any}
 use Rattle.std.proofs.lemmas.List.{set_at, drop_at}
 use Rattle.std.proofs.lemmas.Bool.Decides.{nat_tests}
 use Rattle.std.proofs.lemmas.Bool.{cases_eq}
-use Rattle.frame_log.specs.Format.{magic, frames}
-use Rattle.frame_log.specs.Stands.{front}
+use Rattle.frame_log.specs.Format.{magic, frames, front}
 use Rattle.frame_log.proofs.Reading.{front_long, log_found, magic_long}
 use Rattle.frame_log.specs.FormatTwo.{AreTorn, Holds, IsOwn, IsTorn, WholeReading, MayRead, byte_at, first_byte, gates, gates_of, log_in, moving_at, since_nothing, with_ones}
 use Rattle.frame_log.proofs.Movings.{front_reads, none_moves, own_fits}

@@ -6,8 +6,7 @@ use Rattle.std.proofs.lemmas.Nat.{from_be_bytes-to_be_bytes_8}
 use Rattle.std.proofs.lemmas.List.{take_at, drop_at}
 use Rattle.std.proofs.lemmas.Bool.Decides.{nat_tests}
 use Rattle.std.proofs.lemmas.Bool.{cases_lt}
-use Rattle.frame_log.specs.Format.{magic, frames, behind, IsPayload, part, Found, NoLog, frames_at, starts_with, log_of}
-use Rattle.frame_log.specs.Stands.{front}
+use Rattle.frame_log.specs.Format.{magic, frames, front, behind, IsPayload, part, Found, NoLog, frames_at, starts_with, log_of}
 use Rattle.frame_log.proofs.Reading.{part_frame, part_end, frames_long, magic_long, frames_read}
 use Rattle.frame_log.specs.Bases.{moved_on}
 use Rattle.frame_log.specs.FormatTwo.{Holds, IsOwn, Selector, area_in, by_moving, counting, log_in, moved, moving_at, next_turn, of_frames, on_counting, on_moved, on_moving, on_selectors, selector_bytes, selector_in, since, since_nothing, sized_area, started}
@@ -114,12 +113,12 @@ starts zero rest = refl
 starts (suc file) rest = refl
 
 -- A file with the frame that moves behind payloads, and its two selectors behind that, whatever follows, reads by the selector that counts.
-module _ (file : ℕ) (old : List (List ℕ)) (q : ℕ) (a b tail : List ℕ) (own : AllByRecursion IsOwn old) (place : q ≡ 8 + length (frames old) + 15) (small : q < 2 ^ 64) (long_a : length a ≡ 17) (long_b : length b ≡ 17) where
+module _ (file : ℕ) (old : List (List ℕ)) (q end : ℕ) (a b tail : List ℕ) (own : AllByRecursion IsOwn old) (place : q ≡ 8 + length (frames old) + 15) (small : q < 2 ^ 64) (long_a : length a ≡ 17) (long_b : length b ≡ 17) (shut : end ≢ 1) where
   selectors : List ℕ
   selectors = a ++ (b ++ tail)
 
   behind_gate : List ℕ
-  behind_gate = behind (moved q) ++ 0 ∷ selectors
+  behind_gate = behind (moved q) ++ end ∷ selectors
 
   moved_file : List ℕ
   moved_file = front file old ++ 1 ∷ behind_gate
@@ -139,15 +138,15 @@ module _ (file : ℕ) (old : List (List ℕ)) (q : ℕ) (a b tail : List ℕ) (o
 
   longer : 14 ≤ length behind_gate
   unfolding behind_gate
-  longer = omega (arith, length-append (behind (moved q)) (0 ∷ selectors))
+  longer = omega (arith, length-append (behind (moved q)) (end ∷ selectors))
 
-  finds : moving_at (length moved_file) 8 (drop 8 moved_file) ≡ Some (record { gate = 8 + length (frames old); place = q; rest = 0 ∷ selectors })
+  finds : moving_at (length moved_file) 8 (drop 8 moved_file) ≡ Some (record { gate = 8 + length (frames old); place = q; rest = end ∷ selectors })
   unfolding behind_gate
   finds =
       ap (moving_at (length moved_file) 8) back
-      ∙ finds_moved old q (0 ∷ selectors) own small (omega arith) (length moved_file) 8 (omega (arith, size, longer, frames_long old))
+      ∙ finds_moved old q (end ∷ selectors) own small (omega arith) (length moved_file) 8 (omega (arith, size, longer, frames_long old))
 
-  turns : on_moved moved_file (record { gate = 8 + length (frames old); place = q; rest = 0 ∷ selectors }) ≡ on_selectors q moved_file selectors
+  turns : on_moved moved_file (record { gate = 8 + length (frames old); place = q; rest = end ∷ selectors }) ≡ on_selectors q moved_file selectors
   turns = grind (arith, nat_tests)
 
   moved_reads : log_in file moved_file ≡ on_counting q moved_file (counting (selector_in a) (selector_in b))
@@ -159,15 +158,15 @@ module _ (file : ℕ) (old : List (List ℕ)) (q : ℕ) (a b tail : List ℕ) (o
       whole ∙ ap (λ m. by_moving moved_file m (log_of file moved_file)) finds ∙ turns ∙ selectors_read q moved_file a b tail long_a long_b
 
   -- the same, with the bytes written out
-  pub reads_by : log_in file (moved_on file old q a b tail) ≡ on_counting q (moved_on file old q a b tail) (counting (selector_in a) (selector_in b))
+  pub reads_by : log_in file (moved_on file old q end a b tail) ≡ on_counting q (moved_on file old q end a b tail) (counting (selector_in a) (selector_in b))
   unfolding moved_file behind_gate selectors
   reads_by = moved_reads
 
-  pub moves_by : moving_at (length (moved_on file old q a b tail)) 8 (drop 8 (moved_on file old q a b tail)) ≡ Some (record { gate = 8 + length (frames old); place = q; rest = 0 ∷ (a ++ (b ++ tail)) })
+  pub moves_by : moving_at (length (moved_on file old q end a b tail)) 8 (drop 8 (moved_on file old q end a b tail)) ≡ Some (record { gate = 8 + length (frames old); place = q; rest = end ∷ (a ++ (b ++ tail)) })
   unfolding moved_file behind_gate selectors
   moves_by = finds
 
-  pub long_by : 9 < length (moved_on file old q a b tail)
+  pub long_by : 9 < length (moved_on file old q end a b tail)
   unfolding moved_file behind_gate selectors
   long_by = omega (arith, size, longer)
 

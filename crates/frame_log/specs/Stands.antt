@@ -1,13 +1,13 @@
 -- The invariant of a log on its disk.
-use Rattle.std.specs.Prelude.{◌≡◌, ◌⊎◌, ◌≤◌, ℕ, List, [], ◌∷◌, ◌++◌, length, Option, Some, None, IfSome, option_map}
+use Rattle.std.specs.Prelude.{◌≡◌, ◌⊎◌, ◌≤◌, ℕ, List, [], ◌∷◌, ◌++◌, length, Option, Some, None, IfSome, option_map, if◌then◌else◌}
 use Rattle.std.specs.List.{AllByRecursion}
 use Rattle.hk_base.specs.Disk.{DiskState, Image}
-use Rattle.frame_log.specs.Format.{magic, frames, behind, IsPayload, IsAtRest, IsHalfOpen}
+use Rattle.frame_log.specs.Format.{behind, IsPayload, IsAtRest, IsHalfOpen}
+pub use Rattle.frame_log.specs.Format.{front}
+use Rattle.frame_log.specs.Bases.{Area, IsBase, area_at, front_of, selectors_at}
+use Rattle.frame_log.specs.FormatTwo.{selector_in}
+use Rattle.frame_log.specs.declared.log.Selected.{Selected}
 use Rattle.frame_log.specs.declared.log.Log.{Log}
-
--- the bytes before the end gate
-abbrev pub front : ℕ → List (List ℕ) → List ℕ
-front file payloads = magic file ++ frames payloads
 
 -- the front, a zero byte, and any bytes
 abbrev pub IsShut : List ℕ → List ℕ → Type 0
@@ -32,6 +32,31 @@ pub record Stands (disk : DiskState) (log : Log) (payloads : List (List ℕ)) (u
   pub waits : log.unsettled ≡ option_map length unsettled
   pub reads : Is (front log.file payloads) unsettled (disk.reads log.file)
   pub leaves : (bytes : List ℕ) → disk.leaves log.file bytes → Is (front log.file payloads) unsettled bytes
+
+-- The same of a log that may stand on an area.
+pub record StandsOn (base : Option Area) (disk : DiskState) (log : Log) (payloads : List (List ℕ)) (unsettled : Option (List ℕ)) : Type 0 where
+  pub is_base : IsBase base
+  pub sized : AllByRecursion IsPayload payloads
+  pub payload : IfSome unsettled IsPayload
+  pub end : log.end ≡ length (front_of log.file base payloads)
+  pub waits : log.unsettled ≡ option_map length unsettled
+  pub reads : Is (front_of log.file base payloads) unsettled (disk.reads log.file)
+  pub leaves : (bytes : List ℕ) → disk.leaves log.file bytes → Is (front_of log.file base payloads) unsettled bytes
+
+-- The selector that counts is open and names the area, and the other one is shut.
+pub record Names (selected : Selected) (area : Area) : Type 0 where
+  pub selectors : selected.selectors ≡ selectors_at area
+  pub counts : (selector_in (if selected.second then area.second else area.first)).gate ≡ 1
+  pub alone : (selector_in (if selected.second then area.first else area.second)).gate ≡ 0
+  pub turn : selected.turn ≡ (selector_in (if selected.second then area.second else area.first)).turn
+  pub place : selected.place ≡ area_at area
+
+-- the log knows what it stands on
+abbrev pub Knows : Option Selected → Option Area → Type 0
+Knows None None = Unit {0}
+Knows (Some selected) (Some area) = Names selected area
+Knows None (Some area) = ⊥
+Knows (Some selected) None = ⊥
 
 -- A file that a run may start from: a log at rest, or one that has exactly one more frame, and is at rest,
 -- once its end gate byte is set to 1.

@@ -13,5 +13,5 @@ mod window;
 pub use fault::{LogFault, StartFault, StoreRefusal};
 pub use frames::{Frame, Frames};
 pub use gates::LONGEST_PAYLOAD;
-pub use log::Log;
+pub use log::{Log, Selected};
 pub use records::Records;

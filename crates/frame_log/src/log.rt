@@ -9,12 +9,24 @@ use crate::records::Records;
 use hk_base::{Disk, LONGEST_FILE};
 use std::alloc::Global;
 
-/// A log on one file of a disk: the offset of its end gate and, after a failure of the disk, the length
-/// of the payload that was being added. A gate is the commit byte of a frame (docs/glossary.md).
+/// Where a compacted log goes on: the offset of the first of its two selectors, whether the second one
+/// counts, the turn of the one that counts, and the place of the area that it names.
+#[derive(Clone, Copy)]
+pub struct Selected {
+    pub selectors: u64,
+    pub second: bool,
+    pub turn: u64,
+    pub place: u64,
+}
+
+/// A log on one file of a disk: the offset of its end gate, where it goes on if it was compacted, and,
+/// after a failure of the disk, the length of the payload that was being added. A gate is the commit
+/// byte of a frame (docs/glossary.md).
 #[derive(Drop)]
 pub struct Log {
     pub file: u8,
     pub end: u64,
+    pub area: Option<Selected>,
     pub unsettled: Option<u32>,
     ghost file_in: { file < 2 },
     ghost end_in: { end ≤ 2 ^ 62 },
@@ -167,6 +179,7 @@ impl Log {
             let log = Log {
                 file,
                 end: 8,
+                area: None,
                 unsettled: None,
             };
             return Ok((log, 9));
@@ -185,6 +198,7 @@ impl Log {
         let log = Log {
             file,
             end,
+            area: None,
             unsettled: None,
         };
         Ok((log, size))
