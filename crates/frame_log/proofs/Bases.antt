@@ -8,7 +8,7 @@ use Rattle.std.proofs.lemmas.Bool.{cases_eq, cases_lt}
 use Rattle.frame_log.specs.Format.{IsPayload, behind, frames, front, magic}
 use Rattle.frame_log.specs.Bases.{Area, IsArea, IsBase, IsBaseOf, IsWhole, MayFollow, base_bytes, front_on, area_at, area_base, area_start, behind_selectors, moved_on, moving_file, selectors_at, start_of}
 use Rattle.frame_log.specs.FormatTwo.{Always, Content, Holds, IsOwn, IsTorn, LogStart, Selector, adding, area_in, byte_at, end_gate, first_byte, gates, holding, gates_of, log_in, moved, moving_at, on_counting, selector_in, since, since_nothing}
-use Rattle.frame_log.proofs.Reading.{frames_long, frames_push, front_long}
+use Rattle.frame_log.proofs.Reading.{all_push, frames_long, front_long, joined}
 use Rattle.frame_log.proofs.Movings.{area_reads, long_by, moves_by, reads_by}
 use Rattle.frame_log.proofs.Torn.{always_one, always_two, one_of_three}
 use Rattle.frame_log.proofs.Closing as closing
@@ -23,17 +23,6 @@ set_open : (base more : List ℕ) (k : ℕ) → k < length base → byte_at k ba
 set_open [] more k short is = absurd (omega arith)
 set_open (b ∷ base) more zero short is = ap (λ (x : ℕ). x ∷ (base ++ more)) (sym is)
 set_open (b ∷ base) more (suc k) short is = ap (λ (l : List ℕ). b ∷ l) (set_open base more k (omega arith) is)
-
--- an opened frame has become part of the front
-joined_on : (base : List ℕ) (payloads : List (List ℕ)) (payload rest : List ℕ) → front_on base payloads ++ 1 ∷ (behind payload ++ 0 ∷ rest) ≡ front_on base (payloads ++ payload ∷ []) ++ 0 ∷ rest
-joined_on base payloads payload rest =
-    append_assoc base (frames payloads) (1 ∷ (behind payload ++ 0 ∷ rest))
-    ∙ ap (λ (l : List ℕ). base ++ l) (sym (frames_push payload (0 ∷ rest) payloads))
-    ∙ sym (append_assoc base (frames (payloads ++ payload ∷ [])) (0 ∷ rest))
-
-all_more : (P : List ℕ → Type 0) (payloads : List (List ℕ)) (payload : List ℕ) → AllByRecursion P payloads → P payload → AllByRecursion P (payloads ++ payload ∷ [])
-all_more P [] payload all is = (is, tt)
-all_more P (p ∷ ps) payload all is = (all.0, all_more P ps payload all.1 is)
 
 module _ (file : ℕ) (start : Option LogStart) (base : List ℕ) (on : IsBaseOf file start base) where
   -- with an open gate of the base read as 1 the file is the same
@@ -60,19 +49,19 @@ module _ (file : ℕ) (start : Option LogStart) (base : List ℕ) (on : IsBaseOf
   always_ready payloads payload gate rest own fits =
       always_two file (λ h. front_on base payloads ++ h ∷ later) (length (front_on base payloads)) (λ h. set_at (front_on base payloads) h later 1 (length (front_on base payloads)) refl) stays
       (holding start payloads) (adding (holding start payloads) payload) (λ h shut. on.reads payloads h later own shut)
-      (ap (log_in file) with_one ∙ on.reads (payloads ++ payload ∷ []) 0 rest (all_more (MayFollow start) payloads payload own fits) (λ no. absurd (cc no))) gate
+      (ap (log_in file) with_one ∙ on.reads (payloads ++ payload ∷ []) 0 rest (all_push (MayFollow start) payloads payload own fits) (λ no. absurd (cc no))) gate
     where
       later : List ℕ
       later = behind payload ++ 0 ∷ rest
 
       with_one : front_on base payloads ++ 1 ∷ later ≡ front_on base (payloads ++ payload ∷ []) ++ 0 ∷ rest
-      with_one = joined_on base payloads payload rest
+      with_one = joined base payloads payload rest
 
       stays : (h k : ℕ) → IsTorn file (front_on base payloads ++ h ∷ later) k → (k ≡ length (front_on base payloads)) ⊎ (set (front_on base payloads ++ h ∷ later) k 1 ≡ front_on base payloads ++ h ∷ later)
       stays h k torn = elim (cases_eq h 1) [
         | inl one ↦
             let same : front_on base payloads ++ h ∷ later ≡ front_on base (payloads ++ payload ∷ []) ++ 0 ∷ rest = ap (λ (x : ℕ). front_on base payloads ++ x ∷ later) one ∙ with_one in
-            inr (ap (λ (l : List ℕ). set l k 1) same ∙ shut_stays (payloads ++ payload ∷ []) rest (all_more (MayFollow start) payloads payload own fits) k (subst (λ (l : List ℕ). IsTorn file l k) same torn) ∙ sym same)
+            inr (ap (λ (l : List ℕ). set l k 1) same ∙ shut_stays (payloads ++ payload ∷ []) rest (all_push (MayFollow start) payloads payload own fits) k (subst (λ (l : List ℕ). IsTorn file l k) same torn) ∙ sym same)
         | inr shut ↦ elim (on.torn payloads h later own shut k torn) [
           | inl end ↦ inl end
           | inr open_one ↦ inr (still payloads (h ∷ later) k open_one.0 open_one.1)

@@ -3,18 +3,20 @@ use Rattle.std.proofs.Common.{◌≡◌, ◌⊎◌, inl, inr, ◌-◌, ℕ, suc,
 use Rattle.hk_base.specs.Disk.{DiskState, Tells, Reads, RunOn}
 use Rattle.hk_base.proofs.Runs.{Going}
 use Rattle.frame_log.specs.Format.{log_of, Found, IsAtRest, IsHalfOpen, IsBeforeOrAfter, IsAsFound, At_rest, Half_open, Opened, IsRecovered, Log_as_found, No_log}
-use Rattle.frame_log.specs.Stands.{Stands, front, Is, IsSoundFile, LeavesFrom}
+use Rattle.frame_log.specs.Bases.{Area, front_of}
+use Rattle.frame_log.specs.Stands.{Stands, StandsOn, Is, IsSoundFile, LeavesFrom}
 use Rattle.frame_log.specs.declared.log.Log.{Log}
 use Rattle.frame_log.proofs.Reading.{log_shut}
 
 -- calls on one file keep the invariant of the other log
-pub other_stands : (file : ℕ) (old new : DiskState) (log : Log) (payloads : List (List ℕ)) (unsettled : Option (List ℕ)) → RunOn file old new → log.file ≡ 1 - file → Tells old → Stands old log payloads unsettled → Stands new log payloads unsettled
-other_stands file old new log payloads unsettled run other tells s = record {
+pub other_stands : {base : Option Area} (file : ℕ) (old new : DiskState) (log : Log) (payloads : List (List ℕ)) (unsettled : Option (List ℕ)) → RunOn file old new → log.file ≡ 1 - file → Tells old → StandsOn base old log payloads unsettled → StandsOn base new log payloads unsettled
+other_stands {base} file old new log payloads unsettled run other tells s = record {
+  is_base = s.is_base;
   sized = s.sized;
   payload = s.payload;
   end = s.end;
   waits = s.waits;
-  reads = subst (Is (front log.file payloads) unsettled) (sym (subst (λ (k : ℕ). new.reads k ≡ old.reads k) (sym other) (run.other_reads tells))) s.reads;
+  reads = subst (Is (front_of log.file base payloads) unsettled) (sym (subst (λ (k : ℕ). new.reads k ≡ old.reads k) (sym other) (run.other_reads tells))) s.reads;
   leaves = λ bytes h. s.leaves bytes (subst (λ (k : ℕ). new.leaves k bytes → old.leaves k bytes) (sym other) (run.other_leaves bytes).0 h);
 }
 
@@ -29,13 +31,14 @@ pub reads_at_rest : (d : DiskState) (log : Log) (payloads : List (List ℕ)) →
 reads_at_rest d log payloads s = ap (log_of log.file) s.reads.1 ∙ log_shut log.file payloads s.reads.0 s.sized
 
 -- calls that only read leave the log standing
-pub still_stands : (file : ℕ) (old new : DiskState) (log : Log) (payloads : List (List ℕ)) (unsettled : Option (List ℕ)) → Reads file old new → log.file ≡ file → Tells old → Stands old log payloads unsettled → Stands new log payloads unsettled
-still_stands file old new log payloads unsettled same is tells s = record {
+pub still_stands : {base : Option Area} (file : ℕ) (old new : DiskState) (log : Log) (payloads : List (List ℕ)) (unsettled : Option (List ℕ)) → Reads file old new → log.file ≡ file → Tells old → StandsOn base old log payloads unsettled → StandsOn base new log payloads unsettled
+still_stands {base} file old new log payloads unsettled same is tells s = record {
+  is_base = s.is_base;
   sized = s.sized;
   payload = s.payload;
   end = s.end;
   waits = s.waits;
-  reads = subst (Is (front log.file payloads) unsettled) (sym (subst (λ (k : ℕ). new.reads k ≡ old.reads k) (sym is) (same.reads tells))) s.reads;
+  reads = subst (Is (front_of log.file base payloads) unsettled) (sym (subst (λ (k : ℕ). new.reads k ≡ old.reads k) (sym is) (same.reads tells))) s.reads;
   leaves = λ bytes h. s.leaves bytes (subst (λ (k : ℕ). new.leaves k bytes → old.leaves k bytes) (sym is) (same.leaves bytes) h);
 }
 

@@ -24,16 +24,7 @@ abbrev pub Is : List ℕ → Option (List ℕ) → List ℕ → Type 0
 Is front None bytes = IsShut front bytes
 Is front (Some payload) bytes = IsShut front bytes ⊎ IsFrameReady front payload bytes
 
--- The log has these payloads on the disk, and at most one that is unsettled.
-pub record Stands (disk : DiskState) (log : Log) (payloads : List (List ℕ)) (unsettled : Option (List ℕ)) : Type 0 where
-  pub sized : AllByRecursion IsPayload payloads
-  pub payload : IfSome unsettled IsPayload
-  pub end : log.end ≡ length (front log.file payloads)
-  pub waits : log.unsettled ≡ option_map length unsettled
-  pub reads : Is (front log.file payloads) unsettled (disk.reads log.file)
-  pub leaves : (bytes : List ℕ) → disk.leaves log.file bytes → Is (front log.file payloads) unsettled bytes
-
--- The same of a log that may stand on an area.
+-- The log stands on this base and has these payloads on the disk, and at most one that is unsettled.
 pub record StandsOn (base : Option Area) (disk : DiskState) (log : Log) (payloads : List (List ℕ)) (unsettled : Option (List ℕ)) : Type 0 where
   pub is_base : IsBase base
   pub sized : AllByRecursion IsPayload payloads
@@ -42,6 +33,10 @@ pub record StandsOn (base : Option Area) (disk : DiskState) (log : Log) (payload
   pub waits : log.unsettled ≡ option_map length unsettled
   pub reads : Is (front_of log.file base payloads) unsettled (disk.reads log.file)
   pub leaves : (bytes : List ℕ) → disk.leaves log.file bytes → Is (front_of log.file base payloads) unsettled bytes
+
+-- the same of a log that was never compacted
+abbrev pub Stands : DiskState → Log → List (List ℕ) → Option (List ℕ) → Type 0
+Stands disk log payloads unsettled = StandsOn None disk log payloads unsettled
 
 -- The selector that counts is open and names the area, and the other one is shut.
 pub record Names (selected : Selected) (area : Area) : Type 0 where

@@ -75,10 +75,11 @@ impl Log {
     ghost use Rattle.hk_base.specs.Disk.{Tells, RunOn, LeavesOnly, Only};
     ghost use Rattle.hk_base.specs.Faults.{Rose};
     ghost use Rattle.frame_log.specs.declared.fault.LogFault.TheVariants.{Damaged, StoreFault, NoMemory};
-    ghost use Rattle.frame_log.specs.Format.{log_of, Found, NoLog, placed, IsBeforeOrAfter, IsAsFound, IsRecovered};
+    ghost use Rattle.frame_log.specs.Format.{log_of, Found, NoLog, placed, IsAsFound, IsRecovered};
     ghost use Rattle.frame_log.specs.Scan.{view};
     ghost use Rattle.frame_log.specs.Opens.{FailsAs, RecoversLog};
-    ghost use Rattle.frame_log.specs.Stands.{Stands};
+    ghost use Rattle.frame_log.specs.Bases.{Area, front_of};
+    ghost use Rattle.frame_log.specs.Stands.{Is, Stands, StandsOn};
     ghost use Rattle.frame_log.specs.Ahead.{Ahead};
 
     /// Reads the log of a file that a crash may have left, and sets its end gate to 0 if it isn't 0.
@@ -216,29 +217,31 @@ impl Log {
         requires settled { self.old.unsettled ≡ None }
         requires payload { IsPayload payload.now }
         requires stands { Tells (D.state disk.old) →
-            ((payloads : List (List ℕ)) × Stands (D.state disk.old) self.old payloads None) }
+            ((base : Option Area) × (payloads : List (List ℕ)) ×
+            StandsOn base (D.state disk.old) self.old payloads None) }
 
         ensures place { IfOk result (λ at. at ≡ self.old.end + 5) }
 
         // From then on every crash leaves a file with the payload.
         ensures added { OnOk result
-            (Tells (D.state disk.old) → (payloads : List (List ℕ)) →
-            Stands (D.state disk.old) self.old payloads None
-            → Stands (D.state disk.new) self.new (payloads ++ payload.now ∷ []) None) }
+            (Tells (D.state disk.old) → (base : Option Area) (payloads : List (List ℕ)) →
+            StandsOn base (D.state disk.old) self.old payloads None
+            → StandsOn base (D.state disk.new) self.new (payloads ++ payload.now ∷ []) None) }
 
-        // A crash at any moment of the call leaves the payloads from before it, with or without the new one.
-        ensures any_moment { Tells (D.state disk.old) → (payloads : List (List ℕ)) →
-            Stands (D.state disk.old) self.old payloads None
+        // A crash at any moment of the call leaves the log as it was, or with the frame behind its end gate, which may be torn.
+        ensures any_moment { Tells (D.state disk.old) → (base : Option Area) (payloads : List (List ℕ)) →
+            StandsOn base (D.state disk.old) self.old payloads None
             → LeavesOnly self.old.file (D.state disk.old) (D.state disk.new)
-            (IsBeforeOrAfter self.old.file payloads payload.now) }
+            (Is (front_of self.old.file base payloads) (Some payload.now)) }
 
         ensures unsettled { IsErrOf result StoreFault → Tells (D.state disk.old) →
-            (payloads : List (List ℕ)) → Stands (D.state disk.old) self.old payloads None
-            → Stands (D.state disk.new) self.new payloads (Some payload.now) }
+            (base : Option Area) (payloads : List (List ℕ)) → StandsOn base (D.state disk.old) self.old payloads None
+            → StandsOn base (D.state disk.new) self.new payloads (Some payload.now) }
         ensures memory { IsErrOf result NoMemory → (self.new ≡ self.old) × (disk.new ≡ disk.old) }
         ensures damaged { (at : ℕ) → IsErrOf result (Damaged at) → ⊥ }
         ensures run { RunOn self.old.file (D.state disk.old) (D.state disk.new) }
         ensures file { self.new.file ≡ self.old.file }
+        ensures area { self.new.area ≡ self.old.area }
         ensures now_settled { OnOk result (self.new.unsettled ≡ None) }
         ensures now_unsettled { IsErrOf result StoreFault → IsSome self.new.unsettled }
         ensures cause { IsErrOf result StoreFault →
@@ -262,30 +265,31 @@ impl Log {
     pub fn settle<D: Disk>(&mut self, disk: &mut D) -> Result<bool, LogFault>
         requires unsettled { IsSome self.old.unsettled }
         requires stands { Tells (D.state disk.old) →
-            ((payloads : List (List ℕ)) × (payload : List ℕ) ×
-            Stands (D.state disk.old) self.old payloads (Some payload)) }
+            ((base : Option Area) × (payloads : List (List ℕ)) × (payload : List ℕ) ×
+            StandsOn base (D.state disk.old) self.old payloads (Some payload)) }
 
         ensures settled { IfOk result
-            (λ kept. Tells (D.state disk.old) → (payloads : List (List ℕ)) (payload : List ℕ) →
-            Stands (D.state disk.old) self.old payloads (Some payload)
-            → Stands (D.state disk.new) self.new
+            (λ kept. Tells (D.state disk.old) → (base : Option Area) (payloads : List (List ℕ)) (payload : List ℕ) →
+            StandsOn base (D.state disk.old) self.old payloads (Some payload)
+            → StandsOn base (D.state disk.new) self.new
             (if kept then payloads ++ payload ∷ [] else payloads) None) }
         ensures kept { IfOk result
             (λ kept. Tells (D.state disk.old) →
             (IsTrue kept ↔
             (slice_get ((D.state disk.old).reads self.old.file) self.old.end ≡ Some 1))) }
         ensures any_moment { Tells (D.state disk.old) →
-            (payloads : List (List ℕ)) (payload : List ℕ) →
-            Stands (D.state disk.old) self.old payloads (Some payload)
+            (base : Option Area) (payloads : List (List ℕ)) (payload : List ℕ) →
+            StandsOn base (D.state disk.old) self.old payloads (Some payload)
             → LeavesOnly self.old.file (D.state disk.old) (D.state disk.new)
-            (IsBeforeOrAfter self.old.file payloads payload) }
+            (Is (front_of self.old.file base payloads) (Some payload)) }
         ensures unsettled { IsErr result → Tells (D.state disk.old) →
-            (payloads : List (List ℕ)) (payload : List ℕ) →
-            Stands (D.state disk.old) self.old payloads (Some payload)
-            → Stands (D.state disk.new) self.new payloads (Some payload) }
+            (base : Option Area) (payloads : List (List ℕ)) (payload : List ℕ) →
+            StandsOn base (D.state disk.old) self.old payloads (Some payload)
+            → StandsOn base (D.state disk.new) self.new payloads (Some payload) }
         ensures fault { IsErr result → IsErrOf result StoreFault }
         ensures run { RunOn self.old.file (D.state disk.old) (D.state disk.new) }
         ensures file { self.new.file ≡ self.old.file }
+        ensures area { self.new.area ≡ self.old.area }
         ensures now_settled { OnOk result (self.new.unsettled ≡ None) }
         ensures still_unsettled { OnErr result (self.new ≡ self.old) }
         ensures cause { OnErr result (Rose (D.state disk.old).faults (D.state disk.new).faults) }

@@ -100,6 +100,7 @@ returns-then-size-le9-clause-log g c tells =
       short_log file R short,
       sym (ap length (c.sync.ensures.same.reads tells2) ∙ short_size file R c.fresh.result _ short bytes wrote),
       record {
+        is_base = tt;
         sized = tt;
         payload = tt;
         end = sym (front_long file []);
@@ -351,13 +352,13 @@ returns-clause-log g c tells =
           let size5 : c.in_ok-size.size ≡ length ((g.D.Disk.state c.if-scan-ne-SHUT.disk).reads file) = subst (λ d. c.in_ok-size.size ≡ length ((g.D.Disk.state d).reads file)) (sym w.disk-is) (size ∙ sym same_size) in
           let reads5 : IsShut F ((g.D.Disk.state c.if-scan-ne-SHUT.disk).reads file) = subst (λ d. IsShut F ((g.D.Disk.state d).reads file)) (sym w.disk-is) (subst (IsShut F) (sym (w.sync-then-scan-ne-SHUT.ensures.same.reads tells4)) done) in
           let leaves5 : (b : List ℕ) → (g.D.Disk.state c.if-scan-ne-SHUT.disk).leaves file b → IsShut F b = subst (λ d. (b : List ℕ) → (g.D.Disk.state d).leaves file b → IsShut F b) (sym w.disk-is) (λ b h. subst (IsShut F) (sym (w.in_ok-sync-2.ensures.durable tells4 b h)) done) in
-          (s.payloads, c.in_ok-scan.scan.gate, found, size5, record { sized = s.sized; payload = tt; end = ends; waits = refl; reads = reads5; leaves = λ b h. leaves5 b h })
+          (s.payloads, c.in_ok-scan.scan.gate, found, size5, record { is_base = tt; sized = s.sized; payload = tt; end = ends; waits = refl; reads = reads5; leaves = λ b h. leaves5 b h })
       | else-scan-ne-SHUT w ↦
           let size5 : c.in_ok-size.size ≡ length ((g.D.Disk.state c.if-scan-ne-SHUT.disk).reads file) = subst (λ d. c.in_ok-size.size ≡ length ((g.D.Disk.state d).reads file)) (sym w.disk-is) (size ∙ ap length (sym R3)) in
           let done : IsShut F R = (s.rest, is ∙ ap (λ (k : ℕ). F ++ k ∷ s.rest) w.if-scan-ne-SHUT.false) in
           let reads5 : IsShut F ((g.D.Disk.state c.if-scan-ne-SHUT.disk).reads file) = subst (λ d. IsShut F ((g.D.Disk.state d).reads file)) (sym w.disk-is) (subst (IsShut F) (sym R3) done) in
           let leaves5 : (b : List ℕ) → (g.D.Disk.state c.if-scan-ne-SHUT.disk).leaves file b → IsShut F b = subst (λ d. (b : List ℕ) → (g.D.Disk.state d).leaves file b → IsShut F b) (sym w.disk-is) (λ b h. subst (IsShut F) (sym (only3 b h)) done) in
-          (s.payloads, c.in_ok-scan.scan.gate, found, size5, record { sized = s.sized; payload = tt; end = ends; waits = refl; reads = reads5; leaves = λ b h. leaves5 b h })
+          (s.payloads, c.in_ok-scan.scan.gate, found, size5, record { is_base = tt; sized = s.sized; payload = tt; end = ends; waits = refl; reads = reads5; leaves = λ b h. leaves5 b h })
     ]
 
 pub returns-in_err-size-clause-run : goal.returns-in_err-size-clause-run

@@ -2,12 +2,13 @@ use Rattle.std.proofs.Common.{false, Result, Ok, Err, ◌<◌, ◌≡◌, ◌+�
 use Rattle.std.proofs.lemmas.Option.{slice_get-get_or}
 use Rattle.std.specs.Prelude.{OnErr}
 use Rattle.hk_base.specs.Disk.{DiskState, Tells, CallOn, RunOn, LeavesOnly}
-use Rattle.hk_base.proofs.Runs.{begin, then, weaker}
-use Rattle.frame_log.specs.Format.{IsBeforeOrAfter}
-use Rattle.frame_log.specs.Stands.{front, IsShut, IsFrameReady, Is}
+use Rattle.hk_base.proofs.Runs.{begin, then}
+use Rattle.frame_log.specs.Format.{IsPayload}
+use Rattle.frame_log.specs.Bases.{base_bytes, front_of}
+use Rattle.frame_log.specs.Stands.{IsShut, IsFrameReady, Is}
 use Rattle.frame_log.proofs.Goings.{one}
 use Rattle.frame_log.proofs.Openings.{run_then, rose_since}
-use Rattle.frame_log.proofs.Reading.{before_or_after, fit_push, joined, end_push}
+use Rattle.frame_log.proofs.Reading.{all_push, end_on, joined}
 use Rattle.frame_log.proofs.Steps.{gate_torn, gate_leaves, gate_written, ready, shut, byte_read, inside, kept, not_kept, not_shut, long}
 use Rattle.frame_log.proofs.log.Log.settle.Goals.{in-Some, in-None, then-byte-ne-SHUT+in_ok-write_at+in_ok-sync-2, else-byte-ne-SHUT, else-byte-eq-OPEN-via-then-byte-eq-OPEN+else-next-le-LONGEST_FILE, else-byte-eq-OPEN-via-else-byte-eq-OPEN}
 use Rattle.frame_log.proofs.log.Log.settle.Goals as goal
@@ -20,43 +21,43 @@ on_err (Ok _) p = tt
 on_err (Err _) p = p
 
 pub returns-in_err-sync-clause-any_moment : goal.returns-in_err-sync-clause-any_moment
-returns-in_err-sync-clause-any_moment g c tells payloads x s =
+returns-in_err-sync-clause-any_moment g c tells base payloads x s =
     let file = c.args.self.now.file in
     let file_in = c.args.self.now.file_in in
     let end = c.args.self.now.end in
-    let F = front file payloads in
+    let F = front_of file base payloads in
     let P = Is F (Some x) in
     let go1 = then (begin file (g.D.Disk.state c.args.disk.now) P) c.sync.ensures.call file_in (λ b h. s.leaves b (c.sync.ensures.same.leaves b h)) in
-    weaker (before_or_after file payloads x s.sized s.payload) go1.moments
+    go1.moments
 
 pub returns-in_err-read-clause-any_moment : goal.returns-in_err-read-clause-any_moment
-returns-in_err-read-clause-any_moment g c tells payloads x s =
+returns-in_err-read-clause-any_moment g c tells base payloads x s =
     let file = c.args.self.now.file in
     let file_in = c.args.self.now.file_in in
     let end = c.args.self.now.end in
-    let F = front file payloads in
+    let F = front_of file base payloads in
     let P = Is F (Some x) in
     let go1 = then (begin file (g.D.Disk.state c.args.disk.now) P) c.sync.ensures.call file_in (λ b h. s.leaves b (c.sync.ensures.same.leaves b h)) in
     let go2 = then go1 c.read.ensures.call file_in (λ b h. s.leaves b (c.sync.ensures.same.leaves b (c.read.ensures.same.leaves b h))) in
-    weaker (before_or_after file payloads x s.sized s.payload) go2.moments
+    go2.moments
 
 pub returns-then-next-le-LONGEST_FILE-clause-any_moment : goal.returns-then-next-le-LONGEST_FILE-clause-any_moment
-returns-then-next-le-LONGEST_FILE-clause-any_moment g c tells payloads x s =
+returns-then-next-le-LONGEST_FILE-clause-any_moment g c tells base payloads x s =
     let file = c.args.self.now.file in
     let file_in = c.args.self.now.file_in in
     let end = c.args.self.now.end in
-    let F = front file payloads in
+    let F = front_of file base payloads in
     let P = Is F (Some x) in
     let go1 = then (begin file (g.D.Disk.state c.args.disk.now) P) c.sync.ensures.call file_in (λ b h. s.leaves b (c.sync.ensures.same.leaves b h)) in
     let go2 = then go1 c.read.ensures.call file_in (λ b h. s.leaves b (c.sync.ensures.same.leaves b (c.read.ensures.same.leaves b h))) in
-    weaker (before_or_after file payloads x s.sized s.payload) go2.moments
+    go2.moments
 
 pub returns-then-next-le-LONGEST_FILE-clause-settled : goal.returns-then-next-le-LONGEST_FILE-clause-settled
-returns-then-next-le-LONGEST_FILE-clause-settled g c tells payloads x s =
+returns-then-next-le-LONGEST_FILE-clause-settled g c tells base payloads x s =
     let file = c.args.self.now.file in
     let file_in = c.args.self.now.file_in in
     let end = c.args.self.now.end in
-    let F = front file payloads in
+    let F = front_of file base payloads in
     let P = Is F (Some x) in
     let tells1 = still c.sync.ensures.call tells in
     let tells2 = still c.read.ensures.call tells1 in
@@ -70,28 +71,30 @@ returns-then-next-le-LONGEST_FILE-clause-settled g c tells payloads x s =
       | in-Some w ↦ let same : w.in-Some.size ≡ length x = cc (w.in-Some.is, s.waits) in omega (arith, w.next-is, same)
       | in-None w ↦ cc (w.in-None.is, s.waits)
     ] in
-    let next_end : c.match-self.next ≡ length (front file (payloads ++ x ∷ [])) = omega (arith, s.end, end_push file payloads x) in
+    let next_end : c.match-self.next ≡ length (front_of file base (payloads ++ x ∷ [])) = omega (arith, s.end, end_on (base_bytes file base) payloads x) in
     let staged = kept F end s.end x R s.reads (sym byte ∙ c.if-byte-eq-OPEN.true) in
-    let done : IsShut (front file (payloads ++ x ∷ [])) R = (staged.0, staged.1 ∙ joined file payloads x s.sized s.payload staged.0) in
+    let done : IsShut (front_of file base (payloads ++ x ∷ [])) R = (staged.0, staged.1 ∙ joined (base_bytes file base) payloads x staged.0) in
     record {
-      sized = fit_push file payloads x s.sized s.payload;
+      is_base = s.is_base;
+      sized = all_push IsPayload payloads x s.sized s.payload;
       payload = tt;
       end = next_end;
       waits = refl;
-      reads = subst (IsShut (front file (payloads ++ x ∷ []))) (sym R2) done;
-      leaves = λ b h. subst (IsShut (front file (payloads ++ x ∷ []))) (sym (only b h)) done;
+      reads = subst (IsShut (front_of file base (payloads ++ x ∷ []))) (sym R2) done;
+      leaves = λ b h. subst (IsShut (front_of file base (payloads ++ x ∷ []))) (sym (only b h)) done;
     }
 
 pub returns-then-next-le-LONGEST_FILE-clause-kept : goal.returns-then-next-le-LONGEST_FILE-clause-kept
 returns-then-next-le-LONGEST_FILE-clause-kept g c tells =
     let was = c.requires.stands tells in
-    let payloads = was.0 in
-    let x = was.1 in
-    let s = was.2 in
+    let base = was.0 in
+    let payloads = was.1 in
+    let x = was.2 in
+    let s = was.3 in
     let file = c.args.self.now.file in
     let file_in = c.args.self.now.file_in in
     let end = c.args.self.now.end in
-    let F = front file payloads in
+    let F = front_of file base payloads in
     let P = Is F (Some x) in
     let tells1 = still c.sync.ensures.call tells in
     let tells2 = still c.read.ensures.call tells1 in
@@ -103,11 +106,11 @@ returns-then-next-le-LONGEST_FILE-clause-kept g c tells =
     (λ yes. slice_get-get_or R end 0 (inside F end s.end x R s.reads) ∙ ap (λ (k : ℕ). Some k) (sym byte ∙ c.if-byte-eq-OPEN.true), λ is. refl)
 
 pub returns-in_err-write_at-clause-any_moment : goal.returns-in_err-write_at-clause-any_moment
-returns-in_err-write_at-clause-any_moment g c tells payloads x s =
+returns-in_err-write_at-clause-any_moment g c tells base payloads x s =
     let file = c.args.self.now.file in
     let file_in = c.args.self.now.file_in in
     let end = c.args.self.now.end in
-    let F = front file payloads in
+    let F = front_of file base payloads in
     let P = Is F (Some x) in
     let tells1 = still c.sync.ensures.call tells in
     let tells2 = still c.read.ensures.call tells1 in
@@ -123,14 +126,14 @@ returns-in_err-write_at-clause-any_moment g c tells payloads x s =
     let go1 = then (begin file (g.D.Disk.state c.args.disk.now) P) c.sync.ensures.call file_in (λ b h. s.leaves b (c.sync.ensures.same.leaves b h)) in
     let go2 = then go1 c.read.ensures.call file_in (λ b h. s.leaves b (c.sync.ensures.same.leaves b (c.read.ensures.same.leaves b h))) in
     let go3 = then go2 c.write_at.ensures.call file_in (λ b h. inr (l3 b h)) in
-    weaker (before_or_after file payloads x s.sized s.payload) go3.moments
+    go3.moments
 
 pub returns-in_err-write_at-clause-unsettled : goal.returns-in_err-write_at-clause-unsettled
-returns-in_err-write_at-clause-unsettled g c err tells payloads x s =
+returns-in_err-write_at-clause-unsettled g c err tells base payloads x s =
     let file = c.args.self.now.file in
     let file_in = c.args.self.now.file_in in
     let end = c.args.self.now.end in
-    let F = front file payloads in
+    let F = front_of file base payloads in
     let P = Is F (Some x) in
     let tells1 = still c.sync.ensures.call tells in
     let tells2 = still c.read.ensures.call tells1 in
@@ -144,6 +147,7 @@ returns-in_err-write_at-clause-unsettled g c err tells payloads x s =
     let r2 : IsFrameReady F x ((g.D.Disk.state c.read.new.self).reads file) = subst (IsFrameReady F x) (sym R2) rdy in
     let l3 = gate_leaves F end s.end x _ _ (λ b h. subst (IsFrameReady F x) (sym (only b h)) rdy) c.write_at.ensures.crash in
     record {
+      is_base = s.is_base;
       sized = s.sized;
       payload = s.payload;
       end = s.end;
@@ -153,11 +157,11 @@ returns-in_err-write_at-clause-unsettled g c err tells payloads x s =
     }
 
 pub returns-in_err-sync-2-clause-any_moment : goal.returns-in_err-sync-2-clause-any_moment
-returns-in_err-sync-2-clause-any_moment g c tells payloads x s =
+returns-in_err-sync-2-clause-any_moment g c tells base payloads x s =
     let file = c.args.self.now.file in
     let file_in = c.args.self.now.file_in in
     let end = c.args.self.now.end in
-    let F = front file payloads in
+    let F = front_of file base payloads in
     let P = Is F (Some x) in
     let tells1 = still c.sync.ensures.call tells in
     let tells2 = still c.read.ensures.call tells1 in
@@ -174,14 +178,14 @@ returns-in_err-sync-2-clause-any_moment g c tells payloads x s =
     let go2 = then go1 c.read.ensures.call file_in (λ b h. s.leaves b (c.sync.ensures.same.leaves b (c.read.ensures.same.leaves b h))) in
     let go3 = then go2 c.write_at.ensures.call file_in (λ b h. inr (l3 b h)) in
     let go4 = then go3 c.sync-then-byte-ne-SHUT.ensures.call file_in (λ b h. inr (l3 b (c.sync-then-byte-ne-SHUT.ensures.same.leaves b h))) in
-    weaker (before_or_after file payloads x s.sized s.payload) go4.moments
+    go4.moments
 
 pub returns-in_err-sync-2-clause-unsettled : goal.returns-in_err-sync-2-clause-unsettled
-returns-in_err-sync-2-clause-unsettled g c err tells payloads x s =
+returns-in_err-sync-2-clause-unsettled g c err tells base payloads x s =
     let file = c.args.self.now.file in
     let file_in = c.args.self.now.file_in in
     let end = c.args.self.now.end in
-    let F = front file payloads in
+    let F = front_of file base payloads in
     let P = Is F (Some x) in
     let tells1 = still c.sync.ensures.call tells in
     let tells2 = still c.read.ensures.call tells1 in
@@ -197,6 +201,7 @@ returns-in_err-sync-2-clause-unsettled g c err tells payloads x s =
     let tells3 = still c.write_at.ensures.call tells2 in
     let s3 = gate_written F end s.end 0 x _ _ r2 (c.in_ok-write_at.ensures.written tells2) in
     record {
+      is_base = s.is_base;
       sized = s.sized;
       payload = s.payload;
       end = s.end;
@@ -206,11 +211,11 @@ returns-in_err-sync-2-clause-unsettled g c err tells payloads x s =
     }
 
 pub returns-clause-any_moment : goal.returns-clause-any_moment
-returns-clause-any_moment g c tells payloads x s =
+returns-clause-any_moment g c tells base payloads x s =
     let file = c.args.self.now.file in
     let file_in = c.args.self.now.file_in in
     let end = c.args.self.now.end in
-    let F = front file payloads in
+    let F = front_of file base payloads in
     let P = Is F (Some x) in
     let tells1 = still c.sync.ensures.call tells in
     let tells2 = still c.read.ensures.call tells1 in
@@ -229,16 +234,16 @@ returns-clause-any_moment g c tells payloads x s =
           let l3 = gate_leaves F end s.end x _ _ (λ b h. subst (IsFrameReady F x) (sym (only b h)) rdy) w.write_at.ensures.crash in
           let go3 = then go2 w.write_at.ensures.call file_in (λ b h. inr (l3 b h)) in
           let go4 = then go3 w.sync-then-byte-ne-SHUT.ensures.call file_in (λ b h. inr (l3 b (w.sync-then-byte-ne-SHUT.ensures.same.leaves b h))) in
-          subst (λ d. LeavesOnly file (g.D.Disk.state c.args.disk.now) (g.D.Disk.state d) (IsBeforeOrAfter file payloads x)) (sym w.disk-is) (weaker (before_or_after file payloads x s.sized s.payload) go4.moments)
-      | else-byte-ne-SHUT w ↦ subst (λ d. LeavesOnly file (g.D.Disk.state c.args.disk.now) (g.D.Disk.state d) (IsBeforeOrAfter file payloads x)) (sym w.disk-is) (weaker (before_or_after file payloads x s.sized s.payload) go2.moments)
+          subst (λ d. LeavesOnly file (g.D.Disk.state c.args.disk.now) (g.D.Disk.state d) (Is F (Some x))) (sym w.disk-is) (go4.moments)
+      | else-byte-ne-SHUT w ↦ subst (λ d. LeavesOnly file (g.D.Disk.state c.args.disk.now) (g.D.Disk.state d) (Is F (Some x))) (sym w.disk-is) (go2.moments)
     ]
 
 pub returns-clause-settled : goal.returns-clause-settled
-returns-clause-settled g c tells payloads x s =
+returns-clause-settled g c tells base payloads x s =
     let file = c.args.self.now.file in
     let file_in = c.args.self.now.file_in in
     let end = c.args.self.now.end in
-    let F = front file payloads in
+    let F = front_of file base payloads in
     let P = Is F (Some x) in
     let tells1 = still c.sync.ensures.call tells in
     let tells2 = still c.read.ensures.call tells1 in
@@ -259,6 +264,7 @@ returns-clause-settled g c tells payloads x s =
           let reads4 : IsShut F ((g.D.Disk.state c.if-byte-ne-SHUT.disk).reads file) = subst (λ d. IsShut F ((g.D.Disk.state d).reads file)) (sym w.disk-is) (subst (IsShut F) (sym (w.sync-then-byte-ne-SHUT.ensures.same.reads tells3)) done) in
           let leaves4 : (b : List ℕ) → (g.D.Disk.state c.if-byte-ne-SHUT.disk).leaves file b → IsShut F b = subst (λ d. (b : List ℕ) → (g.D.Disk.state d).leaves file b → IsShut F b) (sym w.disk-is) (λ b h. subst (IsShut F) (sym (w.in_ok-sync-2.ensures.durable tells3 b h)) done) in
           record {
+            is_base = s.is_base;
             sized = s.sized;
             payload = tt;
             end = s.end;
@@ -271,6 +277,7 @@ returns-clause-settled g c tells payloads x s =
           let reads4 : IsShut F ((g.D.Disk.state c.if-byte-ne-SHUT.disk).reads file) = subst (λ d. IsShut F ((g.D.Disk.state d).reads file)) (sym w.disk-is) (subst (IsShut F) (sym R2) done) in
           let leaves4 : (b : List ℕ) → (g.D.Disk.state c.if-byte-ne-SHUT.disk).leaves file b → IsShut F b = subst (λ d. (b : List ℕ) → (g.D.Disk.state d).leaves file b → IsShut F b) (sym w.disk-is) (λ b h. subst (IsShut F) (sym (only b h)) done) in
           record {
+            is_base = s.is_base;
             sized = s.sized;
             payload = tt;
             end = s.end;
@@ -283,13 +290,14 @@ returns-clause-settled g c tells payloads x s =
 pub returns-clause-kept : goal.returns-clause-kept
 returns-clause-kept g c tells =
     let was = c.requires.stands tells in
-    let payloads = was.0 in
-    let x = was.1 in
-    let s = was.2 in
+    let base = was.0 in
+    let payloads = was.1 in
+    let x = was.2 in
+    let s = was.3 in
     let file = c.args.self.now.file in
     let file_in = c.args.self.now.file_in in
     let end = c.args.self.now.end in
-    let F = front file payloads in
+    let F = front_of file base payloads in
     let P = Is F (Some x) in
     let tells1 = still c.sync.ensures.call tells in
     let tells2 = still c.read.ensures.call tells1 in
@@ -349,9 +357,10 @@ pub returns-in_err-sync-2-clause-cause : goal.returns-in_err-sync-2-clause-cause
 returns-in_err-sync-2-clause-cause g c = on_err _ (rose_since (run_then (run_then (one c.sync.ensures.call) (one c.read.ensures.call)) (one c.write_at.ensures.call)).faults c.in_err-sync-2.ensures.cause)
 
 pub returns-in_err-sync-clause-unsettled : goal.returns-in_err-sync-clause-unsettled
-returns-in_err-sync-clause-unsettled g c err tells payloads x s =
-    let F = front c.args.self.now.file payloads in
+returns-in_err-sync-clause-unsettled g c err tells base payloads x s =
+    let F = front_of c.args.self.now.file base payloads in
     record {
+      is_base = s.is_base;
       sized = s.sized;
       payload = s.payload;
       end = s.end;
@@ -361,10 +370,11 @@ returns-in_err-sync-clause-unsettled g c err tells payloads x s =
     }
 
 pub returns-in_err-read-clause-unsettled : goal.returns-in_err-read-clause-unsettled
-returns-in_err-read-clause-unsettled g c err tells payloads x s =
-    let F = front c.args.self.now.file payloads in
+returns-in_err-read-clause-unsettled g c err tells base payloads x s =
+    let F = front_of c.args.self.now.file base payloads in
     let tells1 = still c.sync.ensures.call tells in
     record {
+      is_base = s.is_base;
       sized = s.sized;
       payload = s.payload;
       end = s.end;
@@ -377,15 +387,15 @@ pub read-requires-clause-place : goal.read-requires-clause-place
 read-requires-clause-place g c tells1 =
     let tells = subst (λ b. IsTrue b) c.sync.ensures.call.tells tells1 in
     let was = c.requires.stands tells in
-    let s = was.2 in
-    let F = front c.args.self.now.file was.0 in
-    omega (arith, inside F c.args.self.now.end s.end was.1 _ s.reads, ap length (c.sync.ensures.same.reads tells))
+    let s = was.3 in
+    let F = front_of c.args.self.now.file was.0 was.1 in
+    omega (arith, inside F c.args.self.now.end s.end was.2 _ s.reads, ap length (c.sync.ensures.same.reads tells))
 
 pub write_at-requires-clause-place : goal.write_at-requires-clause-place
 write_at-requires-clause-place g c tells2 =
     let tells1 = subst (λ b. IsTrue b) c.read.ensures.call.tells tells2 in
     let tells = subst (λ b. IsTrue b) c.sync.ensures.call.tells tells1 in
     let was = c.requires.stands tells in
-    let s = was.2 in
-    let F = front c.args.self.now.file was.0 in
-    omega (arith, inside F c.args.self.now.end s.end was.1 _ s.reads, ap length (c.sync.ensures.same.reads tells), ap length (c.read.ensures.same.reads tells1))
+    let s = was.3 in
+    let F = front_of c.args.self.now.file was.0 was.1 in
+    omega (arith, inside F c.args.self.now.end s.end was.2 _ s.reads, ap length (c.sync.ensures.same.reads tells), ap length (c.read.ensures.same.reads tells1))
