@@ -14,7 +14,7 @@ use Rattle.frame_log.proofs.Reading.{part_frame, part_end, magic_long}
 use Rattle.frame_log.proofs.Windows.{nothing}
 
 -- the bytes after a frame
-behind_frame : (bytes x : List ℕ) (here : IsFrame bytes x) → drop (5 + length x) bytes ≡ here.rest
+pub behind_frame : (bytes x : List ℕ) (here : IsFrame bytes x) → drop (5 + length x) bytes ≡ here.rest
 behind_frame bytes x here =
     ap (λ (l : List ℕ). drop (5 + length x) l) here.split ∙ drop_at (1 ∷ behind x) here.rest (5 + length x) (omega (arith, length-append (to_be_bytes w32 (length x)) x))
 

@@ -259,6 +259,20 @@ module _ (file : ℕ) (area : Area) (is : IsArea area) (payloads : List (List �
         | inr (inr at) ↦ inl at
       ]
 
+-- the same of an area whose other gate may be torn, with its bytes written out
+
+pub area_split : (file : ℕ) (area : Area) → IsArea area → (payloads : List (List ℕ)) (gate : ℕ) (rest : List ℕ) → AllByRecursion IsPayload payloads → gate ≢ 1
+    → front_on (area_base file area) payloads ++ gate ∷ rest ≡ moved_on file area.old (selectors_at area) area.end area.first area.second (behind_selectors area ++ (frames payloads ++ gate ∷ rest))
+unfolding whole tail q
+area_split file area is payloads gate rest own shut = bytes_are file area is payloads gate rest own shut
+
+pub area_is_read : (file : ℕ) (area : Area) → IsArea area → (payloads : List (List ℕ)) (gate : ℕ) (rest : List ℕ) → AllByRecursion IsPayload payloads → gate ≢ 1
+    → log_in file (front_on (area_base file area) payloads ++ gate ∷ rest) ≡ Holds (holding (Some (area_start area)) payloads)
+area_is_read file area is payloads gate rest own shut = ap (log_in file) (bytes_are file area is payloads gate rest own shut) ∙ area_holds file area is payloads gate rest own shut
+
+pub area_base_long : (file : ℕ) (area : Area) → IsArea area → length (area_base file area) ≡ area_at area + 8 + length area.image
+area_base_long file area is = base_long file area is [] 0 [] tt (λ no. absurd (cc no))
+
 -- a log that was compacted, whichever of its selectors counts
 pub reads_on_area : (file : ℕ) (area : Area) → IsArea area → IsWhole area.first → IsWhole area.second → IsBaseOf file (Some (area_start area)) (area_base file area)
 reads_on_area file area is first second = record {

@@ -3,6 +3,7 @@ pub mod Bases
 mod Bytes
 pub mod Closing
 mod Found
+mod FoundLemmas
 mod Goings
 mod Head
 pub mod Layers
@@ -12,4 +13,5 @@ pub mod Reading
 mod Scans
 mod Steps
 pub mod Torn
+mod WalkLemmas
 mod Windows

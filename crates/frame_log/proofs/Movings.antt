@@ -35,7 +35,7 @@ own_fits [] own = tt
 own_fits (p ∷ ps) own = (own.0.fits, own_fits ps own.1)
 
 -- a payload of a log's own is passed
-passes : (p tail : List ℕ) → IsOwn p → 1 ≤ length tail → (n at : ℕ) → on_moving (moving_at n) at (part (1 ∷ (behind p ++ tail))) ≡ moving_at n (at + 5 + length p) tail
+pub passes : (p tail : List ℕ) → IsOwn p → 1 ≤ length tail → (n at : ℕ) → on_moving (moving_at n) at (part (1 ∷ (behind p ++ tail))) ≡ moving_at n (at + 5 + length p) tail
 passes p tail own long n at = ap (on_moving (moving_at n) at) (part_frame p tail own.fits long) ∙ (let no = own.own in grind (arith, nat_tests))
 
 -- no frame of such payloads moves

@@ -5,6 +5,8 @@ pub mod ExamplesTwo
 pub mod Faults
 pub mod Format
 pub mod FormatTwo
+pub mod FoundIn
 pub mod Opens
 pub mod Scan
 pub mod Stands
+pub mod Walked

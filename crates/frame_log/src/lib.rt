@@ -4,10 +4,13 @@
 #![tactic(auto)]
 
 mod fault;
+mod formats;
 mod frames;
 mod gates;
 mod log;
 mod records;
+mod selecting;
+mod walking;
 mod window;
 
 pub use fault::{LogFault, StartFault, StoreRefusal};

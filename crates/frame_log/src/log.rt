@@ -34,7 +34,7 @@ pub struct Log {
 }
 
 /// Returns whether the first eight bytes are the magic of this file.
-fn is_magic(file: u8, head: &[u8; 8]) -> bool
+pub(crate) fn is_magic(file: u8, head: &[u8; 8]) -> bool
     ensures { result ≡ starts_with (magic file) head.now }
 {
     *head == magic_of(file)
