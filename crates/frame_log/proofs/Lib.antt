@@ -11,6 +11,7 @@ pub mod Movings
 pub mod Openings
 pub mod Reading
 mod Scans
+pub mod Shutting
 mod Steps
 pub mod Torn
 mod WalkLemmas

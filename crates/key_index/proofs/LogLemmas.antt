@@ -3,10 +3,10 @@ use Rattle.std.proofs.Common.{◌≡◌, ℕ, ◌+◌, true, List, [], ◌∷◌
 use Rattle.std.specs.Int.{w16, w32, w64, to_be_bytes}
 use Rattle.std.proofs.lemmas.List.{drop_at, map-append, take_at}
 use Rattle.hk_base.specs.Disk.{DiskState, piece}
-use Rattle.frame_log.specs.Format.{behind}
+use Rattle.frame_log.specs.Format.{behind, magic}
 use Rattle.frame_log.specs.Stands.{Is, Stands, front}
 use Rattle.frame_log.specs.declared.log.Log.{Log}
-use Rattle.frame_log.proofs.Reading.{front_push}
+use Rattle.frame_log.proofs.Reading.{push_on}
 use Rattle.key_rows.specs.declared.rows.KeyCommand.{KeyCommand}
 use Rattle.key_rows.specs.declared.rows.KeyCommand.TheVariants.{Opened, Create, Roll, Delete}
 use Rattle.key_rows.specs.Records.{name_field, spelling, text_field}
@@ -64,7 +64,7 @@ front_more : (commands : List KeyCommand) (command : KeyCommand) → log_front (
 front_more commands command =
     ap (front 0) (map-append spelling commands (command ∷ []))
     ∙ sym (append-nil (front 0 (map spelling commands ++ spelling command ∷ [])))
-    ∙ front_push 0 (map spelling commands) (spelling command) []
+    ∙ push_on (magic 0) (map spelling commands) (spelling command) []
 
 pub in_log_after : (m : Materials) (commands : List KeyCommand) (x : Index) (command : KeyCommand) → IsSoundIndex x → applies_at x command ≡ true → InLog m commands x
     → InLog (materials_after m x command) (commands ++ command ∷ []) (after_at x command (material_at (length (log_front commands) + 5) command))
