@@ -1,5 +1,5 @@
 -- What a file reads as, by what a walk over its frames and its selectors finds.
-use Rattle.std.proofs.Common.{◌≡◌, ◌≢◌, ℕ, zero, suc, ◌+◌, ◌-◌, ◌<◌, ◌≤◌, ◌^◌, ◌==◌, Bool, true, false, if◌then◌else◌, List, [], ◌∷◌, ◌++◌, length, take, drop, Option, Some, None, refl, sym, ◌∙◌, ap, subst, arith, append_assoc, length-append, length-drop, take-append-drop}
+use Rattle.std.proofs.Common.{◌≡◌, ◌≢◌, inl, inr, ℕ, zero, suc, ◌+◌, ◌-◌, ◌<◌, ◌≤◌, ◌^◌, ◌==◌, Bool, true, false, if◌then◌else◌, List, [], ◌∷◌, ◌++◌, length, take, drop, Option, Some, None, refl, sym, ◌∙◌, ap, subst, arith, append_assoc, length-append, length-drop, take-append-drop}
 use Rattle.std.specs.Prelude.{MatchOption}
 use Rattle.std.specs.List.{AllByRecursion}
 use Rattle.std.specs.Int.{w32, w64, to_be_bytes, from_be_bytes}
@@ -8,10 +8,11 @@ use Rattle.std.proofs.lemmas.List.{drop-drop, length-take-le}
 use Rattle.std.proofs.lemmas.Bool.Decides.{nat_tests}
 use Rattle.frame_log.specs.Format.{magic, behind, frames, front, starts_with, IsPayload, Broken, part, on_part, more, frames_at, NoLog, log_of}
 use Rattle.frame_log.specs.FormatTwo.{Damage, IsOwn, Moving, Selector, area_in, by_moving, byte_at, counting, first_byte, log_in, moved, moving_at, on_counting, on_moved, on_moving, on_selectors, selector_in, sized_area, started}
-use Rattle.frame_log.specs.Bases.{Area, IsArea, area_at, area_base, behind_selectors, front_on, moved_on, selectors_at}
+use Rattle.frame_log.specs.Bases.{Area, IsArea, IsBase, IsWhole, area_at, area_base, behind_selectors, front_on, moved_on, selectors_at}
 use Rattle.frame_log.specs.Scan.{IsFrame, IsEnd}
+use Rattle.frame_log.specs.Stands.{Knows}
 use Rattle.frame_log.specs.Walked.{BreaksAt, Walked}
-use Rattle.frame_log.specs.FoundIn.{Chooses, IsAreaIn, IsChoice, IsFoundIn, Moves, Picks, PicksAny, moving_from, selector_bytes_at}
+use Rattle.frame_log.specs.FoundIn.{Chooses, IsAreaIn, IsChoice, IsAnyArea, IsFoundIn, Moves, Picks, PicksAny, moving_from, selector_bytes_at}
 use Rattle.frame_log.specs.declared.log.Selected.{Selected}
 use Rattle.frame_log.specs.declared.selecting.Choice.{Choice}
 use Rattle.frame_log.specs.declared.formats.AreaFound.{AreaFound}
@@ -311,7 +312,8 @@ module _ (file : ℕ) (bytes : List ℕ) (gate q : ℕ) (m : Moves file bytes ga
       let other = selector_of_bytes c.selected.second area.first area.second in
       record {
         selectors = choice.chooses.selectors ∙ sym q_is;
-        counts = ap (λ (s : Selector). s.gate) (sym same) ∙ choice.chooses.gate;
+        counts = choice.chooses.counts ∙ ap Some same;
+        is_open = ap (λ (s : Selector). s.gate) (sym same) ∙ choice.chooses.gate;
         turn = choice.chooses.turn ∙ ap (λ (s : Selector). s.turn) same;
         place = sym place_is;
         other = choice.chooses.other ∙ ap (λ (s : Selector). s.gate) other;
@@ -334,3 +336,21 @@ module _ (file : ℕ) (bytes : List ℕ) (gate q : ℕ) (m : Moves file bytes ga
         picks = subst (λ (a : Option Selected). PicksAny (Some area) a log.other) (sym selected) (subst (λ (k : ℕ). Picks area c.selected k) (sym other) picks);
         reads = ap (log_in file) split_is ∙ area_is_read file area is_area found.walked.payloads r.gate found.ends.rest found.walked.sized found.ends.shut;
       }
+
+-- ---- a log whose other selector is shut, and not torn
+
+whole_of : (second : Bool) (a b : List ℕ) → (selector_in (if second then b else a)).gate ≡ 1 → (selector_in (if second then a else b)).gate ≡ 0 → IsWhole a × IsWhole b
+whole_of true a b one none = (inl none, inr one)
+whole_of false a b one none = (inr one, inl none)
+
+-- then the log knows what it stands on
+pub found_base : (base : Option Area) (selected : Option Selected) (other : ℕ) → IsAnyArea base → PicksAny base selected other → other ≡ 0 → IsBase base × Knows selected base
+found_base None None other is p none = (tt, tt)
+found_base None (Some s) other is p none = absurd p
+found_base (Some a) None other is p none = absurd p
+found_base (Some a) (Some s) other is p none =
+    let alone : (selector_in (if s.second then a.first else a.second)).gate ≡ 0 = sym p.other ∙ none in
+    let whole = whole_of s.second a.first a.second p.is_open alone in (
+      record { is = is; first = whole.0; second = whole.1 },
+      record { selectors = p.selectors; counts = p.is_open; alone = alone; turn = p.turn; place = p.place },
+    )

@@ -65,7 +65,8 @@ pub record Moves (file : ℕ) (bytes : List ℕ) (gate q : ℕ) : Type 0 where
 -- The selector that counts is open and names the area; `gate` is the gate byte of the other one.
 pub record Picks (area : Area) (selected : Selected) (gate : ℕ) : Type 0 where
   pub selectors : selected.selectors ≡ selectors_at area
-  pub counts : (selector_in (if selected.second then area.second else area.first)).gate ≡ 1
+  pub counts : counting (selector_in area.first) (selector_in area.second) ≡ Some (selector_in (if selected.second then area.second else area.first))
+  pub is_open : (selector_in (if selected.second then area.second else area.first)).gate ≡ 1
   pub turn : selected.turn ≡ (selector_in (if selected.second then area.second else area.first)).turn
   pub place : selected.place ≡ area_at area
   pub other : gate ≡ (selector_in (if selected.second then area.first else area.second)).gate
