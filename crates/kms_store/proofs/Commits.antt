@@ -1,12 +1,15 @@
 -- What a commit and a settling leave.
-use Rattle.std.proofs.Common.{◌≡◌, ℕ, ◌+◌, Bool, true, List, [], ◌∷◌, ◌++◌, length, map, Option, Some, None, sym, ap, ◌∙◌, subst}
+use Rattle.std.proofs.Common.{◌≡◌, ℕ, ◌+◌, Bool, true, false, List, [], ◌∷◌, ◌++◌, length, map, Option, Some, None, refl, sym, ap, ◌∙◌, subst}
 use Rattle.std.specs.Prelude.{if◌then◌else◌, option_map, IfSome}
 use Rattle.hk_base.specs.Disk.{DiskState, LeavesOnly, Tells}
 use Rattle.hk_base.proofs.Runs.{weaker}
-use Rattle.frame_log.specs.Format.{IsBeforeOrAfter}
-use Rattle.frame_log.specs.Stands.{Stands, front}
+use Rattle.std.specs.List.{AllByRecursion}
+use Rattle.std.proofs.lemmas.List.{append-nil}
+use Rattle.frame_log.specs.Bases.{front_of}
+use Rattle.frame_log.specs.Format.{IsPayload}
+use Rattle.frame_log.specs.Stands.{Is, Stands, front}
 use Rattle.frame_log.specs.declared.log.Log.{Log}
-use Rattle.frame_log.proofs.Reading.{end_push}
+use Rattle.frame_log.proofs.Reading.{before_or_after, end_push}
 use Rattle.key_rows.proofs.Births.{each_more}
 use Rattle.key_rows.specs.Table.{Table, no_keys, applies, after}
 use Rattle.key_rows.specs.Records.{HasSpelling, spelling}
@@ -18,7 +21,7 @@ use Rattle.key_index.specs.Sound.{IsSoundIndex}
 use Rattle.key_index.proofs.CacheLemmas.{cached_after}
 use Rattle.kms_store.specs.Keys.{place_before}
 use Rattle.kms_store.specs.Replay.{key_replay}
-use Rattle.kms_store.specs.Store.{HoldsMaterials, SettlesKeys, StandsFor, StoreState, IsKeyStoreOf, IsWritten, settled_commands, settled_table}
+use Rattle.kms_store.specs.Store.{HoldsMaterials, SettlesKeys, StandsFor, StoreState, IsKeyStoreOf, IsWithOrWithout, IsWritten, settled_commands, settled_table}
 use Rattle.kms_store.proofs.Replays.{replay_more, spelled_more}
 use Rattle.kms_store.proofs.Stepping.{held_next, may_here, stands_after}
 
@@ -83,9 +86,99 @@ module _ (old new : DiskState) (store : StoreState) (commands : List KeyCommand)
       let whole : List (List ℕ) = map spelling commands ++ spelling command ∷ [] in
       one_more store' s spelled a (subst (λ (b : Bool). Stands new store'.log (if b then whole else map spelling commands) None) true_is (settled (map spelling commands) (spelling command) (stands_beside s waits)))
 
-  pub moments : (file : ℕ) (payload : List ℕ) → file ≡ 0 → HasSpelling command → payload ≡ spelling command → LeavesOnly file old new (IsBeforeOrAfter file (map spelling commands) payload) → LeavesOnly 0 old new (IsWritten commands command)
-  moments file payload zero_is spelled is left =
-      weaker (λ c with. (spelled, with)) (subst (λ (p : List ℕ). LeavesOnly 0 old new (IsBeforeOrAfter 0 (map spelling commands) p)) is (subst (λ (k : ℕ). LeavesOnly k old new (IsBeforeOrAfter k (map spelling commands) payload)) zero_is left))
+  -- what a crash leaves while a record is added to the log, or settled
+  left_with : (file : ℕ) (payload : List ℕ) → file ≡ 0 → IsPayload payload → payload ≡ spelling command → AllByRecursion IsPayload (map spelling commands) → LeavesOnly file old new (Is (front_of file None (map spelling commands)) (Some payload))
+      → LeavesOnly 0 old new (IsWithOrWithout commands command)
+  left_with file payload zero_is fits is sized left =
+      weaker (λ c held. before_or_after 0 (map spelling commands) (spelling command) sized (subst IsPayload is fits) c held)
+      (subst (λ (p : List ℕ). LeavesOnly 0 old new (Is (front_of 0 None (map spelling commands)) (Some p))) is (subst (λ (k : ℕ). LeavesOnly k old new (Is (front_of k None (map spelling commands)) (Some payload))) zero_is left))
+
+  pub moments : (file : ℕ) (payload : List ℕ) → file ≡ 0 → HasSpelling command → IsPayload payload → payload ≡ spelling command → AllByRecursion IsPayload (map spelling commands) → LeavesOnly file old new (Is (front_of file None (map spelling commands)) (Some payload))
+      → LeavesOnly 0 old new (IsWritten commands command)
+  moments file payload zero_is spelled fits is sized left = weaker (λ c with. (spelled, with)) (left_with file payload zero_is fits is sized left)
+
+  pub settle_moments : IsKeyStoreOf old store commands → store.pending ≡ Some command → store.log.file ≡ 0
+      → ((payloads : List (List ℕ)) (payload : List ℕ) → Stands old store.log payloads (Some payload) → LeavesOnly store.log.file old new (Is (front_of store.log.file None payloads) (Some payload)))
+      → LeavesOnly 0 old new (IsWithOrWithout commands command)
+  settle_moments s waits zero_is left =
+      let stands = stands_beside s waits in
+      left_with store.log.file (spelling command) zero_is stands.payload refl stands.sized (left (map spelling commands) (spelling command) stands)
+
+-- the payload that was added last is one
+pub last_fits : (payloads : List (List ℕ)) (payload : List ℕ) → AllByRecursion IsPayload (payloads ++ payload ∷ []) → IsPayload payload
+last_fits [] payload all = all.0
+last_fits (p ∷ ps) payload all = last_fits ps payload all.1
+
+-- two stores have the same keys
+pub record HasSameKeys (store store' : StoreState) : Type 0 where
+  pub table : store'.table.keys ≡ store.table.keys
+  pub index : store'.index ≡ store.index
+  pub cache : store'.cache ≡ store.cache
+
+-- a store that has the same keys, over what the log then holds
+pub same_keys : (old new : DiskState) (store store' : StoreState) (commands : List KeyCommand) → IsKeyStoreOf old store commands → HasSameKeys store store' → IfSome store'.pending HasSpelling
+    → Stands new store'.log (map spelling commands) (option_map spelling store'.pending) → IsKeyStoreOf new store' commands
+same_keys old new store store' commands s same waits stands = record {
+  spelled = s.spelled;
+  makes = s.makes ∙ ap Some (sym same.table);
+  waits = waits;
+  log = stands;
+  materials = record {
+    older = s.materials.older;
+    stands = subst (λ (x : Index). StandsFor s.materials.older x store'.table.keys) (sym same.index) (subst (StandsFor s.materials.older store.index) (sym same.table) s.materials.stands);
+    held = subst (InLog s.materials.older commands) (sym same.index) s.materials.held;
+    cached = subst (λ (x : Index). AreCached s.materials.older x store'.cache) (sym same.index) (subst (AreCached s.materials.older store.index) (sym same.cache) s.materials.cached);
+  };
+}
+
+-- the command is still pending
+pub still_waits : (old new : DiskState) (store : StoreState) (commands : List KeyCommand) (log : Log) → IsKeyStoreOf old store commands → ¬ (store.pending ≡ None)
+    → ((payloads : List (List ℕ)) (payload : List ℕ) → Stands old store.log payloads (Some payload) → Stands new log payloads (Some payload)) → IsKeyStoreOf new (record store { log = log }) commands
+still_waits old new store commands log s some unsettled = go store.pending refl
+  where
+    go : (o : Option KeyCommand) → store.pending ≡ o → IsKeyStoreOf new (record store { log = log }) commands
+    go None waits = absurd (some waits)
+    go (Some command) waits =
+        same_keys old new store (record store { log = log }) commands s (record { table = refl; index = refl; cache = refl }) s.waits
+        (subst (λ (o : Option KeyCommand). Stands new log (map spelling commands) (option_map spelling o)) (sym waits) (unsettled (map spelling commands) (spelling command) (stands_beside old new store commands command s waits)))
+
+-- a command is pending that was not before
+pub now_waits : (old new : DiskState) (store store' : StoreState) (commands : List KeyCommand) (command : KeyCommand) (payload : List ℕ) → IsKeyStoreOf old store commands → store.pending ≡ None → HasSameKeys store store' → store'.pending ≡ Some command
+    → HasSpelling command → payload ≡ spelling command → ((payloads : List (List ℕ)) → Stands old store.log payloads None → Stands new store'.log payloads (Some payload)) → IsKeyStoreOf new store' commands
+now_waits old new store store' commands command payload s alone same waits spelled is unsettled =
+    same_keys old new store store' commands s same (subst (λ (o : Option KeyCommand). IfSome o HasSpelling) (sym waits) spelled)
+    (subst (λ (o : Option KeyCommand). Stands new store'.log (map spelling commands) (option_map spelling o)) (sym waits)
+    (subst (λ (p : List ℕ). Stands new store'.log (map spelling commands) (Some p)) is (unsettled (map spelling commands) (stands_alone old new store commands command s alone))))
+
+-- the pending command was dropped
+pub dropped : (old new : DiskState) (store : StoreState) (commands : List KeyCommand) (log : Log) (pending : Option KeyCommand) (was_kept : Bool) → IsKeyStoreOf old store commands → ¬ (store.pending ≡ None) → pending ≡ None → was_kept ≡ false
+    → ((payloads : List (List ℕ)) (payload : List ℕ) → Stands old store.log payloads (Some payload) → Stands new log (if was_kept then payloads ++ payload ∷ [] else payloads) None)
+    → IsKeyStoreOf new (record store { log = log; pending = pending }) commands
+dropped old new store commands log pending was_kept s some none false_is settled = go store.pending refl
+  where
+    go : (o : Option KeyCommand) → store.pending ≡ o → IsKeyStoreOf new (record store { log = log; pending = pending }) commands
+    go None waits = absurd (some waits)
+    go (Some command) waits =
+        let whole : List (List ℕ) = map spelling commands ++ spelling command ∷ [] in
+        let stands : Stands new log (map spelling commands) None =
+        subst (λ (b : Bool). Stands new log (if b then whole else map spelling commands) None) false_is (settled (map spelling commands) (spelling command) (stands_beside old new store commands command s waits)) in
+        same_keys old new store (record store { log = log; pending = pending }) commands s (record { table = refl; index = refl; cache = refl }) (subst (λ (o : Option KeyCommand). IfSome o HasSpelling) (sym none) tt)
+        (subst (λ (o : Option KeyCommand). Stands new log (map spelling commands) (option_map spelling o)) (sym none) stands)
+
+dropped_table : (o : Option KeyCommand) (t : Table) → t ≡ settled_table false o t
+dropped_table None t = refl
+dropped_table (Some command) t = refl
+
+dropped_commands : (o : Option KeyCommand) → [] ≡ settled_commands false o
+dropped_commands None = refl
+dropped_commands (Some command) = refl
+
+pub settles_dropped : (old new : DiskState) (store store' : StoreState) → store'.pending ≡ None → store'.table.keys ≡ store.table.keys → (Tells old → (commands : List KeyCommand) → IsKeyStoreOf old store commands → IsKeyStoreOf new store' commands) → SettlesKeys old new store store' false
+settles_dropped old new store store' none same holds = record {
+  none = none;
+  table = same ∙ dropped_table store.pending store.table.keys;
+  log = λ tells commands s. subst (IsKeyStoreOf new store') (sym (append-nil commands) ∙ ap (λ (l : List KeyCommand). commands ++ l) (dropped_commands store.pending)) (holds tells commands s);
+}
 
 -- the pending command was kept and took effect
 pub settles_kept : (old new : DiskState) (store store' : StoreState) (command : KeyCommand) → store.pending ≡ Some command → store'.pending ≡ None → store'.table.keys ≡ after store.table.keys command
