@@ -1,4 +1,4 @@
-use Rattle.std.proofs.Common.{rules, ◌≡◌, ◌∙◌, List, None, Some, sym, ap, subst}
+use Rattle.std.proofs.Common.{rules, ◌≡◌, ◌∙◌, None, Some, sym, ap, subst}
 use Rattle.std.specs.Prelude.{map}
 use Rattle.frame_log.specs.Stands.{Stands}
 use Rattle.edit_ops.specs.Records.{spelling}

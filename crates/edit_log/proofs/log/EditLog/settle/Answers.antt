@@ -1,6 +1,5 @@
-use Rattle.std.proofs.Common.{rules, ◌≡◌, List, None, Some, refl, sym, ◌∙◌, ap, subst}
+use Rattle.std.proofs.Common.{rules, ◌≡◌, None, Some, refl, sym, ◌∙◌, ap, subst}
 use Rattle.frame_log.specs.Stands.{Stands}
-use Rattle.edit_ops.specs.declared.ops.EditOp.{EditOp}
 use Rattle.edit_log.specs.Log.{EditLogState, IsEditLogOf}
 use Rattle.edit_log.proofs.Commits.{dropped, kept, settle_moments, still_waits}
 use Rattle.edit_log.proofs.log.EditLog.settle.Goals as goal
