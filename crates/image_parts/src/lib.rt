@@ -4,4 +4,4 @@
 
 mod pieces;
 
-pub use pieces::put;
+pub use pieces::{kept, pass, put};

@@ -1,5 +1,5 @@
 //! Bytes that are told piece by piece, of which a buffer keeps some. It takes no memory.
-ghost use Rattle.std.specs.Prelude.{ℕ, List, ◌≡◌, ◌<◌, ◌≤◌, ◌+◌, ◌-◌, ◌++◌, length, nat_lt, slice_index_or, if◌then◌else◌};
+ghost use Rattle.std.specs.Prelude.{ℕ, List, ◌≡◌, ◌<◌, ◌≤◌, ◌+◌, ◌-◌, ◌^◌, ◌++◌, length, take, drop, nat_lt, slice_index_or, if◌then◌else◌, IfSome, IsSome};
 ghost use Rattle.image_parts.specs.Parts.{KeepsPart, kept_byte};
 
 /// Copies the first bytes, as many as there is room for.
@@ -56,4 +56,33 @@ pub fn put(buf: &mut [u8], at: u64, seen: u64, bytes: &[u8]) -> u64
 {
     keep(buf, at, seen, bytes);
     seen.saturating_add(bytes.len() as u64)
+}
+
+/// Tells `count` bytes after the first `seen` ones without showing them, and returns how many were told: at
+/// most the greatest number of 64 bits. Returns `None` if some of them may have a place in the buffer.
+pub fn pass(buf: &[u8], at: u64, seen: u64, count: u64) -> Option<u64>
+    ensures told { (all more : List ℕ) → KeepsPart at seen all buf.now → length more ≡ count →
+        IfSome result (λ told. KeepsPart at told (all ++ more) buf.now) }
+    ensures before { seen + count ≤ at → IsSome result }
+    ensures after { at + length buf.now ≤ seen → IsSome result }
+{
+    let end = seen.saturating_add(count);
+    if end <= at {
+        return Some(end);
+    }
+    if at.saturating_add(buf.len() as u64) <= seen {
+        return Some(end);
+    }
+    None
+}
+
+/// Returns how many bytes at the start of the buffer are bytes of the image, after all of it was told:
+/// as many as the image has from the offset `at` on, and the buffer has room for.
+pub fn kept(buf: &[u8], at: u64, seen: u64) -> usize
+    ensures most { result ≤ length buf.now }
+    ensures part { (all : List ℕ) → KeepsPart at seen all buf.now → length all < 2 ^ 64 →
+        take result buf.now ≡ take (length buf.now) (drop at all) }
+{
+    let left = seen.saturating_sub(at);
+    left.min(buf.len() as u64) as usize
 }

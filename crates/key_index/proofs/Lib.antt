@@ -10,3 +10,4 @@ pub mod CacheLemmas
 pub mod Entries
 pub mod RunLemmas
 pub mod NextPlaces
+pub mod Walks

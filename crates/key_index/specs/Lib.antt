@@ -3,6 +3,7 @@ pub mod Index
 pub mod Sound
 pub mod Adding
 pub mod Held
+pub mod Walk
 pub mod Cache
 pub mod Laws
 pub mod Examples

@@ -1,11 +1,12 @@
 //! Finding and changing the rows of the index.
-ghost use Rattle.std.specs.Prelude.{◌≡◌, ◌<◌, [], ◌∷◌, ◌++◌, All, None, Some, bytes_eq, false, filter, find, if◌then◌else◌, length, map, not, IfNone, IfOk, IfSome, IsOk, OnErr, OnOk};
+ghost use Rattle.std.specs.Prelude.{◌≡◌, ◌<◌, ◌≤◌, ◌^◌, [], ◌∷◌, ◌++◌, All, None, Some, bytes_eq, false, filter, find, if◌then◌else◌, length, map, not, set, IfNone, IfOk, IfSome, IsOk, OnErr, OnOk};
 ghost use Rattle.std.specs.List.{AllByRecursion, HoldsAt};
 ghost use Rattle.std.specs.Option.{option_copied};
 ghost use Rattle.std.specs.Vec.{vec_capacity, vec_len};
 ghost use Rattle.key_rows.specs.Names.{AreInNameOrder, birth_in, names_of};
 ghost use Rattle.key_index.specs.Index.{is_born, is_named, rolled_at};
 ghost use Rattle.key_index.specs.Sound.{AreNamed, AreRising, IsPlacedRow};
+ghost use Rattle.key_index.specs.Walk.{placed_from};
 
 use crate::by_name::{NamedBirth, birth_of, put};
 use crate::rows::{IndexRow, PlacedRow};
@@ -163,4 +164,15 @@ pub(crate) fn roll(
             Ok(())
         }
     }
+}
+
+/// Places the materials of the key at a position one after the other, from an offset on.
+pub(crate) fn place_at(rows: &mut Vec<PlacedRow>, at: usize, first: u64)
+    requires within { at < length rows.old.items }
+    requires rows { AllByRecursion IsPlacedRow rows.old.items }
+    requires first { first ≤ 2 ^ 62 }
+    ensures { HoldsAt (λ placed. rows.new.items ≡ set rows.old.items at (placed_from first placed))
+        rows.old.items at }
+{
+    rows[at].place_from(first);
 }

@@ -1,5 +1,6 @@
 //! The index of keys.
-ghost use Rattle.std.specs.Prelude.{◌≡◌, ◌+◌, ◌≤◌, ℕ, List, IsTrue, IfOk, IfSome, IsOk, OnErr, OnOk, Some, find, is_some, length, option_map};
+ghost use Rattle.std.specs.Prelude.{◌≡◌, ◌+◌, ◌<◌, ◌≤◌, ◌^◌, ℕ, List, IsTrue, IfOk, IfSome, IsOk, OnErr, OnOk, Some, find, is_some, length, option_map, slice_get};
+ghost use Rattle.std.specs.List.{HoldsAt};
 ghost use Rattle.std.specs.Option.{option_copied};
 ghost use Rattle.key_rows.specs.declared.rows.KeyCommand.TheVariants.{Delete, Roll};
 ghost use Rattle.key_rows.specs.Names.{AreNames};
@@ -9,11 +10,12 @@ ghost use Rattle.key_index.specs.Adding.{MayAddRow, index_since, with_placed};
 ghost use Rattle.key_index.specs.Held.{AreHeld, HoldsMaterial, IsMaterialAt, has_older};
 ghost use Rattle.key_index.specs.Index.{Materials, after_at, applies_at, is_born, is_named, materials_after, may_create_at, no_index, place_of, row_of, table_of, with_row};
 ghost use Rattle.key_index.specs.Sound.{AllSized, IsIndexRow, IsSoundIndex};
+ghost use Rattle.key_index.specs.Walk.{placed_from, with_at};
 
 use crate::adding::{add, with_places};
 use crate::applying::applies_to;
 use crate::by_name::{NamedBirth, copy_names, remove_birth};
-use crate::finding::{insert, remove, roll, row_at, row_of, with_place};
+use crate::finding::{insert, place_at, remove, roll, row_at, row_of, with_place};
 use crate::rows::{IndexRow, PlacedRow};
 use crate::runs::PlaceRun;
 use hk_base::{Dek, KeyName, NoMemory, VersionName};
@@ -119,6 +121,49 @@ impl KeyIndex {
         ensures { (m : Materials) → result ≡ length (table_of m self.now.index).rows }
     {
         self.rows.len() as u32
+    }
+
+    /// Returns the greatest birth that any key ever had, or 0 if there was none.
+    pub fn greatest(&self) -> u64
+        ensures { result ≡ self.now.index.greatest }
+    {
+        self.greatest
+    }
+
+    /// Returns the key of a number, from 0, in order of birth. The number must be below `count`. Does not
+    /// allocate.
+    pub fn row(&self, number: u32) -> &IndexRow
+        requires { number < length self.now.index.rows }
+        ensures row { HoldsAt (λ placed. result.now ≡ placed.row) self.now.index.rows number }
+        ensures rules { IsIndexRow result.now }
+    {
+        &self.rows[number as usize].row
+    }
+
+    /// Returns the offset of the material of a version of the key of a number, also of its current one, in
+    /// the file of the key log. The key must have the version. Does not allocate.
+    pub fn place_in(&self, number: u32, version: u16) -> u64
+        requires number { number < length self.now.index.rows }
+        requires version { HoldsAt (λ placed. version < placed.row.versions) self.now.index.rows number }
+        ensures { HoldsAt (λ placed. slice_get placed.places version ≡ Some result)
+            self.now.index.rows number }
+    {
+        match self.rows[number as usize].places.get(version) {
+            None => unreachable!(), // each version has a place
+            Some(place) => place,
+        }
+    }
+
+    /// Places the materials of the key of a number one after the other, from an offset on, which must be
+    /// at most 2^62. The number must be below `count`. Does not allocate.
+    pub fn place_row(&mut self, number: u32, first: u64)
+        requires number { number < length self.old.index.rows }
+        requires first { first ≤ 2 ^ 62 }
+        ensures { HoldsAt
+            (λ placed. self.new.index ≡ with_at self.old.index number (placed_from first placed))
+            self.old.index.rows number }
+    {
+        place_at(&mut self.rows, number as usize, first);
     }
 
     fn named(&self, name: &KeyName) -> Option<&PlacedRow>

@@ -8,11 +8,13 @@ mod by_name;
 mod cache;
 mod finding;
 mod index;
+mod materials;
 mod places;
 mod rows;
 mod runs;
 
 pub use cache::{MaterialCache, MaterialKey};
 pub use index::KeyIndex;
+pub use materials::read_material;
 pub use places::{log_holds_materials, material_len};
 pub use rows::IndexRow;

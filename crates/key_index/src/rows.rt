@@ -1,6 +1,8 @@
 //! Keys in the index.
-ghost use Rattle.std.specs.Prelude.{◌≡◌};
+ghost use Rattle.std.specs.Prelude.{◌≡◌, ◌≤◌, ◌^◌};
 ghost use Rattle.key_index.specs.Index.{older_place};
+ghost use Rattle.key_index.specs.Sound.{IsPlacedRow};
+ghost use Rattle.key_index.specs.Walk.{placed_from};
 
 use crate::runs::PlaceList;
 use hk_base::{Dek, KeyName};
@@ -36,5 +38,16 @@ impl PlacedRow {
             return self.places.get(number);
         }
         None
+    }
+
+    /// Places all materials one after the other, from an offset on.
+    pub(crate) fn place_from(&mut self, first: u64)
+        requires row { IsPlacedRow self.old }
+        requires first { first ≤ 2 ^ 62 }
+        ensures { self.new ≡ placed_from first self.old }
+    {
+        let step = self.row.bits / 8;
+        let count = self.row.versions;
+        self.places.set_run(first, step, count);
     }
 }

@@ -214,6 +214,23 @@ impl PlaceList {
         Ok(())
     }
 
+    /// Places all versions again: `count` of them from `first` on, each `step` above the one before. Does
+    /// not allocate.
+    pub(crate) fn set_run(&mut self, first: u64, step: u16, count: u32)
+        requires some { 0 < count }
+        requires placed { 0 < length self.old }
+        requires end { first + step * count < 2 ^ 64 }
+        ensures { self.new ≡ run_places first step count }
+    {
+        let run = PlaceRun {
+            first,
+            step: step as u32,
+            count,
+        };
+        self.runs.truncate(1);
+        self.runs[0] = run;
+    }
+
     /// Returns the place of a version, or `None` if the key has no version of this number.
     pub(crate) fn get(&self, number: u16) -> Option<u64>
         ensures { result ≡ slice_get self.now number }
