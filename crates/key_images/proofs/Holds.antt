@@ -13,7 +13,7 @@ use Rattle.key_rows.specs.Sound.{AreRowsRising, IsRow}
 use Rattle.key_rows.specs.Table.{Table, find_birth}
 use Rattle.key_rows.proofs.Births.{other_number}
 use Rattle.key_index.specs.Held.{IsHeld}
-use Rattle.key_index.specs.Index.{Materials, older, row_of, rows_of}
+use Rattle.key_index.specs.Index.{Materials, older, row_of, rows_of, table_of}
 use Rattle.key_index.specs.Runs.{run_places}
 use Rattle.key_images.specs.Laws.{StandsInFile}
 use Rattle.key_images.specs.Places.{brief, index_at, last_of, newest_of, placed_key, placed_keys}
@@ -93,18 +93,26 @@ all_materials m b (x ∷ ms) some fits =
     ∙ sym (take-suc (x ∷ ms) (length ms) [] (omega arith))
     ∙ take-length (x ∷ ms)
 
-record Fits (m : Materials) (row : KeyRow) : Type 0 where
+record IsTold (m : Materials) (row : KeyRow) : Type 0 where
   materials : (n : ℕ) → m row.birth n ≡ get_or row.materials n []
   rules : IsRow row
 
-row_stands : (m : Materials) (row : KeyRow) → Fits m row → row_of m (brief row) ≡ row
-row_stands m row fits =
-    let all = all_materials m row.birth row.materials fits.rules.some fits.materials in
-    λ i. record { name = row.name; birth = row.birth; bits = row.bits; materials = all i; description = row.description; created = row.created }
+-- what the index has of a key stands for the key, whose materials are as long as it says
+pub record Fits (m : Materials) (row : KeyRow) : Type 0 where
+  pub stands : row_of m (brief row) ≡ row
+  pub long : AreLong (row.bits / 8) row.materials
+
+fits : (m : Materials) (row : KeyRow) → IsTold m row → Fits m row
+fits m row tells =
+    let all = all_materials m row.birth row.materials tells.rules.some tells.materials in
+    record {
+      stands = λ i. record { name = row.name; birth = row.birth; bits = row.bits; materials = all i; description = row.description; created = row.created };
+      long = tells.rules.materials;
+    }
 
 rows_stand : (m : Materials) (place : ℕ) (rows : List KeyRow) → AllByRecursion (Fits m) rows → rows_of m (placed_keys place rows) ≡ rows
 rows_stand m place [] fits = refl
-rows_stand m place (row ∷ rows) fits = λ i. row_stands m row fits.0 i ∷ rows_stand m (place + length (key_row_image row)) rows fits.1 i
+rows_stand m place (row ∷ rows) fits = λ i. fits.0.stands i ∷ rows_stand m (place + length (key_row_image row)) rows fits.1 i
 
 row_held : (m : Materials) (file : List ℕ) (place : ℕ) (row : KeyRow) → Fits m row → At file place (key_row_image row) → IsHeld m file (placed_key place row)
 row_held m file place row fits h =
@@ -113,10 +121,10 @@ row_held m file place row fits h =
     let whole = concat row.materials in
     let there = at_back file (place + length head) count whole (at_back file place head (count ++ whole) h) in
     let offset : place + length head + length count ≡ place + length (key_row_image row) - length whole = omega (arith, length-append head (count ++ whole), length-append count whole) in
-    let its : row.materials ≡ (row_of m (brief row)).materials = sym (ap (λ (r : KeyRow). r.materials) (row_stands m row fits)) in
+    let its : row.materials ≡ (row_of m (brief row)).materials = sym (ap (λ (r : KeyRow). r.materials) fits.stands) in
     record {
-      pieces = pieces_at file (place + length (key_row_image row) - length whole) (row.bits / 8) row.materials fits.rules.materials (subst (λ n. At file n whole) offset there) ∙ its;
-      sized = subst (AreLong (row.bits / 8)) its fits.rules.materials;
+      pieces = pieces_at file (place + length (key_row_image row) - length whole) (row.bits / 8) row.materials fits.long (subst (λ n. At file n whole) offset there) ∙ its;
+      sized = subst (AreLong (row.bits / 8)) its fits.long;
     }
 
 rows_held : (m : Materials) (file : List ℕ) (place : ℕ) (rows : List KeyRow) → AllByRecursion (Fits m) rows → At file place (key_rows_image rows) → AllByRecursion (IsHeld m file) (placed_keys place rows)
@@ -146,22 +154,31 @@ found_all low (r ∷ rows) top rising =
 fits_all : (rows each : List KeyRow) → AllByRecursion (λ (row : KeyRow). (0 < row.birth) × (find_birth rows row.birth ≡ Some row)) each → AllByRecursion IsRow each → AllByRecursion (Fits (materials_in rows)) each
 fits_all rows [] found rules = tt
 fits_all rows (row ∷ each) found rules =
-    (record { materials = λ n. ap (λ (o : Option KeyRow). get_or (materials_of o) n []) found.0.1; rules = rules.0 }, fits_all rows each found.1 rules.1)
+    (fits (materials_in rows) row (record { materials = λ n. ap (λ (o : Option KeyRow). get_or (materials_of o) n []) found.0.1; rules = rules.0 }), fits_all rows each found.1 rules.1)
+
+-- a file that has the image holds the materials of an index that fits
+
+pub image_holds : (m : Materials) (file : List ℕ) (place : ℕ) (t : Table) → AllByRecursion (Fits m) t.rows → piece place (length (key_image t)) file ≡ key_image t → AllByRecursion (IsHeld m file) (index_at place t).rows
+image_holds m file place t fits there =
+    let opening = to_be_bytes w32 t.opening in
+    let greatest = to_be_bytes w64 t.greatest in
+    let count = to_be_bytes w32 (length t.rows) in
+    let rows = key_rows_image t.rows in
+    let some : 0 < length (key_image t) = omega arith in
+    let all : At file place (key_image t) = at_piece file place (key_image t) some there in
+    let inside = at_back file (place + length opening + length greatest) count rows (at_back file (place + length opening) greatest (count ++ rows) (at_back file place opening (greatest ++ (count ++ rows)) all)) in
+    let offset : place + length opening + length greatest + length count ≡ place + 16 = omega arith in
+    rows_held m file (place + 16) t.rows fits (subst (λ n. At file n rows) offset inside)
+
+pub table_stands : (m : Materials) (place : ℕ) (t : Table) → AllByRecursion (Fits m) t.rows → table_of m (index_at place t) ≡ t
+table_stands m place t fits = ap (λ (rs : List KeyRow). record t { rows = rs }) (rows_stand m (place + 16) t.rows fits)
 
 pub image_is_held : (file bytes : List ℕ) (place : ℕ) (t : Table) → IsKeyImage bytes t → piece place (length bytes) file ≡ bytes → StandsInFile file (index_at place t) t
 image_is_held file bytes place t is there =
     let m = materials_in t.rows in
     let fits = fits_all t.rows t.rows (found_all 0 t.rows t.greatest is.has.table.births) is.has.table.rows in
-    let opening = to_be_bytes w32 t.opening in
-    let greatest = to_be_bytes w64 t.greatest in
-    let count = to_be_bytes w32 (length t.rows) in
-    let rows = key_rows_image t.rows in
-    let some : 0 < length bytes = omega (arith, ap length is.bytes_are) in
-    let all : At file place (key_image t) = subst (At file place) is.bytes_are (at_piece file place bytes some there) in
-    let inside = at_back file (place + length opening + length greatest) count rows (at_back file (place + length opening) greatest (count ++ rows) (at_back file place opening (greatest ++ (count ++ rows)) all)) in
-    let offset : place + length opening + length greatest + length count ≡ place + 16 = omega arith in
     record {
       older = m;
-      table_is = ap (λ (rs : List KeyRow). record t { rows = rs }) (rows_stand m (place + 16) t.rows fits);
-      held = rows_held m file (place + 16) t.rows fits (subst (λ n. At file n rows) offset inside);
+      table_is = table_stands m place t fits;
+      held = image_holds m file place t fits (subst (λ (bs : List ℕ). piece place (length bs) file ≡ bs) is.bytes_are there);
     }

@@ -5,3 +5,7 @@ pub mod Passing
 pub mod Headers
 pub mod Holds
 pub mod Lengths
+pub mod ReadOnly
+pub mod Moves
+pub mod Spelled
+pub mod Sources

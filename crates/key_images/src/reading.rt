@@ -6,9 +6,8 @@ ghost use Rattle.frame_log.specs.declared.fault.LogFault.TheVariants as log;
 ghost use Rattle.frame_log.specs.declared.fault.StartFault.TheVariants as start;
 ghost use Rattle.key_images.specs.Images.{IsIndexOfImage, IsNoImage};
 
-use crate::span::ImageSpan;
 use crate::table::index_of;
-use frame_log::{LogFault, StartFault};
+use frame_log::{ImageSpan, LogFault, StartFault};
 use hk_base::{Disk, RecordFault};
 use key_index::KeyIndex;
 use std::alloc::Global;
