@@ -3,7 +3,6 @@
 #![tactic(auto)]
 
 mod keys;
-mod materials;
 mod replay;
 mod store;
 

@@ -1,11 +1,10 @@
 //! A store over a key log.
 use crate::KEYS;
 use crate::keys::Keys;
-use crate::materials::read_material;
 use crate::replay::replay;
 use frame_log::{Log, LogFault, StartFault, StoreRefusal};
 use hk_base::{ByteList, Dek, Disk, Failed, KeyName, NoMemory, VersionName};
-use key_index::{IndexRow, KeyIndex, MaterialCache, MaterialKey};
+use key_index::{IndexRow, KeyIndex, MaterialCache, MaterialKey, read_material};
 use key_rows::KeyCommand;
 use kms_calls::NameList;
 use std::alloc::Global;
