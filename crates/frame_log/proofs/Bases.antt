@@ -106,7 +106,7 @@ reads_on_magic file = record {
 
 -- ---- an area
 
-moved_more : (file : ℕ) (old : List (List ℕ)) (q end : ℕ) (a b tail more : List ℕ) → moved_on file old q end a b tail ++ more ≡ moved_on file old q end a b (tail ++ more)
+pub moved_more : (file : ℕ) (old : List (List ℕ)) (q end : ℕ) (a b tail more : List ℕ) → moved_on file old q end a b tail ++ more ≡ moved_on file old q end a b (tail ++ more)
 moved_more file old q end a b tail more =
     append_assoc (front file old) (1 ∷ (behind (moved q) ++ end ∷ (a ++ (b ++ tail)))) more
     ∙ ap (λ (l : List ℕ). front file old ++ 1 ∷ l)
@@ -152,7 +152,7 @@ module _ (file : ℕ) (old : List (List ℕ)) (q end : ℕ) (a b tail : List ℕ
   second_gate_byte : byte_at (q + 17) (moved_on file old q end a b tail) ≡ (selector_in b).gate
   second_gate_byte = ap (byte_at (q + 17)) split_second ∙ ap first_byte (drop_at (before_second file old q end a) (b ++ tail) (q + 17) second_at) ∙ gate_of b tail long_b
 
-  moved_long : length (moved_on file old q end a b tail) ≡ q + 34 + length tail
+  pub moved_long : length (moved_on file old q end a b tail) ≡ q + 34 + length tail
   moved_long = omega (arith, ap length split_second, length-append (before_second file old q end a) (b ++ tail), second_at, length-append b tail, long_b)
 
 open_one : (gate : ℕ) → (gate ≡ 0) ⊎ (gate ≡ 1) → gate ≢ 0 → gate ≡ 1

@@ -7,8 +7,10 @@ mod FoundLemmas
 mod Goings
 mod Head
 pub mod Layers
+pub mod Migrations
 pub mod Movings
 pub mod Openings
+mod Parts
 pub mod Reading
 mod Scans
 pub mod Shutting
@@ -16,3 +18,4 @@ mod Steps
 pub mod Torn
 mod WalkLemmas
 mod Windows
+pub mod Writes

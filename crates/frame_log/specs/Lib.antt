@@ -1,5 +1,6 @@
 pub mod Ahead
 pub mod Bases
+pub mod Compacts
 pub mod Examples
 pub mod ExamplesTwo
 pub mod Faults
@@ -10,3 +11,4 @@ pub mod Opens
 pub mod Scan
 pub mod Stands
 pub mod Walked
+pub mod Writes

@@ -3,6 +3,7 @@
 //! that was being added.
 #![tactic(auto)]
 
+mod compact;
 mod fault;
 mod formats;
 mod frames;

@@ -1,0 +1,275 @@
+//! Compaction: the writes by which a log is to start from an image.
+ghost use Rattle.std.specs.Prelude.{◌≡◌, ◌+◌, ◌<◌, ◌≤◌, ◌^◌, ◌++◌, [], ◌∷◌, ℕ, List, None, length, set, IfOk, OnOk, OnErr};
+ghost use Rattle.std.specs.List.{AllByRecursion};
+ghost use Rattle.std.specs.Int.{w64, to_be_bytes};
+ghost use Rattle.hk_base.specs.Disk.{DiskState, LeavesOnly, Only, RunOn, Tells, piece, written};
+ghost use Rattle.hk_base.specs.Faults.{Rose};
+ghost use Rattle.frame_log.specs.Format.{behind, front};
+ghost use Rattle.frame_log.specs.FormatTwo.{Always, IsOwn, holding, moved};
+ghost use Rattle.frame_log.specs.Bases.{Area, IsWholeArea, area_base};
+ghost use Rattle.frame_log.specs.Compacts.{IsBetween, ShutAt, area_bytes, first_head};
+ghost use Rattle.frame_log.specs.Stands.{Names};
+ghost use Rattle.frame_log.specs.Writes.{IsApart, WritesOn};
+
+use crate::gates::{OPEN, SHUT};
+use crate::image::Image;
+use crate::log::Selected;
+use hk_base::{Disk, Failed};
+
+/// Writes bytes at an offset and syncs the file.
+fn put_synced<D: Disk>(disk: &mut D, file: u8, at: u64, bytes: &[u8]) -> Result<(), Failed>
+    requires file { file < 2 }
+    requires place { Tells (D.state disk.old) → at ≤ length ((D.state disk.old).reads file) }
+
+    ensures written { OnOk result
+        (Tells (D.state disk.old) →
+        (D.state disk.new).reads file ≡ written at bytes.now ((D.state disk.old).reads file)) }
+    ensures synced { OnOk result
+        (Tells (D.state disk.old) →
+        Only ((D.state disk.new).reads file) ((D.state disk.new).leaves file)) }
+    ensures writes { Tells (D.state disk.old) →
+        WritesOn file at (length bytes.now) (D.state disk.old) (D.state disk.new) }
+    ensures run { RunOn file (D.state disk.old) (D.state disk.new) }
+    ensures cause { OnErr result (Rose (D.state disk.old).faults (D.state disk.new).faults) }
+{
+    disk.write_at(file, at, bytes)?;
+    disk.sync(file)?;
+    Ok(())
+}
+
+/// Writes one byte of a synced file and syncs the file. A crash at any moment leaves the file as it was,
+/// but for that byte.
+fn turn_gate<D: Disk>(disk: &mut D, file: u8, at: u64, byte: u8) -> Result<(), Failed>
+    requires file { file < 2 }
+    requires place { Tells (D.state disk.old) → at < length ((D.state disk.old).reads file) }
+    requires synced { Tells (D.state disk.old) →
+        Only ((D.state disk.old).reads file) ((D.state disk.old).leaves file) }
+
+    ensures turned { OnOk result
+        (Tells (D.state disk.old) →
+        (D.state disk.new).reads file ≡ set ((D.state disk.old).reads file) at byte) }
+    ensures synced { OnOk result
+        (Tells (D.state disk.old) →
+        Only ((D.state disk.new).reads file) ((D.state disk.new).leaves file)) }
+    ensures moments { Tells (D.state disk.old) →
+        LeavesOnly file (D.state disk.old) (D.state disk.new)
+        (λ c. (h : ℕ) × (c ≡ set ((D.state disk.old).reads file) at h)) }
+    ensures run { RunOn file (D.state disk.old) (D.state disk.new) }
+    ensures cause { OnErr result (Rose (D.state disk.old).faults (D.state disk.new).faults) }
+{
+    put_synced(disk, file, at, &[byte])?;
+    Ok(())
+}
+
+/// Writes the bytes of an image at an offset, in parts of the buffer's length. What it leaves is what one
+/// write of all of them may leave.
+fn write_image<D: Disk, I: Image>(
+    disk: &mut D,
+    file: u8,
+    at: u64,
+    image: &I,
+    size: u64,
+    buf: &mut [u8],
+) -> Result<(), Failed>
+    requires file { file < 2 }
+    requires own { I.file image.now ≡ file }
+    requires room { 1 ≤ length buf.old }
+    requires place { Tells (D.state disk.old) → at ≤ length ((D.state disk.old).reads file) }
+    requires limit { at ≤ 2 ^ 63 }
+    requires size { (held : List ℕ) → length held ≡ I.count image.now →
+        size ≡ length (I.image image.now held) }
+    requires small { size ≤ 2 ^ 30 }
+    requires within { Tells (D.state disk.old) → I.from image.now + I.count image.now ≤
+        length ((D.state disk.old).reads file) }
+    requires apart { Tells (D.state disk.old) →
+        IsApart at size (I.from image.now) (I.count image.now) }
+
+    ensures written { OnOk result
+        (Tells (D.state disk.old) →
+        (D.state disk.new).reads file ≡
+        written at
+        (I.image image.now
+        (piece (I.from image.now) (I.count image.now) ((D.state disk.old).reads file)))
+        ((D.state disk.old).reads file)) }
+    ensures writes { Tells (D.state disk.old) →
+        WritesOn file at size (D.state disk.old) (D.state disk.new) }
+    ensures length { length buf.new ≡ length buf.old }
+    ensures run { RunOn file (D.state disk.old) (D.state disk.new) }
+    ensures cause { OnErr result (Rose (D.state disk.old).faults (D.state disk.new).faults) }
+{
+    let mut done: u64 = 0;
+    'parts: while done < size {
+        let count = image.part(disk, done, buf)?;
+        if count == 0 {
+            return Ok(());
+        }
+        disk.write_at(file, at + done, &buf[..count])?;
+        done = done + count as u64;
+    }
+    Ok(())
+}
+
+/// Writes an area without payloads at an offset: the size of the image, the image and an end gate. What
+/// it leaves is what one write of all of them may leave.
+fn write_area<D: Disk, I: Image>(
+    disk: &mut D,
+    file: u8,
+    at: u64,
+    image: &I,
+    size: u64,
+    buf: &mut [u8],
+) -> Result<(), Failed>
+    requires file { file < 2 }
+    requires own { I.file image.now ≡ file }
+    requires room { 1 ≤ length buf.old }
+    requires place { Tells (D.state disk.old) → at ≤ length ((D.state disk.old).reads file) }
+    requires limit { at ≤ 2 ^ 62 + 2 ^ 40 }
+    requires size { (held : List ℕ) → length held ≡ I.count image.now →
+        size ≡ length (I.image image.now held) }
+    requires small { size ≤ 2 ^ 30 }
+    requires within { Tells (D.state disk.old) → I.from image.now + I.count image.now ≤
+        length ((D.state disk.old).reads file) }
+    requires apart { Tells (D.state disk.old) →
+        IsApart at (size + 9) (I.from image.now) (I.count image.now) }
+
+    ensures written { OnOk result
+        (Tells (D.state disk.old) →
+        (D.state disk.new).reads file ≡
+        written at
+        (area_bytes
+        (I.image image.now
+        (piece (I.from image.now) (I.count image.now) ((D.state disk.old).reads file))))
+        ((D.state disk.old).reads file)) }
+    ensures limit { OnOk result (at + size + 9 ≤ 2 ^ 62) }
+    ensures writes { Tells (D.state disk.old) →
+        WritesOn file at (size + 9) (D.state disk.old) (D.state disk.new) }
+    ensures length { length buf.new ≡ length buf.old }
+    ensures run { RunOn file (D.state disk.old) (D.state disk.new) }
+    ensures cause { OnErr result (Rose (D.state disk.old).faults (D.state disk.new).faults) }
+{
+    disk.write_at(file, at, &size.to_be_bytes())?;
+    write_image(disk, file, at + 8, image, size, buf)?;
+    disk.write_at(file, at + 8 + size, &[SHUT])?;
+    Ok(())
+}
+
+/// Returns the bytes between the end gate of a log and its first area: room for the frame that says where
+/// the log goes on, a selector that names the area, and one that is shut.
+fn head_of(place: u64) -> [u8; 48]
+    ensures { result ≡ first_head place }
+{
+    let p = place.to_be_bytes();
+    [
+        0, 0, 0, 0, 0, 0, 0, 0, 0, 0, 0, 0, 0, 0, OPEN, 0, 0, 0, 0, 0, 0, 0, 1, p[0], p[1], p[2],
+        p[3], p[4], p[5], p[6], p[7], SHUT, 0, 0, 0, 0, 0, 0, 0, 0, 0, 0, 0, 0, 0, 0, 0, 0,
+    ]
+}
+
+/// Returns the bytes behind the gate of the frame that says where the log goes on, and the end gate after
+/// them.
+fn moved_frame(selectors: u64) -> [u8; 14]
+    ensures { result ≡ behind (moved selectors) ++ 0 ∷ [] }
+{
+    let q = selectors.to_be_bytes();
+    [
+        0, 0, 0, 9, 255, q[0], q[1], q[2], q[3], q[4], q[5], q[6], q[7], SHUT,
+    ]
+}
+
+/// Writes the selectors and the first area behind the end gate of a log that was never compacted, and
+/// syncs them.
+fn stage_area<D: Disk, I: Image>(
+    disk: &mut D,
+    file: u8,
+    end: u64,
+    image: &I,
+    size: u64,
+    buf: &mut [u8],
+) -> Result<(), Failed>
+    requires file { file < 2 }
+    requires own { I.file image.now ≡ file }
+    requires room { 1 ≤ length buf.old }
+    requires place { Tells (D.state disk.old) → end < length ((D.state disk.old).reads file) }
+    requires limit { end ≤ 2 ^ 62 }
+    requires size { (held : List ℕ) → length held ≡ I.count image.now →
+        size ≡ length (I.image image.now held) }
+    requires small { size ≤ 2 ^ 30 }
+    requires before { Tells (D.state disk.old) → I.from image.now + I.count image.now ≤ end }
+
+    ensures written { OnOk result
+        (Tells (D.state disk.old) →
+        (D.state disk.new).reads file ≡
+        written (end + 1)
+        (first_head (end + 49) ++
+        area_bytes
+        (I.image image.now
+        (piece (I.from image.now) (I.count image.now) ((D.state disk.old).reads file))))
+        ((D.state disk.old).reads file)) }
+    ensures synced { OnOk result
+        (Tells (D.state disk.old) →
+        Only ((D.state disk.new).reads file) ((D.state disk.new).leaves file)) }
+    ensures limit { OnOk result (end + size + 58 ≤ 2 ^ 62) }
+    ensures writes { Tells (D.state disk.old) →
+        WritesOn file (end + 1) (size + 57) (D.state disk.old) (D.state disk.new) }
+    ensures length { length buf.new ≡ length buf.old }
+    ensures run { RunOn file (D.state disk.old) (D.state disk.new) }
+    ensures cause { OnErr result (Rose (D.state disk.old).faults (D.state disk.new).faults) }
+{
+    disk.write_at(file, end + 1, &head_of(end + 49))?;
+    write_area(disk, file, end + 49, image, size, buf)?;
+    disk.sync(file)?;
+    Ok(())
+}
+
+/// Compacts a log that was never compacted, and returns where it goes on. The frame that says so is
+/// appended last. A crash at any moment leaves what the log held, or the image alone.
+fn migrate<D: Disk, I: Image>(
+    disk: &mut D,
+    file: u8,
+    end: u64,
+    image: &I,
+    size: u64,
+    buf: &mut [u8],
+) -> Result<Selected, Failed>
+    requires file { file < 2 }
+    requires own { I.file image.now ≡ file }
+    requires room { 1 ≤ length buf.old }
+    requires limit { end ≤ 2 ^ 62 }
+    requires size { (held : List ℕ) → length held ≡ I.count image.now →
+        size ≡ length (I.image image.now held) }
+    requires small { size ≤ 2 ^ 30 }
+    requires before { Tells (D.state disk.old) → I.from image.now + I.count image.now ≤ end }
+    requires stands { Tells (D.state disk.old) →
+        ((payloads : List (List ℕ)) × AllByRecursion IsOwn payloads
+        × ShutAt (front file payloads) file end (D.state disk.old)) }
+
+    ensures moved { IfOk result
+        (λ next. Tells (D.state disk.old) → (payloads : List (List ℕ)) →
+        AllByRecursion IsOwn payloads → ShutAt (front file payloads) file end (D.state disk.old)
+        → ((area : Area) × IsWholeArea area × Names next area
+        × (area.image ≡
+        I.image image.now
+        (piece (I.from image.now) (I.count image.now) ((D.state disk.old).reads file)))
+        × ShutAt (area_base file area) file (next.place + 8 + size) (D.state disk.new))) }
+    ensures limit { IfOk result (λ next. next.place + size + 9 ≤ 2 ^ 62) }
+    ensures any_moment { Tells (D.state disk.old) → (payloads : List (List ℕ)) →
+        AllByRecursion IsOwn payloads → ShutAt (front file payloads) file end (D.state disk.old)
+        → LeavesOnly file (D.state disk.old) (D.state disk.new)
+        (Always file
+        (IsBetween (holding None payloads)
+        (I.image image.now
+        (piece (I.from image.now) (I.count image.now) ((D.state disk.old).reads file))))) }
+    ensures length { length buf.new ≡ length buf.old }
+    ensures run { RunOn file (D.state disk.old) (D.state disk.new) }
+    ensures cause { OnErr result (Rose (D.state disk.old).faults (D.state disk.new).faults) }
+{
+    stage_area(disk, file, end, image, size, buf)?;
+    put_synced(disk, file, end + 1, &moved_frame(end + 15))?;
+    turn_gate(disk, file, end, OPEN)?;
+    Ok(Selected {
+        selectors: end + 15,
+        second: false,
+        turn: 1,
+        place: end + 49,
+    })
+}
