@@ -17,5 +17,6 @@ pub mod Shutting
 mod Steps
 pub mod Torn
 mod WalkLemmas
+pub mod Turnings
 mod Windows
 pub mod Writes
