@@ -114,10 +114,10 @@ moved_more file old q end a b tail more =
     ∙ ap (λ (l : List ℕ). behind (moved q) ++ end ∷ l) (append_assoc a (b ++ tail) more ∙ ap (λ (l : List ℕ). a ++ l) (append_assoc b tail more)))
 
 -- the bytes before the first selector, and those before the second one
-before_first : ℕ → List (List ℕ) → ℕ → ℕ → List ℕ
+pub before_first : ℕ → List (List ℕ) → ℕ → ℕ → List ℕ
 before_first file old q end = front file old ++ 1 ∷ (behind (moved q) ++ end ∷ [])
 
-before_second : ℕ → List (List ℕ) → ℕ → ℕ → List ℕ → List ℕ
+pub before_second : ℕ → List (List ℕ) → ℕ → ℕ → List ℕ → List ℕ
 before_second file old q end a = front file old ++ 1 ∷ (behind (moved q) ++ end ∷ a)
 
 -- the gate of a selector is its first byte
@@ -126,23 +126,23 @@ gate_of [] more long = absurd (omega arith)
 gate_of (b ∷ s) more long = refl
 
 module _ (file : ℕ) (old : List (List ℕ)) (q end : ℕ) (a b tail : List ℕ) (place : q ≡ 8 + length (frames old) + 15) (long_a : length a ≡ 17) (long_b : length b ≡ 17) where
-  split_first : moved_on file old q end a b tail ≡ before_first file old q end ++ (a ++ (b ++ tail))
+  pub split_first : moved_on file old q end a b tail ≡ before_first file old q end ++ (a ++ (b ++ tail))
   unfolding before_first
   split_first =
       ap (λ (l : List ℕ). front file old ++ 1 ∷ l) (sym (append_assoc (behind (moved q)) (end ∷ []) (a ++ (b ++ tail))))
       ∙ sym (append_assoc (front file old) (1 ∷ (behind (moved q) ++ end ∷ [])) (a ++ (b ++ tail)))
 
-  split_second : moved_on file old q end a b tail ≡ before_second file old q end a ++ (b ++ tail)
+  pub split_second : moved_on file old q end a b tail ≡ before_second file old q end a ++ (b ++ tail)
   unfolding before_second
   split_second =
       ap (λ (l : List ℕ). front file old ++ 1 ∷ l) (sym (append_assoc (behind (moved q)) (end ∷ a) (b ++ tail)))
       ∙ sym (append_assoc (front file old) (1 ∷ (behind (moved q) ++ end ∷ a)) (b ++ tail))
 
-  first_at : length (before_first file old q end) ≡ q
+  pub first_at : length (before_first file old q end) ≡ q
   unfolding before_first
   first_at = omega (arith, length-append (front file old) (1 ∷ (behind (moved q) ++ end ∷ [])), length-append (behind (moved q)) (end ∷ []), front_long file old, place)
 
-  second_at : length (before_second file old q end a) ≡ q + 17
+  pub second_at : length (before_second file old q end a) ≡ q + 17
   unfolding before_second
   second_at = omega (arith, length-append (front file old) (1 ∷ (behind (moved q) ++ end ∷ a)), length-append (behind (moved q)) (end ∷ a), front_long file old, place, long_a)
 

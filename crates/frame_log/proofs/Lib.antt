@@ -8,8 +8,10 @@ mod Goings
 mod Head
 pub mod Layers
 pub mod Migrations
+pub mod Moves
 pub mod Movings
 pub mod Openings
+pub mod Keepings
 mod Parts
 pub mod Reading
 mod Scans

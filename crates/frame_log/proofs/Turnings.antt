@@ -17,7 +17,7 @@ use Rattle.frame_log.proofs.Movings.{new_alone, new_counts, old_counts}
 abbrev pub on_area : ℕ → Area → List (List ℕ) → List ℕ → List ℕ
 on_area file area payloads rest = front_on (area_base file area) payloads ++ 0 ∷ rest
 
-end_at : (file : ℕ) (area : Area) (payloads : List (List ℕ)) → length area.first ≡ 17 → length area.second ≡ 17 → length (front_on (area_base file area) payloads) ≡ end_gate (holding (Some (area_start area)) payloads)
+pub end_at : (file : ℕ) (area : Area) (payloads : List (List ℕ)) → length area.first ≡ 17 → length area.second ≡ 17 → length (front_on (area_base file area) payloads) ≡ end_gate (holding (Some (area_start area)) payloads)
 end_at file area payloads first second =
     omega (arith, length-append (area_base file area) (frames payloads), moved_long file area.old (selectors_at area) area.end area.first area.second (behind_selectors area) refl first second, length-append area.gap (to_be_bytes w64 (length area.image) ++ area.image), length-append (to_be_bytes w64 (length area.image)) area.image)
 
@@ -87,7 +87,7 @@ file_by file true old end this other tail = moved_on file old (8 + length (frame
 abbrev pub tail_of : List ℕ → List ℕ → List (List ℕ) → List ℕ → List ℕ
 tail_of gap image payloads rest = (gap ++ (to_be_bytes w64 (length image) ++ image)) ++ (frames payloads ++ 0 ∷ rest)
 
-as_area : (file : ℕ) (order : Bool) (old : List (List ℕ)) (end : ℕ) (this other gap image : List ℕ) (payloads : List (List ℕ)) (rest : List ℕ)
+pub as_area : (file : ℕ) (order : Bool) (old : List (List ℕ)) (end : ℕ) (this other gap image : List ℕ) (payloads : List (List ℕ)) (rest : List ℕ)
     → file_by file order old end this other (tail_of gap image payloads rest) ≡ on_area file (ordered order old end this other gap image) payloads rest
 as_area file false old end this other gap image payloads rest =
     sym (append_assoc (area_base file (ordered false old end this other gap image)) (frames payloads) (0 ∷ rest)
@@ -107,7 +107,7 @@ new_first a b is also turn small =
     grind (arith, nat_tests)
 
 module _ (this other : List ℕ) where
-  counts_old : (order : Bool) (old : List (List ℕ)) (end : ℕ) (gap image : List ℕ) → (selector_in this).gate ≡ 1 → (selector_in other).gate ≢ 1
+  pub counts_old : (order : Bool) (old : List (List ℕ)) (end : ℕ) (gap image : List ℕ) → (selector_in this).gate ≡ 1 → (selector_in other).gate ≢ 1
       → counting (selector_in (ordered order old end this other gap image).first) (selector_in (ordered order old end this other gap image).second) ≡ Some (selector_in this)
   counts_old false old end gap image is shut = old_counts (selector_in this) (selector_in other) is shut
   counts_old true old end gap image is shut = new_alone (selector_in other) (selector_in this) shut is

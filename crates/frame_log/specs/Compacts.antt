@@ -1,5 +1,5 @@
 -- What a compaction writes, and what it leaves.
-use Rattle.std.specs.Prelude.{◌≡◌, ◌⊎◌, ℕ, ◌+◌, List, [], ◌∷◌, ◌++◌, length}
+use Rattle.std.specs.Prelude.{◌≡◌, ◌⊎◌, ℕ, ◌+◌, Bool, true, false, List, [], ◌∷◌, ◌++◌, length}
 use Rattle.std.specs.Int.{w64, to_be_bytes}
 use Rattle.hk_base.specs.Disk.{DiskState}
 use Rattle.frame_log.specs.Format.{frames}
@@ -41,6 +41,11 @@ first_area old image = record {
   gap = [];
   image = image;
 }
+
+-- the offset of the selector that doesn't count, by whether the second one does and by where the first one is
+abbrev pub other_at : Bool → ℕ → ℕ
+other_at false q = q + 17
+other_at true q = q
 
 -- what a log may hold while it is compacted: what it held, or the image alone
 abbrev pub IsBetween : Content → List ℕ → Content → Type 0
