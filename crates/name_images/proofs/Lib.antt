@@ -1,5 +1,12 @@
 mod ByZone
+mod Counts
 mod Fronts
 mod ImageExamples
 mod ImageLaws
+mod Led
 mod Lists
+mod PartLemmas
+mod Reached
+mod RowsAt
+mod Texts
+mod ZoneOrder

@@ -1,7 +1,10 @@
 -- Properties of images of the namesystem's table.
-use Rattle.std.specs.Prelude.{◌≡◌, ℕ, List}
-use Rattle.name_store.specs.Table.{IsNameTable, NameTable}
-use Rattle.name_images.specs.Images.{HasImage, IsNameImage, KeepsImageRules, in_image_order, name_image}
+use Rattle.std.specs.Prelude.{◌≡◌, ℕ, ◌≤◌, true, List, length, Some}
+use Rattle.std.specs.List.{All}
+use Rattle.edit_ops.specs.declared.ops.EditOp.{EditOp}
+use Rattle.name_store.specs.Replay.{name_replay}
+use Rattle.name_store.specs.Table.{IsNameTable, NameTable, Replayed, nothing_logged}
+use Rattle.name_images.specs.Images.{HasImage, IsNameImage, KeepsImageRules, in_image_order, is_id_up_to, name_image, zones_once}
 
 -- an image stands for one table
 abbrev pub OneNameTable : Type 0
@@ -10,3 +13,17 @@ OneNameTable = (bytes : List ℕ) (t u : NameTable) → IsNameImage bytes t → 
 -- a table that keeps the rules has an image, which is that of the table with its statuses in the order of their zones' ids
 abbrev pub HasNameImage : Type 0
 HasNameImage = (t : NameTable) → IsNameTable t → HasImage t → KeepsImageRules t → IsNameImage (name_image t) (in_image_order t)
+
+-- what the operations of a log keep of the rules of images
+
+-- a table that they make has at most 1,000,000 rows
+abbrev pub LoggedFew : Type 0
+LoggedFew = (ops : List EditOp) (r : Replayed) → name_replay nothing_logged ops ≡ Some r → length r.table.rows ≤ 1000000
+
+-- the ids of its rows are of its openings
+abbrev pub LoggedIds : Type 0
+LoggedIds = (ops : List EditOp) (r : Replayed) → name_replay nothing_logged ops ≡ Some r → All (λ e. is_id_up_to r.table.opening e.row.id ≡ true) r.table.rows
+
+-- and no zone of it has two statuses
+abbrev pub LoggedZones : Type 0
+LoggedZones = (ops : List EditOp) (r : Replayed) → name_replay nothing_logged ops ≡ Some r → zones_once r.table.statuses ≡ true
