@@ -1,9 +1,8 @@
 -- Numbers of rows, and the low bytes of numbers.
-use Rattle.std.proofs.Common.{◌≡◌, ℕ, ◌+◌, ◌^◌, ◌<◌, suc, List, [], ◌∷◌, ◌++◌, length, map, get_or, take, drop, refl, sym, ◌∙◌, ap, subst, arith, length-append}
+use Rattle.std.proofs.Common.{◌≡◌, ℕ, ◌+◌, ◌^◌, ◌<◌, List, [], ◌∷◌, ◌++◌, length, map, get_or, take, drop, refl, sym, ◌∙◌, ap, subst, arith, length-append}
 use Rattle.std.specs.Prelude.{◌%◌, ◌/◌}
 use Rattle.std.specs.Int.{w16, w32, w64, to_be_bytes}
-use Rattle.std.proofs.lemmas.List.{append-nil, length-map, take_more}
-use Rattle.inode_tree.specs.Rows.{Entry}
+use Rattle.std.proofs.lemmas.List.{length-map, take_more}
 use Rattle.frozen_nodes.specs.Forest.{AreBelow, FrozenNode, IsForest, Subtree, kid_rows, node_at, rows_from, subtree_at, subtrees, under}
 use Rattle.frozen_nodes.proofs.Subtrees.{rows-are}
 use Rattle.frozen_nodes.proofs.Walks.{below-at}

@@ -6,7 +6,6 @@ use Rattle.std.proofs.lemmas.List.Elements.{recursion_from_All}
 use Rattle.name_calls.specs.Paths.{is_relative}
 use Rattle.name_calls.proofs.PathLemmas.{relative-short}
 use Rattle.inode_tree.specs.Rows.{Entry}
-use Rattle.inode_tree.specs.declared.rows.Row.{Row}
 use Rattle.edit_ops.specs.Records.{list_field}
 use Rattle.frozen_nodes.specs.Forest.{AreBelow, FrozenNode, IsForest, Subtree, kid_rows, node_at, rows_from, subtree_at, subtrees, under}
 use Rattle.frozen_nodes.proofs.Subtrees.{name-is, rows-are}

@@ -1,28 +1,27 @@
 -- What the operations of a log keep of the rules of images.
-use Rattle.std.proofs.Common.{◌≡◌, ℕ, ◌+◌, ◌*◌, ◌^◌, ◌<◌, ◌≤◌, zero, suc, Bool, true, false, cond, not, ◌&&◌, ◌||◌, ◌==◌, List, [], ◌∷◌, length, map, Option, Some, refl, sym, ap, ◌∙◌, arith}
+use Rattle.std.proofs.Common.{◌≡◌, ℕ, ◌+◌, ◌*◌, ◌^◌, ◌<◌, ◌≤◌, suc, Bool, true, false, cond, not, ◌&&◌, ◌||◌, ◌==◌, List, [], ◌∷◌, length, Option, Some, refl, sym, ap, ◌∙◌, arith}
 use Rattle.std.specs.Prelude.{is_none, nat_le, nat_lt}
 use Rattle.std.specs.List.{All, AllByRecursion, filter, list_any}
 use Rattle.std.proofs.lemmas.Bool.{and_parts}
 use Rattle.std.proofs.lemmas.Bool.Decides.{Decides-eqb, nat_tests}
 use Rattle.std.proofs.lemmas.List.{length-map}
-use Rattle.std.proofs.lemmas.List.Elements.{All-cons, All-nil, All-weaker}
+use Rattle.std.proofs.lemmas.List.Elements.{All-cons, All-from_recursion, All-nil, All-weaker}
 use Rattle.name_calls.specs.Paths.{is_before, is_prefix}
 use Rattle.name_calls.specs.declared.paths.NPath.{NPath}
-use Rattle.inode_tree.specs.Moves.{in_order, moved, renamed}
-use Rattle.inode_tree.specs.Rows.{Entry, entry_of, put, removed, root_only, set_kind, with_kind}
-use Rattle.inode_tree.specs.declared.rows.Kind.{Kind}
+use Rattle.inode_tree.specs.Moves.{moved, renamed}
+use Rattle.inode_tree.specs.Rows.{Entry, entry_of, put, set_kind, with_kind}
 use Rattle.inode_tree.specs.declared.rows.Kind.TheVariants.{Dir, File}
 use Rattle.edit_ops.specs.declared.files.FileKey.{FileKey}
 use Rattle.edit_ops.specs.declared.ops.EditOp.{EditOp}
 use Rattle.edit_ops.specs.declared.ops.EditOp.TheVariants as op
 use Rattle.zone_table.specs.declared.statuses.StatusRow.{StatusRow}
-use Rattle.zone_table.specs.Statuses.{counted, ended, goes_on_under, is_of, new_status, with_counts, with_end, with_status, without_below}
+use Rattle.zone_table.specs.Statuses.{counted, ended, goes_on_under, is_of, with_counts, with_end, with_status}
 use Rattle.name_store.specs.Causes.{id_at, make_causes, row_causes}
 use Rattle.name_store.specs.Replay.{name_replay}
-use Rattle.name_store.specs.Table.{NameTable, Replayed, after, after_table, allows, applies, is_fresh, is_of_opening, is_opening, may_use, may_use_all, new_directory, new_file, nothing_logged, uses, with_edeks}
-use Rattle.name_store.proofs.CauseLemmas.{allowed, none-of-both, row-left}
+use Rattle.name_store.specs.Table.{NameTable, Replayed, after_table, allows, is_fresh, is_of_opening, is_opening, may_use, may_use_all, new_directory, new_file, nothing_logged, uses, with_edeks}
+use Rattle.name_store.proofs.CauseLemmas.{allowed, id-may-be-used, none-of-both, row-left}
 use Rattle.name_store.proofs.IdLemmas.{from_first, kept, rows_have}
-use Rattle.name_images.specs.Images.{is_id_up_to, zones_once}
+use Rattle.name_images.specs.Images.{is_id_up_to, is_of_opening_up_to, zones_once}
 use Rattle.name_images.proofs.ByZone.{unless}
 
 eq-turned : (a b : ℕ) → (a == b) ≡ (b == a)
@@ -168,27 +167,39 @@ or-true : (b : Bool) → (b || true) ≡ true
 or-true true = refl
 or-true false = refl
 
-own-id : (opening id : ℕ) → 0 < opening → is_of_opening opening id ≡ true → is_id_up_to opening id ≡ true
-own-id opening id some h =
+own-opening : (opening id : ℕ) → 0 < opening → is_of_opening opening id ≡ true → is_of_opening_up_to opening id ≡ true
+own-opening opening id some h =
     let parts = and_parts (nat_le (opening * 2 ^ 32) id) (nat_lt id ((opening + 1) * 2 ^ 32)) h in
     let first : opening * 2 ^ 32 ≤ id = from_first opening id h in
     let low : nat_le (2 ^ 32) id ≡ true = from-first id (omega (arith, first, some)) in
-    (λ i. (id == 0) || (low i && parts.1 i)) ∙ or-true (id == 0)
+    λ i. low i && parts.1 i
   where
     from-first : (n : ℕ) → 2 ^ 32 ≤ n → nat_le (2 ^ 32) n ≡ true
     from-first n le = grind (arith, nat_tests)
 
+some-opening : (n : ℕ) → nat_lt 0 n ≡ true → 0 < n
+some-opening n lt = grind (arith, nat_tests)
+
+own-session : (opening id : ℕ) → nat_lt 0 opening ≡ true → is_of_opening opening id ≡ true → is_of_opening_up_to opening id ≡ true
+own-session opening id lt h = own-opening opening id (some-opening opening lt) h
+
+own-id : (opening id : ℕ) → 0 < opening → is_of_opening opening id ≡ true → is_id_up_to opening id ≡ true
+own-id opening id some h = (λ i. (id == 0) || own-opening opening id some h i) ∙ or-true (id == 0)
+
+of-later : (a b id : ℕ) → b ≡ a + 1 → is_of_opening_up_to a id ≡ true → is_of_opening_up_to b id ≡ true
+of-later a b id next e =
+    let parts = and_parts (nat_le (2 ^ 32) id) (nat_lt id ((a + 1) * 2 ^ 32)) e in
+    λ i. parts.0 i && below id ((a + 1) * 2 ^ 32) ((b + 1) * 2 ^ 32) parts.1 (omega (arith, next)) i
+  where
+    below : (n c d : ℕ) → nat_lt n c ≡ true → c ≤ d → nat_lt n d ≡ true
+    below n c d lt le = grind (arith, nat_tests)
+
 id-later : (a b id : ℕ) → b ≡ a + 1 → is_id_up_to a id ≡ true → is_id_up_to b id ≡ true
 id-later a b id next h = go (id == 0) h
   where
-    go : (t : Bool) → (t || (nat_le (2 ^ 32) id && nat_lt id ((a + 1) * 2 ^ 32))) ≡ true → (t || (nat_le (2 ^ 32) id && nat_lt id ((b + 1) * 2 ^ 32))) ≡ true
+    go : (t : Bool) → (t || is_of_opening_up_to a id) ≡ true → (t || is_of_opening_up_to b id) ≡ true
     go true e = refl
-    go false e =
-        let parts = and_parts (nat_le (2 ^ 32) id) (nat_lt id ((a + 1) * 2 ^ 32)) e in
-        λ i. parts.0 i && below id ((a + 1) * 2 ^ 32) ((b + 1) * 2 ^ 32) parts.1 (omega (arith, next)) i
-      where
-        below : (n c d : ℕ) → nat_lt n c ≡ true → c ≤ d → nat_lt n d ≡ true
-        below n c d lt le = grind (arith, nat_tests)
+    go false e = of-later a b id next e
 
 abbrev AreUpTo : NameTable → Type 0
 AreUpTo t = All (λ e. is_id_up_to t.opening e.row.id ≡ true) t.rows
@@ -202,10 +213,7 @@ all-may t (id ∷ ids) some h =
 same-opening : (t : NameTable) (o : EditOp) → allows t o ≡ true → is_opening o ≡ false → AreUpTo t → All (λ e. is_id_up_to t.opening e.row.id ≡ true) (after_table t o).rows
 same-opening t o may safe h =
     let a = allowed t o safe may in
-    rows_have (λ (id : ℕ). is_id_up_to t.opening id ≡ true) t o (all-may t (uses o) (some t.opening a.opened) a.ids) h
-  where
-    some : (n : ℕ) → nat_lt 0 n ≡ true → 0 < n
-    some n lt = grind (arith, nat_tests)
+    rows_have (λ (id : ℕ). is_id_up_to t.opening id ≡ true) t o (all-may t (uses o) (some-opening t.opening a.opened) a.ids) h
 
 ids-after : (t : NameTable) (o : EditOp) → allows t o ≡ true → AreUpTo t → AreUpTo (after_table t o)
 ids-after t (op.Opened opening) may h =
@@ -229,3 +237,67 @@ pub ids-reached : (ops : List EditOp) (r : Replayed) → name_replay nothing_log
 ids-reached ops r is =
     kept (λ (q : Replayed). AreUpTo q.table) (λ q o may h. ids-after q.table o (and_parts (allows q.table o) (is_fresh q.used o) may).0 h) nothing_logged r ops
     (All-cons (λ (e : Entry). is_id_up_to 0 e.row.id ≡ true) _ [] refl (All-nil (λ (e : Entry). is_id_up_to 0 e.row.id ≡ true))) is
+
+-- the sessions of statuses are of the openings so far
+
+abbrev AreSessionsUpTo : ℕ → List StatusRow → Type 0
+AreSessionsUpTo opening ss = AllByRecursion (λ s. is_of_opening_up_to opening s.session ≡ true) ss
+
+sessions-with : (opening : ℕ) (s : StatusRow) (ts : List StatusRow) → is_of_opening_up_to opening s.session ≡ true → AreSessionsUpTo opening ts → AreSessionsUpTo opening (with_status s ts)
+sessions-with opening s [] own all = (own, tt)
+sessions-with opening s (t ∷ ts) own all = go (is_of s.zone t) (sessions-with opening s ts own all.1)
+  where
+    go : (b : Bool) → AreSessionsUpTo opening (with_status s ts) → AreSessionsUpTo opening (cond b (s ∷ ts) (t ∷ with_status s ts))
+    go true rest = (own, all.1)
+    go false rest = (all.0, rest)
+
+sessions-ended : (opening session : ℕ) (cancelled : Bool) (ss : List StatusRow) → AreSessionsUpTo opening ss → AreSessionsUpTo opening (ended session cancelled ss)
+sessions-ended opening session cancelled [] all = tt
+sessions-ended opening session cancelled (s ∷ ss) all = (go (goes_on_under session s), sessions-ended opening session cancelled ss all.1)
+  where
+    go : (b : Bool) → is_of_opening_up_to opening (cond b (record s { completed = true; cancelled = cancelled }) s).session ≡ true
+    go true = all.0
+    go false = all.0
+
+sessions-counted : (opening session changed failed : ℕ) (mark : Option NPath) (ss : List StatusRow) → AreSessionsUpTo opening ss → AreSessionsUpTo opening (counted session changed failed mark ss)
+sessions-counted opening session changed failed mark [] all = tt
+sessions-counted opening session changed failed mark (s ∷ ss) all = go (goes_on_under session s) (sessions-counted opening session changed failed mark ss all.1)
+  where
+    go : (b : Bool) → AreSessionsUpTo opening (counted session changed failed mark ss) → AreSessionsUpTo opening (cond b (with_counts changed failed mark s ∷ ss) (s ∷ counted session changed failed mark ss))
+    go true rest = all
+    go false rest = (all.0, rest)
+
+sessions-left : (opening : ℕ) (p : StatusRow → Bool) (ss : List StatusRow) → AreSessionsUpTo opening ss → AreSessionsUpTo opening (filter p ss)
+sessions-left opening p [] all = tt
+sessions-left opening p (s ∷ ss) all = go (p s) (sessions-left opening p ss all.1)
+  where
+    go : (b : Bool) → AreSessionsUpTo opening (filter p ss) → AreSessionsUpTo opening (cond b (s ∷ filter p ss) (filter p ss))
+    go true rest = (all.0, rest)
+    go false rest = rest
+
+sessions-later : (a b : ℕ) (ss : List StatusRow) → b ≡ a + 1 → AreSessionsUpTo a ss → AreSessionsUpTo b ss
+sessions-later a b [] next all = tt
+sessions-later a b (s ∷ ss) next all = (of-later a b s.session next all.0, sessions-later a b ss next all.1)
+
+sessions-after : (t : NameTable) (o : EditOp) → allows t o ≡ true → AreSessionsUpTo t.opening t.statuses → AreSessionsUpTo (after_table t o).opening (after_table t o).statuses
+sessions-after t (op.Opened opening) may h = sessions-later t.opening opening t.statuses ((Decides-eqb opening (t.opening + 1)).0 may) h
+sessions-after t (op.Mkdir id p) may h = h
+sessions-after t (op.File id p edek) may h = h
+sessions-after t (op.Remove p) may h = sessions-left t.opening _ t.statuses h
+sessions-after t (op.Rename p q) may h = h
+sessions-after t (op.Zone p key) may h = h
+sessions-after t (op.Allow p) may h = h
+sessions-after t (op.Disallow p) may h = h
+sessions-after t (op.Snap p name) may h = h
+sessions-after t (op.Unsnap p name) may h = h
+sessions-after t (op.Submit session p noted) may h =
+    let a = allowed t (op.Submit session p noted) refl may in
+    sessions-with t.opening _ t.statuses (own-session t.opening session a.opened (id-may-be-used t session a.ids).of_opening) h
+sessions-after t (op.Update session failed mark files) may h = sessions-counted t.opening session (length files) failed mark t.statuses h
+sessions-after t (op.Cancel session) may h = sessions-ended t.opening session true t.statuses h
+sessions-after t (op.Complete session) may h = sessions-ended t.opening session false t.statuses h
+
+pub sessions-reached : (ops : List EditOp) (r : Replayed) → name_replay nothing_logged ops ≡ Some r → All (λ s. is_of_opening_up_to r.table.opening s.session ≡ true) r.table.statuses
+sessions-reached ops r is =
+    All-from_recursion (λ (s : StatusRow). is_of_opening_up_to r.table.opening s.session ≡ true) r.table.statuses
+    (kept (λ (q : Replayed). AreSessionsUpTo q.table.opening q.table.statuses) (λ q o may h. sessions-after q.table o (and_parts (allows q.table o) (is_fresh q.used o) may).0 h) nothing_logged r ops tt is)

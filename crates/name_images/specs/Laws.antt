@@ -4,7 +4,7 @@ use Rattle.std.specs.List.{All}
 use Rattle.edit_ops.specs.declared.ops.EditOp.{EditOp}
 use Rattle.name_store.specs.Replay.{name_replay}
 use Rattle.name_store.specs.Table.{IsNameTable, NameTable, Replayed, nothing_logged}
-use Rattle.name_images.specs.Images.{HasImage, IsNameImage, KeepsImageRules, in_image_order, is_id_up_to, name_image, zones_once}
+use Rattle.name_images.specs.Images.{HasImage, IsNameImage, KeepsImageRules, in_image_order, is_id_up_to, is_of_opening_up_to, name_image, zones_once}
 
 -- an image stands for one table
 abbrev pub OneNameTable : Type 0
@@ -24,6 +24,10 @@ LoggedFew = (ops : List EditOp) (r : Replayed) → name_replay nothing_logged op
 abbrev pub LoggedIds : Type 0
 LoggedIds = (ops : List EditOp) (r : Replayed) → name_replay nothing_logged ops ≡ Some r → All (λ e. is_id_up_to r.table.opening e.row.id ≡ true) r.table.rows
 
--- and no zone of it has two statuses
+-- no zone of it has two statuses
 abbrev pub LoggedZones : Type 0
 LoggedZones = (ops : List EditOp) (r : Replayed) → name_replay nothing_logged ops ≡ Some r → zones_once r.table.statuses ≡ true
+
+-- and the sessions of its statuses are of its openings
+abbrev pub LoggedSessions : Type 0
+LoggedSessions = (ops : List EditOp) (r : Replayed) → name_replay nothing_logged ops ≡ Some r → All (λ s. is_of_opening_up_to r.table.opening s.session ≡ true) r.table.statuses

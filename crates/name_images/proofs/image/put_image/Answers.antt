@@ -1,6 +1,5 @@
 use Rattle.std.proofs.Common.{◌≡◌, ◌∙◌, ◌++◌, [], ℕ, List, ap, append_assoc, subst}
 use Rattle.image_parts.specs.Parts.{KeepsPart}
-use Rattle.edit_ops.specs.Records.{list_field}
 use Rattle.name_images.specs.Fields.{ids_field, many_field, rows_field, snapshot_field, status_field}
 use Rattle.name_images.specs.Images.{by_zone}
 use Rattle.name_images.proofs.PartLemmas.{nothing-told}

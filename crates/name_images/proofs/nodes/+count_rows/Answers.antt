@@ -1,4 +1,4 @@
-use Rattle.std.proofs.Common.{◌≡◌, ◌∙◌, ◌+◌, ◌^◌, ◌<◌, ℕ, List, ap, arith, get_or, length, refl, subst, take, take_all}
+use Rattle.std.proofs.Common.{◌≡◌, ◌∙◌, ◌+◌, ◌^◌, ◌<◌, ℕ, List, ap, arith, get_or, length, refl, subst, take_all}
 use Rattle.std.specs.Prelude.{◌%◌}
 use Rattle.frozen_nodes.specs.Forest.{kid_rows, node_at, subtree_at, subtrees}
 use Rattle.name_images.proofs.Counts.{count-more, count-whole, kid-below}

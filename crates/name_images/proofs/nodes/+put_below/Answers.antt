@@ -2,8 +2,7 @@ use Rattle.std.proofs.Common.{◌≡◌, ◌∙◌, ◌+◌, ◌++◌, ◌<◌, 
 use Rattle.std.proofs.lemmas.List.{length-set, take-set-le, take-take}
 use Rattle.inode_tree.specs.Rows.{Entry}
 use Rattle.edit_ops.specs.Records.{list_field}
-use Rattle.frozen_nodes.specs.Forest.{AreBelow, node_at}
-use Rattle.frozen_nodes.proofs.Walks.{below-at}
+use Rattle.frozen_nodes.specs.Forest.{node_at}
 use Rattle.image_parts.specs.Parts.{KeepsPart}
 use Rattle.name_images.specs.Fields.{row_field}
 use Rattle.name_images.specs.Walks.{names_in, rows_led}

@@ -1,10 +1,8 @@
-use Rattle.std.proofs.Common.{◌≡◌, ◌∙◌, true, ◌<◌, ℕ, List, [], ap, arith, get_or, length, sym, take, take_all}
+use Rattle.std.proofs.Common.{◌≡◌, ◌∙◌, ℕ, [], arith, get_or, length, sym}
 use Rattle.std.proofs.lemmas.List.{get_or-map, length-map}
-use Rattle.name_calls.specs.Paths.{names_text, path_text}
 use Rattle.edit_ops.proofs.PathText.{one_name_more}
 use Rattle.frozen_nodes.specs.Forest.{node_at}
 use Rattle.name_images.specs.Walks.{names_in}
-use Rattle.name_images.proofs.Texts.{none-text, some-text}
 use Rattle.name_images.proofs.nodes.text_len.Goals as goal
 
 pub overflow_add-len-in-loop-n : goal.overflow_add-len-in-loop-n

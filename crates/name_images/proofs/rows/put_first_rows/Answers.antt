@@ -1,4 +1,4 @@
-use Rattle.std.proofs.Common.{◌≡◌, ◌∙◌, ◌++◌, ◌<◌, ℕ, List, ap, append_assoc, arith, get_or, length, refl, subst, sym, take, take_all}
+use Rattle.std.proofs.Common.{◌≡◌, ◌∙◌, ◌++◌, ◌<◌, ℕ, List, ap, append_assoc, arith, get_or, length, subst, sym, take, take_all}
 use Rattle.std.proofs.lemmas.List.{get_or_default}
 use Rattle.inode_tree.specs.Below.{RowView}
 use Rattle.inode_tree.specs.Rows.{Entry}

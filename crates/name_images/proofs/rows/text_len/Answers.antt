@@ -1,10 +1,10 @@
-use Rattle.std.proofs.Common.{◌≡◌, ◌∙◌, true, ℕ, List, [], ap, arith, get_or, length, sym, take, take_all}
+use Rattle.std.proofs.Common.{◌≡◌, ◌∙◌, true, ℕ, List, [], ap, arith, get_or, length, take_all}
 use Rattle.name_calls.specs.Paths.{is_relative, names_text}
 use Rattle.edit_ops.proofs.PathText.{one_name_more}
 use Rattle.frozen_nodes.specs.Copies.{no_entry, path_at}
 use Rattle.frozen_nodes.proofs.Copying.{some-at}
 use Rattle.name_images.proofs.RowsAt.{has-name}
-use Rattle.name_images.proofs.Texts.{none-text, some-text}
+use Rattle.name_images.proofs.Texts.{some-text}
 use Rattle.name_images.proofs.rows.text_len.Goals as goal
 
 pub name_at_place-requires-clause-k : goal.name_at_place-requires-clause-k

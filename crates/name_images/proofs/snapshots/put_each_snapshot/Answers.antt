@@ -1,4 +1,4 @@
-use Rattle.std.proofs.Common.{◌≡◌, ◌∙◌, ◌++◌, ◌<◌, ℕ, List, ap, append_assoc, arith, get_or, length, subst, sym, take, take_all}
+use Rattle.std.proofs.Common.{◌∙◌, ◌++◌, ◌<◌, ℕ, List, ap, append_assoc, arith, get_or, length, subst, sym, take, take_all}
 use Rattle.std.proofs.lemmas.List.{get_or_default}
 use Rattle.snap_store.specs.Snapshots.{Snapshot}
 use Rattle.edit_ops.specs.Records.{list_field}

@@ -1,4 +1,4 @@
-use Rattle.std.proofs.Common.{◌≡◌, ◌∙◌, ◌++◌, true, ℕ, List, ap, append_assoc, get_or, subst, sym}
+use Rattle.std.proofs.Common.{◌≡◌, ◌∙◌, ◌++◌, true, ℕ, List, ap, append_assoc, subst, sym}
 use Rattle.std.specs.List.{All}
 use Rattle.key_rows.specs.Records.{text_field}
 use Rattle.name_calls.specs.Paths.{is_relative}

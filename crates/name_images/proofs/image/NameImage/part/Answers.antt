@@ -1,4 +1,4 @@
-use Rattle.std.proofs.Common.{◌≡◌, ◌∙◌, ◌+◌, ◌≤◌, ap, arith, length, min, subst}
+use Rattle.std.proofs.Common.{◌≡◌, ◌∙◌, arith, length, min, subst}
 use Rattle.std.specs.Prelude.{◌-◌}
 use Rattle.image_parts.specs.Parts.{KeepsPart}
 use Rattle.name_store.specs.Table.{NameTable}

@@ -1,4 +1,4 @@
-use Rattle.std.proofs.Common.{◌≡◌, ◌∙◌, ap, length}
+use Rattle.std.proofs.Common.{◌∙◌, ap, length}
 use Rattle.image_parts.specs.Parts.{count_told}
 use Rattle.name_store.specs.Table.{NameTable}
 use Rattle.name_images.specs.Images.{name_image}
