@@ -49,6 +49,7 @@ fn lesser(len: usize, rest: u64) -> usize
 
 /// The image of a table: its bytes, told part by part. Each part takes the time of a walk over the whole
 /// table, and no memory. In contracts its value is the table.
+#[derive(Drop)]
 pub struct NameImage<'a> {
     opening: u32,
     tree: &'a Tree,
