@@ -18,7 +18,6 @@ mod window;
 pub use fault::{LogFault, StartFault, StoreRefusal};
 pub use frames::{Frame, Frames};
 pub use gates::LONGEST_PAYLOAD;
-pub use log::{Log, Selected};
 pub use image::{Image, ImageSpan};
-pub use log::Log;
+pub use log::{Log, Selected};
 pub use records::Records;
