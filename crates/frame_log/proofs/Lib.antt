@@ -20,5 +20,6 @@ mod Steps
 pub mod Torn
 mod WalkLemmas
 pub mod Turnings
+pub mod Viewings
 mod Windows
 pub mod Writes

@@ -13,6 +13,7 @@ mod log;
 mod records;
 mod selecting;
 mod walking;
+mod viewing;
 mod window;
 
 pub use fault::{LogFault, StartFault, StoreRefusal};
