@@ -1,4 +1,5 @@
 mod Commits
+pub mod Currents
 pub mod Layers
 pub mod MaterialReads
 mod Olders
@@ -7,3 +8,4 @@ mod RowLemmas
 mod Starts
 mod Stepping
 mod Streams
+mod Views

@@ -7,10 +7,10 @@ use Rattle.frame_log.specs.declared.log.Log.{Log}
 use Rattle.frame_log.specs.declared.records.Records.{Records}
 use Rattle.key_rows.specs.declared.rows.KeyCommand.{KeyCommand}
 use Rattle.key_rows.specs.Table.{Table}
-use Rattle.key_index.specs.Held.{InLog, material_in}
+use Rattle.key_index.specs.Held.{AreHeld, InLog, material_in}
 use Rattle.key_index.specs.Index.{KeptIndex, Materials}
 use Rattle.kms_store.specs.Replay.{IsReplayed, payload_of}
-use Rattle.kms_store.specs.Store.{StandsFor, StoreState}
+use Rattle.kms_store.specs.Store.{IsKeyLog, StandsFor, StoreState}
 
 pub record KeysState : Type 0 where
   pub index : KeptIndex
@@ -38,6 +38,14 @@ pub record IsReadFrom (disk : DiskState) (records : Records) (keys : KeysState) 
   pub built : IsBuilt frames keys
   pub all : Tells disk → (todo : List (List ℕ)) → Ahead disk records todo → frames ≡ placed records.at todo
 
+-- the file is a key log of commands that make the keys, and it has their older materials
+pub record IsViewed (file : List ℕ) (keys : KeysState) : Type 0 where
+  pub commands : List KeyCommand
+  pub log : IsKeyLog file commands keys.table
+  pub older : Materials
+  pub stands : StandsFor older keys.index.index keys.table
+  pub held : AreHeld older file keys.index.index
+
 -- the store of these keys, with an empty cache, before any command is added to its log
 abbrev pub store_of : Log → KeysState → StoreState
 store_of log keys = record {
@@ -47,3 +55,11 @@ store_of log keys = record {
   cache = [];
   pending = None;
 }
+
+-- a store has these keys, an empty cache, and nothing pending; an opening is recorded
+pub record IsOver (keys : KeysState) (store : StoreState) : Type 0 where
+  pub table : store.table.keys ≡ keys.table
+  pub index : store.index ≡ keys.index.index
+  pub cache : store.cache ≡ []
+  pub pending : store.pending ≡ None
+  pub opened : 0 < keys.table.opening

@@ -16,7 +16,7 @@ use Rattle.hk_base.specs.declared.names.VersionName.{VersionName}
 use Rattle.key_index.specs.declared.cache.MaterialKey.{MaterialKey}
 use Rattle.key_index.specs.declared.rows.IndexRow.{IndexRow}
 use Rattle.key_index.specs.Cache.{AreCached}
-use Rattle.key_index.specs.Held.{InLog, has_older}
+use Rattle.key_index.specs.Held.{AreHeld, InLog, has_older}
 use Rattle.key_index.specs.Index.{Index, Materials, table_of}
 use Rattle.key_index.specs.Sound.{AllSized}
 use Rattle.log_kinds.specs.Kinds.{AnOpening, IsLog, IsNoLog, Nothing, settled_ops}
@@ -45,6 +45,13 @@ pub record HoldsMaterials (store : StoreState) (commands : List KeyCommand) : Ty
   pub older : Materials
   pub stands : StandsFor older store.index store.table.keys
   pub held : InLog older commands store.index
+  pub cached : AreCached older store.index store.cache
+
+-- the file of the key log holds the materials of the index, and those in the cache are theirs
+pub record HasMaterials (disk : DiskState) (store : StoreState) : Type 0 where
+  pub older : Materials
+  pub stands : StandsFor older store.index store.table.keys
+  pub held : AreHeld older (disk.reads 0) store.index
   pub cached : AreCached older store.index store.cache
 
 -- a row of the index says of a key all but its older materials

@@ -5,8 +5,10 @@
 mod keys;
 mod replay;
 mod store;
+mod viewing;
 
 pub use store::Store;
+pub use viewing::ViewFault;
 
 /// The file of the disk with the key log.
 const KEYS: u8 = 0;

@@ -20,10 +20,10 @@ use std::num::NonZeroUsize;
 /// record, and the table is unchanged. The next call that changes keys settles it first.
 #[derive(Drop)]
 pub struct Store {
-    log: Log,
-    keys: Keys,
-    cache: MaterialCache,
-    pending: Option<KeyCommand>,
+    pub(crate) log: Log,
+    pub(crate) keys: Keys,
+    pub(crate) cache: MaterialCache,
+    pub(crate) pending: Option<KeyCommand>,
 }
 
 impl Model for Store {
