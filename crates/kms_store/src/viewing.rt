@@ -69,6 +69,7 @@ impl Store {
     /// Returns `Damaged` exactly if the file is not a log, or a record encodes no command or one that
     /// doesn't apply, with the offset of its gate. Returns `NotStarted` exactly if it is a log that
     /// records no opening.
+    #[tactic(auto, using(crate::proofs::Currents::still_lead))]
     pub fn view<D: Disk>(alloc: Global, disk: &mut D, cache: u16) -> Result<Store, ViewFault>
         ensures log { IfOk result
             (λ store. Tells (D.state disk.old) → ((commands : List KeyCommand)
@@ -88,6 +89,12 @@ impl Store {
             Only ((D.state disk.old).reads 0) ((D.state disk.new).leaves 0)) }
         ensures damaged { (at : ℕ) → IsErrOf result (fault.Damaged at) → Tells (D.state disk.old) →
             IsDamagedAt ((D.state disk.old).reads 0) at }
+        // A log that a lead has open is not damaged, and the lead keeps it.
+        ensures undamaged { (at : ℕ) → IsErrOf result (fault.Damaged at) → Tells (D.state disk.old) →
+            (lead : StoreState) (commands : List KeyCommand) →
+            IsLead (D.state disk.old) lead commands → ⊥ }
+        ensures lead { Tells (D.state disk.old) → (lead : StoreState) (commands : List KeyCommand) →
+            IsLead (D.state disk.old) lead commands → IsLead (D.state disk.new) lead commands }
         ensures not_started { IsErrOf result fault.NotStarted → Tells (D.state disk.old) →
             ((commands : List KeyCommand) × (table : Table) ×
             IsKeyLog ((D.state disk.old).reads 0) commands table × (table.opening ≡ 0)) }
