@@ -1,13 +1,13 @@
 //! Compaction: the writes by which a log is to start from an image.
-ghost use Rattle.std.specs.Prelude.{◌≡◌, ◌+◌, ◌<◌, ◌≤◌, ◌^◌, ◌++◌, [], ◌∷◌, ℕ, List, None, length, set, IfOk, OnOk, OnErr};
+ghost use Rattle.std.specs.Prelude.{◌≡◌, ◌+◌, ◌<◌, ◌≤◌, ◌^◌, ◌++◌, [], ◌∷◌, ℕ, List, None, Some, not, length, set, IfOk, OnOk, OnErr};
 ghost use Rattle.std.specs.List.{AllByRecursion};
 ghost use Rattle.std.specs.Int.{w64, to_be_bytes};
 ghost use Rattle.hk_base.specs.Disk.{DiskState, LeavesOnly, Only, RunOn, Tells, piece, written};
 ghost use Rattle.hk_base.specs.Faults.{Rose};
-ghost use Rattle.frame_log.specs.Format.{behind, front};
-ghost use Rattle.frame_log.specs.FormatTwo.{Always, IsOwn, holding, moved};
-ghost use Rattle.frame_log.specs.Bases.{Area, IsWholeArea, area_base};
-ghost use Rattle.frame_log.specs.Compacts.{IsBetween, ShutAt, area_bytes, first_head};
+ghost use Rattle.frame_log.specs.Format.{IsPayload, behind, front};
+ghost use Rattle.frame_log.specs.FormatTwo.{Always, IsOwn, holding, moved, next_turn};
+ghost use Rattle.frame_log.specs.Bases.{Area, IsWholeArea, area_base, area_start, front_on};
+ghost use Rattle.frame_log.specs.Compacts.{IsBetween, ShutAt, area_bytes, first_head, other_at};
 ghost use Rattle.frame_log.specs.Stands.{Names};
 ghost use Rattle.frame_log.specs.Writes.{IsApart, WritesOn};
 
@@ -271,5 +271,129 @@ fn migrate<D: Disk, I: Image>(
         second: false,
         turn: 1,
         place: end + 49,
+    })
+}
+
+/// Returns the offset of the gate of the selector that does not count.
+fn other_gate(now: Selected) -> u64
+    requires { now.selectors ≤ 2 ^ 62 }
+    ensures { result ≡ other_at now.second now.selectors }
+{
+    if now.second {
+        now.selectors
+    } else {
+        now.selectors + 17
+    }
+}
+
+/// Returns the offset of the gate of the selector that counts.
+fn this_gate(now: Selected) -> u64
+    requires { now.selectors ≤ 2 ^ 62 }
+    ensures { result ≡ other_at (not now.second) now.selectors }
+{
+    if now.second {
+        now.selectors + 17
+    } else {
+        now.selectors
+    }
+}
+
+/// Returns where the next area begins: behind the selectors if it ends there, its end gate included, at or
+/// before the present area, else behind the end gate.
+fn place_for(now: Selected, end: u64, size: u64) -> u64
+    requires selectors { now.selectors ≤ 2 ^ 62 }
+    requires end { end ≤ 2 ^ 62 }
+    requires size { size ≤ 2 ^ 30 }
+    ensures before { now.selectors + 43 + size ≤ now.place → result ≡ now.selectors + 34 }
+    ensures behind { now.place < now.selectors + 43 + size → result ≡ end + 1 }
+    ensures limit { result ≤ 2 ^ 62 + 34 }
+{
+    if now.selectors + 43 + size <= now.place {
+        now.selectors + 34
+    } else {
+        end + 1
+    }
+}
+
+/// Returns the turn after this one.
+fn turn_after(turn: u64) -> u64
+    ensures { result ≡ next_turn turn }
+{
+    turn.wrapping_add(1)
+}
+
+/// Returns the bytes of a selector after its gate.
+fn numbers_of(turn: u64, place: u64) -> [u8; 16]
+    ensures { result ≡ to_be_bytes w64 turn ++ to_be_bytes w64 place }
+{
+    let t = turn.to_be_bytes();
+    let p = place.to_be_bytes();
+    [
+        t[0], t[1], t[2], t[3], t[4], t[5], t[6], t[7], p[0], p[1], p[2], p[3], p[4], p[5], p[6],
+        p[7],
+    ]
+}
+
+/// Compacts a log that was compacted before, and returns where it goes on. The image is to read nothing
+/// before the present area. A crash at any moment leaves what the log held, or the image alone.
+fn move_on<D: Disk, I: Image>(
+    disk: &mut D,
+    file: u8,
+    end: u64,
+    now: Selected,
+    image: &I,
+    size: u64,
+    buf: &mut [u8],
+) -> Result<Selected, Failed>
+    requires file { file < 2 }
+    requires own { I.file image.now ≡ file }
+    requires room { 1 ≤ length buf.old }
+    requires limit { end ≤ 2 ^ 62 }
+    requires selectors { now.selectors ≤ 2 ^ 62 }
+    requires size { (held : List ℕ) → length held ≡ I.count image.now →
+        size ≡ length (I.image image.now held) }
+    requires small { size ≤ 2 ^ 30 }
+    requires behind { Tells (D.state disk.old) → now.place ≤ I.from image.now }
+    requires before { Tells (D.state disk.old) → I.from image.now + I.count image.now ≤ end }
+    requires stands { Tells (D.state disk.old) →
+        ((area : Area) × (payloads : List (List ℕ)) × IsWholeArea area × Names now area
+        × AllByRecursion IsPayload payloads
+        × ShutAt (front_on (area_base file area) payloads) file end (D.state disk.old)) }
+
+    ensures moved { IfOk result
+        (λ next. Tells (D.state disk.old) → (area : Area) (payloads : List (List ℕ)) →
+        IsWholeArea area → Names now area → AllByRecursion IsPayload payloads
+        → ShutAt (front_on (area_base file area) payloads) file end (D.state disk.old)
+        → ((later : Area) × IsWholeArea later × Names next later
+        × (later.image ≡
+        I.image image.now
+        (piece (I.from image.now) (I.count image.now) ((D.state disk.old).reads file)))
+        × ShutAt (area_base file later) file (next.place + 8 + size) (D.state disk.new))) }
+    ensures limit { IfOk result (λ next. next.place + size + 9 ≤ 2 ^ 62) }
+    ensures any_moment { Tells (D.state disk.old) → (area : Area) (payloads : List (List ℕ)) →
+        IsWholeArea area → Names now area → AllByRecursion IsPayload payloads
+        → ShutAt (front_on (area_base file area) payloads) file end (D.state disk.old)
+        → LeavesOnly file (D.state disk.old) (D.state disk.new)
+        (Always file
+        (IsBetween (holding (Some (area_start area)) payloads)
+        (I.image image.now
+        (piece (I.from image.now) (I.count image.now) ((D.state disk.old).reads file))))) }
+    ensures length { length buf.new ≡ length buf.old }
+    ensures run { RunOn file (D.state disk.old) (D.state disk.new) }
+    ensures cause { OnErr result (Rose (D.state disk.old).faults (D.state disk.new).faults) }
+{
+    let place = place_for(now, end, size);
+    let turn = turn_after(now.turn);
+    let other = other_gate(now);
+    let this = this_gate(now);
+    write_area(disk, file, place, image, size, buf)?;
+    put_synced(disk, file, other + 1, &numbers_of(turn, place))?;
+    turn_gate(disk, file, other, OPEN)?;
+    turn_gate(disk, file, this, SHUT)?;
+    Ok(Selected {
+        selectors: now.selectors,
+        second: !now.second,
+        turn,
+        place,
     })
 }
