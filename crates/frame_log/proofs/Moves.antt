@@ -1,5 +1,6 @@
 -- A later compaction of a log, from its first write to the gate of the old selector.
-use Rattle.std.proofs.Common.{◌≡◌, ◌≢◌, ◌⊎◌, ℕ, ◌+◌, ◌<◌, ◌≤◌, ◌^◌, Bool, true, false, not, List, [], ◌∷◌, ◌++◌, length, set, if◌then◌else◌, Some, refl, sym, ◌∙◌, ap, subst, arith, length-append, inl, inr}
+use Rattle.std.proofs.Common.{◌≡◌, ◌≢◌, ◌⊎◌, ℕ, ◌+◌, ◌<◌, ◌≤◌, ◌^◌, Bool, true, false, not, List, [], ◌∷◌, ◌++◌, length, set, if◌then◌else◌, Option, Some, None, Result, Ok, Err, refl, sym, ◌∙◌, ap, subst, arith, length-append, inl, inr}
+use Rattle.std.specs.Prelude.{IfOk}
 use Rattle.std.specs.List.{AllByRecursion}
 use Rattle.std.specs.Int.{w64, to_be_bytes}
 use Rattle.std.proofs.lemmas.Bool.{cases_lt}
@@ -10,7 +11,7 @@ use Rattle.frame_log.specs.Format.{IsPayload, frames}
 use Rattle.frame_log.specs.FormatTwo.{Always, Content, IsOwn, Selector, counting, holding, next_turn, selector_bytes, selector_in, since}
 use Rattle.frame_log.specs.Bases.{Area, IsArea, IsWhole, IsWholeArea, area_at, area_base, area_start, front_on, selectors_at}
 use Rattle.frame_log.specs.Compacts.{IsBetween, ShutAt, area_bytes, other_at}
-use Rattle.frame_log.specs.Stands.{IsShut, Names}
+use Rattle.frame_log.specs.Stands.{IsShut, Knows, Names}
 use Rattle.frame_log.specs.Writes.{IsApart, WritesOn}
 use Rattle.frame_log.specs.declared.log.Selected.{Selected}
 use Rattle.frame_log.proofs.Bases.{always_shut, moved_long, reads_on_area}
@@ -284,3 +285,19 @@ place_in place first gap image more end size (inr lies) is = omega (arith, lies,
 pub apart_in : (place first gap image more end size now from count : ℕ) → ((place ≡ first) × (size + 9 ≤ gap)) ⊎ (place ≡ first + gap + 8 + image + more + 1) → end ≡ first + gap + 8 + image + more → now ≡ first + gap → now ≤ from → from + count ≤ end → IsApart place (size + 9) from count
 apart_in place first gap image more end size now from count (inl lies) is at behind before = inr (omega (arith, lies.0, lies.1, at, behind))
 apart_in place first gap image more end size now from count (inr lies) is at behind before = inl (omega (arith, lies, is, before))
+
+-- what a log stands on, by what it keeps in memory
+
+pub none_known : (area : Option Selected) (base : Option Area) → Knows area base → area ≡ None → base ≡ None
+none_known None None knows is = refl
+none_known None (Some b) knows is = absurd knows
+none_known (Some a) base knows is = absurd (cc is)
+
+pub some_known : (area : Option Selected) (base : Option Area) (selected : Selected) → Knows area base → area ≡ Some selected → (known : Area) × (base ≡ Some known) × Names selected known
+some_known None base selected knows is = absurd (cc is)
+some_known (Some a) None selected knows is = absurd knows
+some_known (Some a) (Some b) selected knows is = (b, refl, subst (λ (s : Selected). Names s b) (cc is) knows)
+
+pub if_ok : {T E : Type 0} {P Q : T → Type 0} (result : Result T E) → IfOk result P → ((x : T) → P x → Q x) → IfOk result Q
+if_ok (Ok x) is f = f x is
+if_ok (Err e) is f = tt

@@ -1,14 +1,14 @@
 //! Compaction: the writes by which a log is to start from an image.
-ghost use Rattle.std.specs.Prelude.{◌≡◌, ◌+◌, ◌<◌, ◌≤◌, ◌^◌, ◌++◌, [], ◌∷◌, ℕ, List, None, Some, not, length, set, IfOk, OnOk, OnErr};
+ghost use Rattle.std.specs.Prelude.{◌≡◌, ◌+◌, ◌<◌, ◌≤◌, ◌^◌, ◌++◌, [], ◌∷◌, ℕ, List, Option, None, Some, not, length, set, IfOk, IfSome, OnOk, OnErr};
 ghost use Rattle.std.specs.List.{AllByRecursion};
 ghost use Rattle.std.specs.Int.{w64, to_be_bytes};
 ghost use Rattle.hk_base.specs.Disk.{DiskState, LeavesOnly, Only, RunOn, Tells, piece, written};
 ghost use Rattle.hk_base.specs.Faults.{Rose};
 ghost use Rattle.frame_log.specs.Format.{IsPayload, behind, front};
 ghost use Rattle.frame_log.specs.FormatTwo.{Always, IsOwn, holding, moved, next_turn};
-ghost use Rattle.frame_log.specs.Bases.{Area, IsWholeArea, area_base, area_start, front_on};
+ghost use Rattle.frame_log.specs.Bases.{Area, IsBase, IsWholeArea, MayFollow, area_base, area_start, front_of, front_on, start_of};
 ghost use Rattle.frame_log.specs.Compacts.{IsBetween, ShutAt, area_bytes, first_head, other_at};
-ghost use Rattle.frame_log.specs.Stands.{Names};
+ghost use Rattle.frame_log.specs.Stands.{Knows, Names};
 ghost use Rattle.frame_log.specs.Writes.{IsApart, WritesOn};
 
 use crate::gates::{OPEN, SHUT};
@@ -396,4 +396,58 @@ fn move_on<D: Disk, I: Image>(
         turn,
         place,
     })
+}
+
+/// Compacts a log, whether it was compacted before or not, and returns where it goes on.
+fn compact_on<D: Disk, I: Image>(
+    disk: &mut D,
+    file: u8,
+    end: u64,
+    area: Option<Selected>,
+    image: &I,
+    size: u64,
+    buf: &mut [u8],
+) -> Result<Selected, Failed>
+    requires file { file < 2 }
+    requires own { I.file image.now ≡ file }
+    requires room { 1 ≤ length buf.old }
+    requires limit { end ≤ 2 ^ 62 }
+    requires selectors { IfSome area (λ now. now.selectors ≤ 2 ^ 62) }
+    requires size { (held : List ℕ) → length held ≡ I.count image.now →
+        size ≡ length (I.image image.now held) }
+    requires small { size ≤ 2 ^ 30 }
+    requires behind { Tells (D.state disk.old) →
+        IfSome area (λ now. now.place ≤ I.from image.now) }
+    requires before { Tells (D.state disk.old) → I.from image.now + I.count image.now ≤ end }
+    requires stands { Tells (D.state disk.old) →
+        ((base : Option Area) × (payloads : List (List ℕ)) × IsBase base × Knows area base
+        × AllByRecursion (MayFollow (start_of base)) payloads
+        × ShutAt (front_of file base payloads) file end (D.state disk.old)) }
+
+    ensures moved { IfOk result
+        (λ next. Tells (D.state disk.old) → (base : Option Area) (payloads : List (List ℕ)) →
+        IsBase base → Knows area base → AllByRecursion (MayFollow (start_of base)) payloads
+        → ShutAt (front_of file base payloads) file end (D.state disk.old)
+        → ((later : Area) × IsWholeArea later × Names next later
+        × (later.image ≡
+        I.image image.now
+        (piece (I.from image.now) (I.count image.now) ((D.state disk.old).reads file)))
+        × ShutAt (area_base file later) file (next.place + 8 + size) (D.state disk.new))) }
+    ensures limit { IfOk result (λ next. next.place + size + 9 ≤ 2 ^ 62) }
+    ensures any_moment { Tells (D.state disk.old) → (base : Option Area) (payloads : List (List ℕ)) →
+        IsBase base → Knows area base → AllByRecursion (MayFollow (start_of base)) payloads
+        → ShutAt (front_of file base payloads) file end (D.state disk.old)
+        → LeavesOnly file (D.state disk.old) (D.state disk.new)
+        (Always file
+        (IsBetween (holding (start_of base) payloads)
+        (I.image image.now
+        (piece (I.from image.now) (I.count image.now) ((D.state disk.old).reads file))))) }
+    ensures length { length buf.new ≡ length buf.old }
+    ensures run { RunOn file (D.state disk.old) (D.state disk.new) }
+    ensures cause { OnErr result (Rose (D.state disk.old).faults (D.state disk.new).faults) }
+{
+    match area {
+        None => return migrate(disk, file, end, image, size, buf),
+        Some(now) => return move_on(disk, file, end, now, image, size, buf),
+    }
 }
