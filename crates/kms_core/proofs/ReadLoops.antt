@@ -12,7 +12,6 @@ use Rattle.hk_base.specs.Faults.{Rose}
 use Rattle.hk_base.specs.declared.names.Edek.{Edek}
 use Rattle.hk_base.specs.declared.names.VersionName.{VersionName}
 use Rattle.key_rows.specs.declared.rows.KeyRow.{KeyRow}
-use Rattle.key_rows.specs.declared.rows.KeyCommand.{KeyCommand}
 use Rattle.key_rows.specs.Table.{find_name, material_of}
 use Rattle.key_index.specs.Held.{has_older}
 use Rattle.kms_calls.specs.Shown.{Shown}
@@ -20,7 +19,7 @@ use Rattle.kms_calls.specs.declared.calls.KmsCall.TheVariants as call
 use Rattle.kms_calls.specs.declared.calls.RawEdek.{RawEdek}
 use Rattle.kms_calls.specs.declared.calls.KmsRefusal.{KmsRefusal}
 use Rattle.kms_calls.specs.declared.calls.KmsRefusal.TheVariants as refusal
-use Rattle.kms_store.specs.Store.{IsKeyStoreOf, is_older}
+use Rattle.kms_store.specs.Store.{HasMaterials, is_older}
 use Rattle.kms_core.specs.State.{KmsState, Running, keys_of}
 use Rattle.kms_core.specs.Calls.{all_versions, batch_causes, first_cause, resealed, row_of, sent_causes, versions_from, versions_of}
 use Rattle.kms_calls.specs.declared.calls.KmsReply.TheVariants as reply
@@ -33,13 +32,11 @@ use Rattle.kms_core.proofs.ReadLemmas.{acts_by_reads, as_reply, reads_more, same
 use Rattle.kms_core.proofs.SentLemmas.{each_allowed, map_more, same_cause, same_causes}
 use Rattle.kms_core.proofs.ServiceLemmas.{rose_since}
 
--- the store holds what it held
-pub still_holds : (old new : DiskState) (r t : Running) → ReadsOnly old new r t → (Tells old → (commands : List KeyCommand) × IsKeyStoreOf old r.store commands)
-    → Tells new → (commands : List KeyCommand) × IsKeyStoreOf new t.store commands
-still_holds old new r t reads stands telling =
+-- the disk still has the older materials
+pub still_holds : (old new : DiskState) (r t : Running) → ReadsOnly old new r t → (Tells old → HasMaterials old r.store) → Tells new → HasMaterials new t.store
+still_holds old new r t reads held telling =
     let before : Tells old = subst (λ b. IsTrue b) reads.store.run.tells telling in
-    let holds = stands before in
-    (holds.0, reads.store.kept before holds.0 holds.1)
+    reads.store.held before (held before)
 
 pub tells_still : (old new : DiskState) (r t : Running) → ReadsOnly old new r t → Tells old → Tells new
 tells_still old new r t reads telling = subst (λ b. IsTrue b) (sym reads.store.run.tells) telling

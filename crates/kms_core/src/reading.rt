@@ -4,9 +4,8 @@ ghost use Rattle.hk_base.specs.Disk.{Tells};
 ghost use Rattle.hk_base.specs.Faults.{Rose};
 ghost use Rattle.hk_base.specs.declared.names.Edek.{Edek};
 ghost use Rattle.kms_calls.specs.declared.calls.RawEdek.{RawEdek};
-ghost use Rattle.key_rows.specs.declared.rows.KeyCommand.{KeyCommand};
 ghost use Rattle.key_rows.specs.Table.{find_name, material_of};
-ghost use Rattle.kms_store.specs.Store.{Applies, IsKeyStoreOf, is_older};
+ghost use Rattle.kms_store.specs.Store.{Applies, HasMaterials, is_older};
 ghost use Rattle.kms_core.specs.State.{keys_of};
 ghost use Rattle.kms_core.specs.Calls.{all_versions, resealed, row_of, unsealed_dek};
 ghost use Rattle.kms_core.specs.Steps.{GivesAnswer, HasKey, ReadsOnly};
@@ -46,9 +45,7 @@ impl Service {
         requires exists { IsSome (material_of self.old.store.table.keys.rows version.now) }
         requires birth { IfSome (find_name self.old.store.table.keys.rows version.now.key)
             (λ key. key.birth ≡ birth) }
-        requires stands { Tells (D.state disk.old) →
-            ((commands : List KeyCommand) ×
-            IsKeyStoreOf (D.state disk.old) self.old.store commands) }
+        requires held { Tells (D.state disk.old) → HasMaterials (D.state disk.old) self.old.store }
         ensures given { IfOk result
             (λ material. (IsTrue (is_older self.old.store.table.keys version.now) →
             Tells (D.state disk.old))
@@ -75,9 +72,7 @@ impl Service {
         disk: &mut D,
         version: &VersionName,
     ) -> Result<Option<Dek>, KmsRefusal>
-        requires stands { Tells (D.state disk.old) →
-            ((commands : List KeyCommand) ×
-            IsKeyStoreOf (D.state disk.old) self.old.store commands) }
+        requires held { Tells (D.state disk.old) → HasMaterials (D.state disk.old) self.old.store }
         ensures answer { GivesAnswer (D.state disk.old) (D.state disk.new) (keys_of self.old)
             (KmsCall.Version version.now)
             (material_of self.old.store.table.keys.rows version.now) result }
@@ -100,9 +95,7 @@ impl Service {
         disk: &mut D,
         name: &KeyName,
     ) -> Result<VersionList, KmsRefusal>
-        requires stands { Tells (D.state disk.old) →
-            ((commands : List KeyCommand) ×
-            IsKeyStoreOf (D.state disk.old) self.old.store commands) }
+        requires held { Tells (D.state disk.old) → HasMaterials (D.state disk.old) self.old.store }
         ensures answer { GivesAnswer (D.state disk.old) (D.state disk.new) (keys_of self.old)
             (KmsCall.Versions name.now) (all_versions (row_of (keys_of self.old) name.now)) result }
         ensures reads { ReadsOnly (D.state disk.old) (D.state disk.new) self.old self.new }
@@ -122,9 +115,7 @@ impl Service {
     ) -> Result<VersionList, KmsRefusal>
         requires key { HasKey (keys_of self.old) name.now known.now }
         requires pending { Applies self.old.store.table.keys self.old.store.pending }
-        requires stands { Tells (D.state disk.old) →
-            ((commands : List KeyCommand) ×
-            IsKeyStoreOf (D.state disk.old) self.old.store commands) }
+        requires held { Tells (D.state disk.old) → HasMaterials (D.state disk.old) self.old.store }
         ensures answer { GivesAnswer (D.state disk.old) (D.state disk.new) (keys_of self.old)
             (KmsCall.Versions name.now) (all_versions (row_of (keys_of self.old) name.now)) result }
         ensures reads { ReadsOnly (D.state disk.old) (D.state disk.new) self.old self.new }
@@ -150,9 +141,7 @@ impl Service {
         name: &KeyName,
         sent: &RawEdek,
     ) -> Result<Dek, KmsRefusal>
-        requires stands { Tells (D.state disk.old) →
-            ((commands : List KeyCommand) ×
-            IsKeyStoreOf (D.state disk.old) self.old.store commands) }
+        requires held { Tells (D.state disk.old) → HasMaterials (D.state disk.old) self.old.store }
         ensures answer { GivesAnswer (D.state disk.old) (D.state disk.new) (keys_of self.old)
             (KmsCall.Decrypt name.now sent.now) (unsealed_dek (keys_of self.old) sent.now) result }
         ensures reads { ReadsOnly (D.state disk.old) (D.state disk.new) self.old self.new }
@@ -173,9 +162,7 @@ impl Service {
         name: &KeyName,
         sent: &RawEdek,
     ) -> Result<Edek, KmsRefusal>
-        requires stands { Tells (D.state disk.old) →
-            ((commands : List KeyCommand) ×
-            IsKeyStoreOf (D.state disk.old) self.old.store commands) }
+        requires held { Tells (D.state disk.old) → HasMaterials (D.state disk.old) self.old.store }
         ensures answer { GivesAnswer (D.state disk.old) (D.state disk.new) (keys_of self.old)
             (KmsCall.Reencrypt name.now sent.now) (resealed (keys_of self.old) name.now sent.now)
             result }
@@ -213,9 +200,7 @@ impl Service {
         name: &KeyName,
         sent: &[RawEdek],
     ) -> Result<EdekList, KmsRefusal>
-        requires stands { Tells (D.state disk.old) →
-            ((commands : List KeyCommand) ×
-            IsKeyStoreOf (D.state disk.old) self.old.store commands) }
+        requires held { Tells (D.state disk.old) → HasMaterials (D.state disk.old) self.old.store }
         ensures answer { GivesAnswer (D.state disk.old) (D.state disk.new) (keys_of self.old)
             (KmsCall.Batch name.now sent.now) (map (resealed (keys_of self.old) name.now) sent.now)
             result }

@@ -5,7 +5,7 @@ ghost use Rattle.std.specs.Option.{option_copied};
 ghost use Rattle.hk_base.specs.Disk.{Tells};
 ghost use Rattle.key_rows.specs.declared.rows.KeyCommand.{KeyCommand};
 ghost use Rattle.key_rows.specs.Table.{find_birth, is_length, material_of};
-ghost use Rattle.kms_store.specs.Store.{IsKeyStoreOf, IsRowOf, OpensKeys};
+ghost use Rattle.kms_store.specs.Store.{HasMaterials, IsKeyStoreOf, IsRowOf, OpensKeys};
 ghost use Rattle.kms_core.specs.State.{IsService, keys_of, service_of};
 ghost use Rattle.kms_core.specs.Calls.{all_versions, create_causes, created, current_material, current_version, deleted, first_cause, is_absent, is_full, is_misfit, meta_of, metas_of, unsealed_dek, resealed, rolled, row_of, version_with_material};
 ghost use Rattle.kms_core.specs.Order.{names_in_order};
@@ -161,6 +161,7 @@ impl Service {
         ensures { KmsActsOnDisk (D.state disk.old) (D.state disk.new) self.old (W.to_come words.old)
             now call result self.new (W.to_come words.new) }
     {
+        let _ = self.count(); // says that the log is on file 0
         match call {
             KmsCall::Create {
                 name,
@@ -586,9 +587,7 @@ impl Service {
     }
 
     fn versions<D: Disk>(&mut self, disk: &mut D, name: KeyName) -> KmsReply
-        requires stands { Tells (D.state disk.old) →
-            ((commands : List KeyCommand) ×
-            IsKeyStoreOf (D.state disk.old) self.old.store commands) }
+        requires held { Tells (D.state disk.old) → HasMaterials (D.state disk.old) self.old.store }
         ensures { (words : ℕ → ℕ) (now : ℕ) →
             KmsActsOnDisk (D.state disk.old) (D.state disk.new) self.old words now
             (KmsCall.Versions name) result self.new words }
@@ -600,9 +599,7 @@ impl Service {
     }
 
     fn version<D: Disk>(&mut self, disk: &mut D, version: VersionName) -> KmsReply
-        requires stands { Tells (D.state disk.old) →
-            ((commands : List KeyCommand) ×
-            IsKeyStoreOf (D.state disk.old) self.old.store commands) }
+        requires held { Tells (D.state disk.old) → HasMaterials (D.state disk.old) self.old.store }
         ensures { (words : ℕ → ℕ) (now : ℕ) →
             KmsActsOnDisk (D.state disk.old) (D.state disk.new) self.old words now
             (KmsCall.Version version) result self.new words }
@@ -729,9 +726,7 @@ impl Service {
     }
 
     fn decrypt<D: Disk>(&mut self, disk: &mut D, name: KeyName, sent: RawEdek) -> KmsReply
-        requires stands { Tells (D.state disk.old) →
-            ((commands : List KeyCommand) ×
-            IsKeyStoreOf (D.state disk.old) self.old.store commands) }
+        requires held { Tells (D.state disk.old) → HasMaterials (D.state disk.old) self.old.store }
         ensures { (words : ℕ → ℕ) (now : ℕ) →
             KmsActsOnDisk (D.state disk.old) (D.state disk.new) self.old words now
             (KmsCall.Decrypt name sent) result self.new words }
@@ -743,9 +738,7 @@ impl Service {
     }
 
     fn reencrypt<D: Disk>(&mut self, disk: &mut D, name: KeyName, sent: RawEdek) -> KmsReply
-        requires stands { Tells (D.state disk.old) →
-            ((commands : List KeyCommand) ×
-            IsKeyStoreOf (D.state disk.old) self.old.store commands) }
+        requires held { Tells (D.state disk.old) → HasMaterials (D.state disk.old) self.old.store }
         ensures { (words : ℕ → ℕ) (now : ℕ) →
             KmsActsOnDisk (D.state disk.old) (D.state disk.new) self.old words now
             (KmsCall.Reencrypt name sent) result self.new words }
@@ -757,9 +750,7 @@ impl Service {
     }
 
     fn batch<D: Disk>(&mut self, disk: &mut D, name: KeyName, sent: RawEdekList) -> KmsReply
-        requires stands { Tells (D.state disk.old) →
-            ((commands : List KeyCommand) ×
-            IsKeyStoreOf (D.state disk.old) self.old.store commands) }
+        requires held { Tells (D.state disk.old) → HasMaterials (D.state disk.old) self.old.store }
         ensures { (words : ℕ → ℕ) (now : ℕ) →
             KmsActsOnDisk (D.state disk.old) (D.state disk.new) self.old words now
             (KmsCall.Batch name sent) result self.new words }

@@ -1,10 +1,21 @@
 -- Reading materials, several times.
-use Rattle.std.proofs.Common.{◌≡◌, List, [], Option, arith, refl, sym, ◌∙◌, subst}
+use Rattle.std.proofs.Common.{◌≡◌, List, [], Option, option_map, arith, refl, sym, ◌∙◌, subst}
 use Rattle.std.specs.Prelude.{IsTrue}
 use Rattle.hk_base.specs.Disk.{DiskState, LeavesOnly, RunOn, Tells}
-use Rattle.hk_base.proofs.Runs.{Going, begin, compose}
+use Rattle.hk_base.proofs.Runs.{Going, begin, both_read, compose}
 use Rattle.key_rows.specs.declared.rows.KeyCommand.{KeyCommand}
-use Rattle.kms_store.specs.Store.{IsLogOf, ReadsMaterials, StoreState}
+use Rattle.key_rows.specs.Records.{spelling}
+use Rattle.key_index.proofs.LogLemmas.{on_disk}
+use Rattle.kms_store.specs.Store.{HasMaterials, IsKeyStoreOf, IsLogOf, ReadsMaterials, StoreState}
+
+-- the disk of a store has the older materials
+pub has_materials : (d : DiskState) (store : StoreState) (commands : List KeyCommand) → store.log.file ≡ 0 → IsKeyStoreOf d store commands → HasMaterials d store
+has_materials d store commands file s = record {
+  older = s.materials.older;
+  stands = s.materials.stands;
+  held = on_disk d store.log (option_map spelling store.pending) s.materials.older commands store.index s.log file s.materials.held;
+  cached = s.materials.cached;
+}
 
 pub reads-none : (d : DiskState) (store : StoreState) → ReadsMaterials d d store store
 reads-none d store = record {
@@ -12,6 +23,9 @@ reads-none d store = record {
   kept = λ telling commands s. s;
   moments = λ telling commands s. (begin 0 d (IsLogOf commands store.pending)).moments;
   run = (begin 0 d (IsLogOf [] store.pending)).run;
+  held = λ telling s. s;
+  reads = record { reads = λ telling. refl; leaves = λ c left. left };
+  leaves = (begin 0 d (d.leaves 0)).moments;
 }
 
 tells-then : {old mid : DiskState} → RunOn 0 old mid → Tells old → Tells mid
@@ -23,8 +37,14 @@ reads-then {a} {b} {c} {s} {t} {u} one two = record {
   kept = λ telling commands holds. two.kept (tells-then one.run telling) commands (one.kept telling commands holds);
   moments = λ telling commands holds. (both commands (one.moments telling commands holds) (two.moments (tells-then one.run telling) commands (one.kept telling commands holds))).moments;
   run = run;
+  held = λ telling s. two.held (tells-then one.run telling) (one.held telling s);
+  reads = both_read first one.reads two.reads;
+  leaves = (compose first (record { run = two.run; moments = two.leaves }) (λ c left. one.reads.leaves c left)).moments;
 }
   where
+    first : Going 0 a b (a.leaves 0)
+    first = record { run = one.run; moments = one.leaves }
+
     waits : t.pending ≡ s.pending
     waits = λ i. (one.same i).pending
 

@@ -10,7 +10,6 @@ use Rattle.hk_base.specs.declared.names.Dek.{Dek}
 use Rattle.hk_base.specs.declared.names.VersionName.{VersionName}
 use Rattle.frame_log.proofs.Layers.{still_stands}
 use Rattle.key_rows.proofs.Births.{found_has}
-use Rattle.key_rows.specs.declared.rows.KeyCommand.{KeyCommand}
 use Rattle.key_rows.specs.declared.rows.KeyRow.{KeyRow}
 use Rattle.key_rows.specs.Records.{spelling}
 use Rattle.key_rows.specs.Sound.{IsRow}
@@ -27,7 +26,7 @@ use Rattle.key_index.proofs.LogLemmas.{on_disk}
 use Rattle.key_index.proofs.Lookups.{held_place}
 use Rattle.key_index.proofs.Searches.{named_in}
 use Rattle.key_index.proofs.Standing.{length-older, versions_of}
-use Rattle.kms_store.specs.Store.{IsKeyStoreOf, IsRowOf, ReadsMaterials, StandsFor, StoreState, is_older}
+use Rattle.kms_store.specs.Store.{HasMaterials, IsRowOf, ReadsMaterials, StandsFor, StoreState, is_older}
 use Rattle.kms_store.proofs.Layers.{log_of_store}
 use Rattle.kms_store.proofs.RowLemmas.{last_is}
 
@@ -121,40 +120,37 @@ pub record Asked (store : StoreState) (version : VersionName) (birth : ℕ) (row
   pub sound : IsSoundIndex store.index
   pub file : store.log.file ≡ 0
 
-module _ (d : DiskState) (store : StoreState) (version : VersionName) (birth : ℕ) (row : IndexRow) (place : ℕ) (a : Asked store version birth row place) (commands : List KeyCommand) (s : IsKeyStoreOf d store commands) where
+module _ (d : DiskState) (store : StoreState) (version : VersionName) (birth : ℕ) (row : IndexRow) (place : ℕ) (a : Asked store version birth row place) (s : HasMaterials d store) where
   less : version.number + 1 < length a.of.key.materials
   less = older_less store.table.keys version a.of.key a.of.is a.older
 
   born : a.of.key.birth ≡ birth
   born = subst (λ (o : Option KeyRow). IfSome o (λ key. key.birth ≡ birth)) a.of.is a.born
 
-  stands : StandsFor s.materials.older store.index store.table.keys
-  stands = s.materials.stands
+  stands : StandsFor s.older store.index store.table.keys
+  stands = s.stands
 
   -- the table has the material that the log and the cache have
-  pub table_has : material_of store.table.keys.rows version ≡ Some (s.materials.older birth version.number)
-  table_has = older_material s.materials.older store.index store.table.keys version a.of.key a.sound stands a.of.is less ∙ ap (λ (b : ℕ). Some (s.materials.older b version.number)) born
+  pub table_has : material_of store.table.keys.rows version ≡ Some (s.older birth version.number)
+  table_has = older_material s.older store.index store.table.keys version a.of.key a.sound stands a.of.is less ∙ ap (λ (b : ℕ). Some (s.older b version.number)) born
 
   pub older_key : IsOlder store.index (record { birth = birth; number = version.number })
-  older_key = subst (λ (b : ℕ). IsOlder store.index (record { birth = b; number = version.number })) born (is_older_key s.materials.older store.index store.table.keys version a.of.key a.sound stands a.of.is place a.placed)
+  older_key = subst (λ (b : ℕ). IsOlder store.index (record { birth = b; number = version.number })) born (is_older_key s.older store.index store.table.keys version a.of.key a.sound stands a.of.is place a.placed)
 
-  held : AreHeld s.materials.older (d.reads 0) store.index
-  held = on_disk d store.log (option_map spelling store.pending) s.materials.older commands store.index s.log a.file s.materials.held
-
-  pub file_has : piece place (row.bits / 8) (d.reads 0) ≡ s.materials.older birth version.number
+  pub file_has : piece place (row.bits / 8) (d.reads 0) ≡ s.older birth version.number
   file_has =
       ap (λ (n : ℕ). piece place (n / 8) (d.reads 0)) a.of.shows.bits
-      ∙ piece_is s.materials.older store.index store.table.keys version a.of.key a.sound stands a.of.is place (d.reads 0) a.placed held a.of.rules less
-      ∙ ap (λ (b : ℕ). s.materials.older b version.number) born
+      ∙ piece_is s.older store.index store.table.keys version a.of.key a.sound stands a.of.is place (d.reads 0) a.placed s.held a.of.rules less
+      ∙ ap (λ (b : ℕ). s.older b version.number) born
 
   pub file_within : place + row.bits / 8 ≤ length (d.reads 0)
   file_within =
       subst (λ (n : ℕ). place + n / 8 ≤ length (d.reads 0)) (sym a.of.shows.bits)
-      (piece_within s.materials.older store.index store.table.keys version a.of.key a.sound stands a.of.is place (d.reads 0) a.placed held a.of.rules less (some_bytes a.of.key.bits a.of.rules.bits))
+      (piece_within s.older store.index store.table.keys version a.of.key a.sound stands a.of.is place (d.reads 0) a.placed s.held a.of.rules less (some_bytes a.of.key.bits a.of.rules.bits))
 
 -- materials that were read change at most the cache
 pub reads_with : (old new : DiskState) (store : StoreState) (cache : List (MaterialKey × Dek)) → store.log.file ≡ 0 → Reads 0 old new → RunOn 0 old new → LeavesOnly 0 old new (old.leaves 0)
-    → (Tells old → (commands : List KeyCommand) (s : IsKeyStoreOf old store commands) → AreCached s.materials.older store.index cache) → ReadsMaterials old new store (record store { cache = cache })
+    → (Tells old → (s : HasMaterials old store) → AreCached s.older store.index cache) → ReadsMaterials old new store (record store { cache = cache })
 reads_with old new store cache file same run moments cached = record {
   same = refl;
   kept = λ tells commands s. record {
@@ -162,38 +158,40 @@ reads_with old new store cache file same run moments cached = record {
     makes = s.makes;
     waits = s.waits;
     log = still_stands 0 old new store.log (map spelling commands) (option_map spelling store.pending) same file tells s.log;
-    materials = record { older = s.materials.older; stands = s.materials.stands; held = s.materials.held; cached = cached tells commands s };
+    materials = record { older = s.materials.older; stands = s.materials.stands; held = s.materials.held; cached = cached tells (record { older = s.materials.older; stands = s.materials.stands; held = on_disk old store.log (option_map spelling store.pending) s.materials.older commands store.index s.log file s.materials.held; cached = s.materials.cached }) };
   };
   moments = λ tells commands s.
       weaker (λ c left. log_of_store old store commands file s c (s.log.leaves c (subst (λ (k : ℕ). old.leaves k c) (sym file) left))) moments;
   run = run;
+  held = λ tells s. record { older = s.older; stands = s.stands; held = subst (λ (bytes : List ℕ). AreHeld s.older bytes store.index) (sym (same.reads tells)) s.held; cached = cached tells s };
+  reads = same;
+  leaves = moments;
 }
 
 -- The same of the store as its clauses see it. `before` is its view while its fields are used.
 module _ (d : DiskState) (before now : StoreState) (view : before ≡ now) (version : VersionName) (birth : ℕ) (row : IndexRow) (place : ℕ) (a : Asked before version birth row place) where
-  seen : (commands : List KeyCommand) → IsKeyStoreOf d now commands → IsKeyStoreOf d before commands
-  seen commands = subst (λ (x : StoreState). IsKeyStoreOf d x commands) (sym view)
+  seen : HasMaterials d now → HasMaterials d before
+  seen = subst (λ (x : StoreState). HasMaterials d x) (sym view)
 
-  pub given_by : (material : Dek) → (IsTrue (is_older now.table.keys version) → Tells d) → (Tells d → (commands : List KeyCommand) × IsKeyStoreOf d now commands)
-      → (Tells d → (commands : List KeyCommand) (s : IsKeyStoreOf d before commands) → material ≡ s.materials.older birth version.number) → material_of now.table.keys.rows version ≡ Some material
-  given_by material tells_if stands same =
+  pub given_by : (material : Dek) → (IsTrue (is_older now.table.keys version) → Tells d) → (Tells d → HasMaterials d now)
+      → (Tells d → (s : HasMaterials d before) → material ≡ s.older birth version.number) → material_of now.table.keys.rows version ≡ Some material
+  given_by material tells_if has same =
       let tells = tells_if (subst (λ (x : StoreState). is_older x.table.keys version ≡ true) view a.older) in
-      let found = stands tells in
-      let s : IsKeyStoreOf d before found.0 = seen found.0 found.1 in
+      let s : HasMaterials d before = seen (has tells) in
       subst (λ (x : StoreState). material_of x.table.keys.rows version ≡ Some material) view
-      (table_has d before version birth row place a found.0 s ∙ ap (λ (k : Dek). Some k) (sym (same tells found.0 s)))
+      (table_has d before version birth row place a s ∙ ap (λ (k : Dek). Some k) (sym (same tells s)))
 
-  pub within_by : (Tells d → (commands : List KeyCommand) × IsKeyStoreOf d now commands) → Tells d → place + row.bits / 8 ≤ length (d.reads 0)
-  within_by stands tells = let found = stands tells in file_within d before version birth row place a found.0 (seen found.0 found.1)
+  pub within_by : (Tells d → HasMaterials d now) → Tells d → place + row.bits / 8 ≤ length (d.reads 0)
+  within_by has tells = file_within d before version birth row place a (seen (has tells))
 
 pub reads_by : (old new : DiskState) (before now : StoreState) (cache : List (MaterialKey × Dek)) → before ≡ now → before.log.file ≡ 0 → Reads 0 old new → RunOn 0 old new → LeavesOnly 0 old new (old.leaves 0)
-    → (Tells old → (commands : List KeyCommand) (s : IsKeyStoreOf old before commands) → AreCached s.materials.older before.index cache) → ReadsMaterials old new now (record before { cache = cache })
+    → (Tells old → (s : HasMaterials old before) → AreCached s.older before.index cache) → ReadsMaterials old new now (record before { cache = cache })
 reads_by old new before now cache view file same run moments cached =
     subst (λ (x : StoreState). ReadsMaterials old new x (record before { cache = cache })) view (reads_with old new before cache file same run moments cached)
 
 -- nothing was read
 pub reads_by_none : (d : DiskState) (before now : StoreState) (cache : List (MaterialKey × Dek)) → before ≡ now → before.log.file ≡ 0
-    → (Tells d → (commands : List KeyCommand) (s : IsKeyStoreOf d before commands) → AreCached s.materials.older before.index cache) → ReadsMaterials d d now (record before { cache = cache })
+    → (Tells d → (s : HasMaterials d before) → AreCached s.older before.index cache) → ReadsMaterials d d now (record before { cache = cache })
 reads_by_none d before now cache view file cached =
     let still = begin 0 d (d.leaves 0) in
     reads_by d d before now cache view file (record { reads = λ tells. refl; leaves = λ c left. left }) still.run still.moments cached

@@ -1,7 +1,7 @@
 -- A store over a key log, and the commands that it holds.
 use Rattle.std.specs.Prelude.{◌≡◌, ℕ, ◌-◌, Bool, List, [], ◌∷◌, ◌++◌, length, map, Option, Some, None, option_map, IfSome, slice_get}
 use Rattle.std.specs.List.{AllByRecursion}
-use Rattle.hk_base.specs.Disk.{DiskState, LeavesOnly, RunOn, Tells}
+use Rattle.hk_base.specs.Disk.{DiskState, LeavesOnly, Reads, RunOn, Tells}
 use Rattle.frame_log.specs.Opens.{OpensLog}
 use Rattle.frame_log.specs.Stands.{Stands}
 use Rattle.frame_log.specs.declared.fault.StartFault.{StartFault}
@@ -156,12 +156,16 @@ OpensKeys = OpensLog 0 IsDamagedAt SpentKeys IsLeftByStart
 abbrev pub IsLogOf : List KeyCommand → Option KeyCommand → List ℕ → Type 0
 IsLogOf = kinds.IsLogOf key_kind
 
--- Materials were read, and at most the cache has changed. A crash at any moment of it leaves the log as it is.
+-- Materials were read, and at most the cache has changed. A crash at any moment of it leaves the log as it is. `held`, `reads` and
+-- `leaves` say the same where the log that stands is another instance's.
 pub record ReadsMaterials (old new : DiskState) (store store' : StoreState) : Type 0 where
   pub same : store' ≡ record store { cache = store'.cache }
   pub kept : Tells old → (commands : List KeyCommand) → IsKeyStoreOf old store commands → IsKeyStoreOf new store' commands
   pub moments : Tells old → (commands : List KeyCommand) → IsKeyStoreOf old store commands → LeavesOnly 0 old new (IsLogOf commands store.pending)
   pub run : RunOn 0 old new
+  pub held : Tells old → HasMaterials old store → HasMaterials new store'
+  pub reads : Reads 0 old new
+  pub leaves : LeavesOnly 0 old new (old.leaves 0)
 
 abbrev pub Applies : Table → Option KeyCommand → Type 0
 Applies = kinds.Applies key_kind

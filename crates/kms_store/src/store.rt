@@ -61,7 +61,7 @@ impl Store {
     ghost use Rattle.key_rows.specs.declared.rows.KeyCommand.{KeyCommand};
     ghost use Rattle.kms_store.specs.Keys.{store_of};
     ghost use Rattle.kms_store.specs.Replay.{HasRoomForBirths};
-    ghost use Rattle.kms_store.specs.Store.{Applies, DropsUnlessGateSet, IsKeyStoreOf, IsRowOf, IsWithOrWithout, IsWritten, IsKeyLog, KeepsIfGateSet, OpensKeys, ReadsMaterials, SettlesKeys, is_older, next_opening};
+    ghost use Rattle.kms_store.specs.Store.{Applies, DropsUnlessGateSet, HasMaterials, IsKeyStoreOf, IsRowOf, IsWithOrWithout, IsWritten, IsKeyLog, KeepsIfGateSet, OpensKeys, ReadsMaterials, SettlesKeys, is_older, next_opening};
 
     /// Opens the key log of a disk, builds the table from its commands, and commits the record of a
     /// new opening. A crash may stop it at any moment; a later start then works as usual. At most
@@ -272,8 +272,7 @@ impl Store {
         requires exists { IsSome (material_of self.old.table.keys.rows version.now) }
         requires birth { IfSome (find_name self.old.table.keys.rows version.now.key)
             (λ key. key.birth ≡ birth) }
-        requires stands { Tells (D.state disk.old) →
-            ((commands : List KeyCommand) × IsKeyStoreOf (D.state disk.old) self.old commands) }
+        requires held { Tells (D.state disk.old) → HasMaterials (D.state disk.old) self.old }
 
         ensures given { IfOk result
             (λ material. (IsTrue (is_older self.old.table.keys version.now) →

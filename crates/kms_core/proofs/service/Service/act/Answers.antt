@@ -1,4 +1,5 @@
 use Rattle.std.proofs.Common.{refl}
+use Rattle.kms_store.proofs.MaterialReads.{has_materials}
 use Rattle.kms_core.proofs.ServiceLemmas.{acts_working}
 use Rattle.kms_core.proofs.ReadLemmas.{acts_answering}
 use Rattle.kms_core.proofs.service.Service.act.Goals as goal
@@ -38,3 +39,18 @@ returns-in-Generate g c = rw c.in-Generate.is (acts_working (g.D.Disk.state c.ar
 
 pub returns-in-Delete : goal.returns-in-Delete
 returns-in-Delete g c = rw c.in-Delete.is (c.delete.ensures (g.W.Words.to_come c.args.words.now) c.args.now)
+
+pub versions-requires : goal.versions-requires
+versions-requires g c = record { held = λ telling. let s = c.requires.stands telling in has_materials (g.D.Disk.state c.args.disk.now) c.args.self.now.store s.0 c.count.ensures.file s.1 }
+
+pub version-requires : goal.version-requires
+version-requires g c = record { held = λ telling. let s = c.requires.stands telling in has_materials (g.D.Disk.state c.args.disk.now) c.args.self.now.store s.0 c.count.ensures.file s.1 }
+
+pub decrypt-requires : goal.decrypt-requires
+decrypt-requires g c = record { held = λ telling. let s = c.requires.stands telling in has_materials (g.D.Disk.state c.args.disk.now) c.args.self.now.store s.0 c.count.ensures.file s.1 }
+
+pub reencrypt-requires : goal.reencrypt-requires
+reencrypt-requires g c = record { held = λ telling. let s = c.requires.stands telling in has_materials (g.D.Disk.state c.args.disk.now) c.args.self.now.store s.0 c.count.ensures.file s.1 }
+
+pub batch-requires : goal.batch-requires
+batch-requires g c = record { held = λ telling. let s = c.requires.stands telling in has_materials (g.D.Disk.state c.args.disk.now) c.args.self.now.store s.0 c.count.ensures.file s.1 }
