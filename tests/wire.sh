@@ -47,52 +47,52 @@ responds() {
 }
 
 # Heads.
-accepts '\r\nGET / HTTP/1.1\r\n\r\n'
-accepts 'GET / HTTP/1.1\n\n'
+accepts '\r\nGET /x HTTP/1.1\r\n\r\n'
+accepts 'GET /x HTTP/1.1\n\n'
 accepts 'GET /\xc3\xa4 HTTP/1.1\r\n\n'
 refuses 'x\r\n\r\n' '400 BadHead'
 refuses '\r\n\r\n' '400 BadHead'
-refuses '\n\nGET / HTTP/1.1\n\n' '400 BadHead'
-refuses 'GET / HTTP/1.2\r\n\r\n' '400 BadHead'
+refuses '\n\nGET /x HTTP/1.1\n\n' '400 BadHead'
+refuses 'GET /x HTTP/1.2\r\n\r\n' '400 BadHead'
 refuses 'GET /\xff HTTP/1.1\r\n\r\n' '400 BadHead'
-refuses 'GET / HTTP/1.1\r\nHost : a\r\n\r\n' '400 BadHead'
-refuses 'GET / HTTP/1.1\r\na: b\r\n c\r\n\r\n' '400 BadHead'
+refuses 'GET /x HTTP/1.1\r\nHost : a\r\n\r\n' '400 BadHead'
+refuses 'GET /x HTTP/1.1\r\na: b\r\n c\r\n\r\n' '400 BadHead'
 
 # Lengths of bodies. The bytes after a body are the next request.
-accepts 'POST / HTTP/1.1\r\nHost: a\r\n\r\n'
-accepts 'POST / HTTP/1.1\r\ncontent-length:4\r\n\r\nabcd'
-accepts 'POST / HTTP/1.1\r\nCONTENT-LENGTH: 4 \r\nContent-Length: 4\r\n\r\nabcd'
-accepts 'POST / HTTP/1.1\r\nContent-Length: 4\r\nContent-Length: 004\r\n\r\nabcd'
-accepts 'POST / HTTP/1.1\r\nContent-Length: 0000000000000000003\r\n\r\nabc'
-accepts 'POST / HTTP/1.1\r\nContent-Length: 2\r\nExpect: 100-continue\r\n\r\nab'
+accepts 'POST /x HTTP/1.1\r\nHost: a\r\n\r\n'
+accepts 'POST /x HTTP/1.1\r\ncontent-length:4\r\n\r\nabcd'
+accepts 'POST /x HTTP/1.1\r\nCONTENT-LENGTH: 4 \r\nContent-Length: 4\r\n\r\nabcd'
+accepts 'POST /x HTTP/1.1\r\nContent-Length: 4\r\nContent-Length: 004\r\n\r\nabcd'
+accepts 'POST /x HTTP/1.1\r\nContent-Length: 0000000000000000003\r\n\r\nabc'
+accepts 'POST /x HTTP/1.1\r\nContent-Length: 2\r\nExpect: 100-continue\r\n\r\nab'
 for length in x +4 '' '4, 4' $'4\r\nContent-Length: 5' 00000000000000000003; do
-    refuses "POST / HTTP/1.1\r\nContent-Length: $length\r\n\r\n" '400 BadLength'
+    refuses "POST /x HTTP/1.1\r\nContent-Length: $length\r\n\r\n" '400 BadLength'
 done
-refuses 'POST / HTTP/1.1\r\nContent-Length: 9999999999999999999\r\n\r\n' '413 BodyTooLong'
-refuses 'POST / HTTP/1.1\r\nContent-Length: 4194305\r\n\r\n' '413 BodyTooLong'
+refuses 'POST /x HTTP/1.1\r\nContent-Length: 9999999999999999999\r\n\r\n' '413 BodyTooLong'
+refuses 'POST /x HTTP/1.1\r\nContent-Length: 4194305\r\n\r\n' '413 BodyTooLong'
 for field in 'Transfer-Encoding: chunked' 'TRANSFER-encoding: identity' $'Content-Length: x\r\ntransfer-encoding: chunked' \
     $'Content-Length: 9999999\r\nTransfer-Encoding:'; do
-    refuses "POST / HTTP/1.1\r\n$field\r\n\r\n" '501 Chunked'
+    refuses "POST /x HTTP/1.1\r\n$field\r\n\r\n" '501 Chunked'
 done
-responds 'POST / HTTP/1.1\r\nContent-Length: 4194305\r\n\r\n' '413 Payload Too Large' BodyTooLong
-responds 'POST / HTTP/1.1\r\nTransfer-Encoding: chunked\r\n\r\n' '501 Not Implemented' Chunked
+responds 'POST /x HTTP/1.1\r\nContent-Length: 4194305\r\n\r\n' '413 Payload Too Large' BodyTooLong
+responds 'POST /x HTTP/1.1\r\nTransfer-Encoding: chunked\r\n\r\n' '501 Not Implemented' Chunked
 
 # Ends of the input: between two requests, in a head and in a body.
 ends '' 0
 ends '\n' 3
-ends 'GET / HTTP/1.1\r\n\r' 3
+ends 'GET /x HTTP/1.1\r\n\r' 3
 ends 'GET /kms/v1/keys/names?user.name=a HTTP/1.1\r\n' 3
-ends 'POST / HTTP/1.1\r\nContent-Length: 4194304\r\n\r\nabcdef' 3
-ends 'POST / HTTP/1.1\r\nContent-Length: 7\r\n\r\nabcdef' 3
+ends 'POST /x HTTP/1.1\r\nContent-Length: 4194304\r\n\r\nabcdef' 3
+ends 'POST /x HTTP/1.1\r\nContent-Length: 7\r\n\r\nabcdef' 3
 answered 'no bytes' 0 '' </dev/null
 
 # Requests that keep the connection, and requests that don't.
-accepts 'GET / HTTP/1.1\nConnection: closed\n\n'
-accepts 'GET / HTTP/1.1\nConnections: close\n\n'
-closes 'GET / HTTP/1.0\n\n'
-closes 'GET / HTTP/1.0\nConnection: keep-alive\n\n'
-closes 'GET / HTTP/1.1\nConnection: Close\n\n'
-closes 'GET / HTTP/1.1\nCONNECTION:  close \n\n'
+accepts 'GET /x HTTP/1.1\nConnection: closed\n\n'
+accepts 'GET /x HTTP/1.1\nConnections: close\n\n'
+closes 'GET /x HTTP/1.0\n\n'
+closes 'GET /x HTTP/1.0\nConnection: keep-alive\n\n'
+closes 'GET /x HTTP/1.1\nConnection: Close\n\n'
+closes 'GET /x HTTP/1.1\nCONNECTION:  close \n\n'
 
 # letters COUNT
 letters() {
@@ -101,8 +101,8 @@ letters() {
 
 # head_of SIZE: a head with this many bytes.
 head_of() {
-    printf 'GET / HTTP/1.1\r\nX: '
-    letters $(($1 - 23))
+    printf 'GET /x HTTP/1.1\r\nX: '
+    letters $(($1 - 24))
     printf '\r\n\r\n'
 }
 
@@ -116,7 +116,7 @@ answered '16,384 bytes of a head' 3 '431 HeadTooLong' < <(letters 16384)
 
 # with_fields COUNT: a request with this many fields.
 with_fields() {
-    printf 'GET / HTTP/1.1\r\n'
+    printf 'GET /x HTTP/1.1\r\n'
     for ((field = 0; field < $1; field++)); do printf 'a: b\r\n'; done
     printf '\r\n'
 }
@@ -126,6 +126,6 @@ answered '64 fields' 0 '404 NoRoute 200' < <(with_fields 64; printf '%s' "$names
 answered '65 fields' 3 '400 BadHead' < <(with_fields 65; printf '%s' "$names")
 
 # Bodies have at most 4,194,304 bytes.
-answered 'a body of 4 MiB' 0 '404 NoRoute 200' < <(printf 'POST / HTTP/1.1\nContent-Length: 4194304\n\n'; letters 4194304; printf '%s' "$names")
+answered 'a body of 4 MiB' 0 '404 NoRoute 200' < <(printf 'POST /x HTTP/1.1\nContent-Length: 4194304\n\n'; letters 4194304; printf '%s' "$names")
 
 [ "$failures" -eq 0 ]

@@ -29,7 +29,9 @@ use Rattle.name_history.specs.declared.acts.NameAct.{NameAct}
 use Rattle.name_history.specs.declared.acts.NameAct.TheVariants as act
 use Rattle.name_history.specs.declared.acts.NameActed.{NameActed}
 use Rattle.name_history.specs.declared.acts.NameActed.TheVariants as acted
-use Rattle.hk_serve.specs.Transactions.{OfKeys, OfNames}
+use Rattle.service_health.specs.declared.counts.CallCounts.{CallCounts}
+use Rattle.service_health.specs.declared.pages.Page.{Page}
+use Rattle.hk_serve.specs.Transactions.{OfKeys, OfLook, OfNames}
 use Rattle.cell_desk.specs.Connections.{BothKnown, MakesOrder}
 use Rattle.cell_desk.specs.Finishes.{FinishesAsk}
 use Rattle.cell_desk.specs.Orders.{finish_reply}
@@ -81,6 +83,16 @@ module _ {D W : Type 0} (state : D → DiskState) (to_come : W → ℕ → ℕ) 
     makes_keys = none_made v.keys w.keys legal same;
     makes_names = made_one (NameSteps {D = D} {W = W} state to_come) (NameAllows {S = NameView D W}) v.names w.names (act.Call user c) (acted.Call answer) a;
     takes = (refl, λ i. (a.call_is i, a.reply_is i) ∷ []);
+  }
+
+  -- a look, which calls neither service
+  pub looked : (v : BothKnown D W) (user : Text) (page : Page) (counts : CallCounts) → LegalKeys v.keys → LegalNames v.names → MakesOrder state to_come v user (OfLook page counts) v
+  looked v user page counts legal_keys legal_names = record {
+    keys = [];
+    names = [];
+    makes_keys = no_keys v.keys legal_keys;
+    makes_names = made_none (NameSteps {D = D} {W = W} state to_come) (NameAllows {S = NameView D W}) v.names legal_names;
+    takes = (refl, refl);
   }
 
   -- an ask for which there was no memory

@@ -21,7 +21,7 @@ use Rattle.name_history.specs.Entries.{NameEntry}
 use Rattle.name_history.specs.Served.{Got, IfWanted, act_wanted}
 use Rattle.name_history.specs.declared.acts.NameAct.TheVariants as act
 use Rattle.name_history.specs.declared.acts.NameActed.TheVariants as acted
-use Rattle.hk_serve.specs.Transactions.{OfKeys, OfNames, Transaction}
+use Rattle.hk_serve.specs.Transactions.{OfKeys, OfLook, OfNames, Transaction}
 use Rattle.turns.specs.Entries.{calls_of}
 
 -- calls of the cell of the keys, each with its reply
@@ -77,5 +77,6 @@ module _ {D W : Type 0} where
   abbrev pub TakesCalls : Text → Transaction → KeyCalls → List (NameEntry D W) → Type 0
   TakesCalls user (OfKeys asked answer) keys names = (keys ≡ (key_act.Call user asked, key_acted.Call answer) ∷ []) × (names ≡ [])
   TakesCalls user (OfNames (order.Call asked) answer) keys names = (keys ≡ []) × (calls_of names ≡ (act.Call user asked, acted.Call answer) ∷ [])
+  TakesCalls user (OfLook page counts) keys names = (keys ≡ []) × (names ≡ [])
   TakesCalls user (OfNames (order.Ask asked) answer) keys names =
       NotBegun answer keys names ⊎ (NotAsked user asked answer keys names ⊎ Finished user asked answer keys names)

@@ -6,10 +6,11 @@ ghost use Rattle.cell_desk.specs.Connections.{MakesOrder};
 use crate::asks::{carry_out, prepare};
 use crate::telling::{generates, tell_asked, tell_generated};
 use hk_base::{Gate, Point, Text};
-use hk_serve::Desk;
+use hk_serve::{Desk, changes_keys, changes_names, keys_note, names_note};
 use kms_calls::{KmsCall, KmsReply};
 use name_calls::{Ask, NameCall, NameRefusal, NameReply};
 use name_rest::NameOrder;
+use service_health::{CallCounts, Page};
 use std::alloc::Global;
 use std::marker::Model;
 use std::sync::Wait;
@@ -137,15 +138,30 @@ impl<'a, S: Turns, R: Wait, G: Gate, H: Notices> Desk for CellDesk<'a, S, R, G, 
         // The history that the pass has seen is legal.
         let _ = self.shared.count_names(&self.names);
         let generates = generates(&call);
+        let change = changes_keys(&call);
         let reply = self.shared.call_keys(self.rt, &mut self.keys, user, call);
         tell_generated(self.rt, self.notices, generates, &reply);
+        let at = self.shared.count_keys(&self.keys);
+        self.notices
+            .answered(self.rt, keys_note(change, &reply, at));
         self.gate.pass(self.rt, Point::BeforeReply);
         reply
     }
 
     fn name(&mut self, user: Text, order: NameOrder) -> NameReply {
+        let change = changes_names(&order);
         let reply = self.order(user, order);
+        let at = self.shared.count_names(&self.names);
+        self.notices
+            .answered(self.rt, names_note(change, &reply, at));
         self.gate.pass(self.rt, Point::BeforeReply);
         reply
+    }
+
+    fn look(&mut self, _page: Page) -> CallCounts {
+        // The histories that the passes have seen are legal.
+        let _ = self.shared.count_keys(&self.keys);
+        let _ = self.shared.count_names(&self.names);
+        self.notices.counts(self.rt)
     }
 }

@@ -4,6 +4,7 @@ use crate::updates::Update;
 use crossbeam_channel::{Receiver, SendError, Sender, unbounded};
 use hk_base::NoMemory;
 use name_calls::NPath;
+use service_health::{CallCounts, CallNote};
 use std::alloc::Global;
 use std::sync::{Condvar, Mutex, Wait};
 use std::time::Duration;
@@ -64,7 +65,8 @@ impl<T: Drop> SharedSender<T> {
     }
 }
 
-/// The sending ends of the channels to the workers. Connections and workers send the workers' tasks.
+/// The sending ends of the channels to the workers. Connections and workers send the workers' tasks, and
+/// connections count their calls here.
 #[derive(Drop)]
 pub struct WorkSenders<D, W, K: Drop, N: Drop, S: Turns<D = D, W = W, Keys = K, Names = N>> {
     /// A queue of ready keys may be low.
@@ -77,6 +79,8 @@ pub struct WorkSenders<D, W, K: Drop, N: Drop, S: Turns<D = D, W = W, Keys = K, 
     pub later: SharedSender<Task<D, W, K, N, S>>,
     /// Notified once all channels are closed.
     closed: Condvar,
+    /// The calls that connections were answered.
+    counts: Mutex<CallCounts>,
 }
 
 /// The receiving ends, which the workers share.
@@ -102,6 +106,7 @@ pub fn open_channels<D, W, K: Drop, N: Drop, S: Turns<D = D, W = W, Keys = K, Na
         updates,
         later,
         closed: Condvar::new(),
+        counts: Mutex::new(CallCounts::new()),
     };
     let receivers = WorkReceivers {
         low: lows,
@@ -149,5 +154,14 @@ impl<D, W, K: Drop, N: Drop, S: Turns<D = D, W = W, Keys = K, Names = N>> Notice
     // A zone that can't be sent is left to the last round.
     fn submitted<R: Wait>(&self, rt: &R, zone: NPath) {
         let _ = self.tasks.send(rt, Task::Walk(zone));
+    }
+
+    fn answered<R: Wait>(&self, rt: &R, note: CallNote) {
+        let mut counts = self.counts.lock(rt);
+        *counts = counts.after_call(note);
+    }
+
+    fn counts<R: Wait>(&self, rt: &R) -> CallCounts {
+        *self.counts.lock(rt)
     }
 }

@@ -4,6 +4,7 @@ use Rattle.std.specs.Io.KnownBytes.{Appends}
 use Rattle.hk_base.specs.Writing.{WroteFront}
 use Rattle.http_wire.specs.declared.faults.WireFault.{WireFault}
 use Rattle.http_wire.specs.declared.faults.WireFault.TheVariants as wire
+use Rattle.http_wire.specs.Message.{Message}
 use Rattle.http_wire.specs.Requests.{StopsFor, TakesRequest}
 use Rattle.http_wire.specs.Responses.{response_text}
 use Rattle.hk_base.specs.declared.ended.Ended.{Ended}
@@ -60,16 +61,20 @@ EndsConnection fault written now ended.NoMemory = ((fault ≡ wire.NoMemory) ⊎
 EndsConnection fault written now ended.Closed = ⊥
 EndsConnection fault written now ended.TooLong = ⊥
 
--- how the connection ends after a request, if the requests up to it had this number of bytes: what is written of its
+-- how the connection ends after a request, if the requests up to it had this number of bytes: what is written of this
 -- response, and the end that goes with it
+abbrev pub EndsBy : ℕ → Message → List ℕ → Option (List ℕ) → Option (List ℕ) → Ended → Type 0
+EndsBy bytes request text written now ended.Closed = (request.keep ≡ false) × Appends written now text
+EndsBy bytes request text written now ended.TooLong = (request.keep ≡ true) × ((2 ^ 40 ≤ bytes) × Appends written now text)
+EndsBy bytes request text written now ended.WriteFault = WroteFront written now text
+EndsBy bytes request text written now ended.NoMemory = now ≡ written
+EndsBy bytes request text written now ended.End = ⊥
+EndsBy bytes request text written now ended.Wire = ⊥
+EndsBy bytes request text written now ended.ReadFault = ⊥
+
+-- the same with the response of an exchange
 abbrev pub EndsAfter : ℕ → Exchange → Option (List ℕ) → Option (List ℕ) → Ended → Type 0
-EndsAfter bytes exchange written now ended.Closed = (exchange.request.keep ≡ false) × Appends written now (response_of exchange)
-EndsAfter bytes exchange written now ended.TooLong = (exchange.request.keep ≡ true) × ((2 ^ 40 ≤ bytes) × Appends written now (response_of exchange))
-EndsAfter bytes exchange written now ended.WriteFault = WroteFront written now (response_of exchange)
-EndsAfter bytes exchange written now ended.NoMemory = now ≡ written
-EndsAfter bytes exchange written now ended.End = ⊥
-EndsAfter bytes exchange written now ended.Wire = ⊥
-EndsAfter bytes exchange written now ended.ReadFault = ⊥
+EndsAfter bytes exchange written now how = EndsBy bytes exchange.request (response_of exchange) written now how
 
 -- The connection ended after a last request. `bytes` counts those of the requests before it.
 pub record EndsBehind {D : Type 0} (answers : Answering D) (bytes : ℕ) (old new : Stand D) (how : Ended) : Type 0 where

@@ -10,13 +10,18 @@ use Rattle.name_calls.specs.declared.calls.NameReply.{NameReply}
 use Rattle.name_rest.specs.declared.order.NameOrder.{NameOrder}
 use Rattle.name_rest.specs.declared.order.NameOrder.TheVariants as order
 use Rattle.name_rest.specs.Responses as names
+use Rattle.service_health.specs.declared.counts.CallCounts.{CallCounts}
+use Rattle.service_health.specs.declared.pages.Page.{Page}
+use Rattle.service_health.specs.Pages.{page_status, page_text}
 
--- a call of the key management service and its reply, or an order of the namesystem and its reply
+-- a call of the key management service and its reply; an order of the namesystem and its reply; or a look at both services for a page, and
+-- what was counted
 pub data Transaction : Type 0 where
   OfKeys : (asked : KmsCall) (reply : KmsReply) → Transaction
   OfNames : (asked : NameOrder) (reply : NameReply) → Transaction
+  OfLook : (page : Page) (counts : CallCounts) → Transaction
 
--- how something that answers users may change by a transaction of a user
+-- how something that answers users may change by a transaction of a user. A look has no user: the text is empty
 abbrev pub Answering : Type 0 → Type 1
 Answering D = D → List ℕ → Transaction → D → Type 0
 
@@ -48,8 +53,10 @@ creates_file (order.Call asked) = false
 abbrev pub transaction_status : Transaction → ℕ
 transaction_status (OfKeys asked reply) = reply_status reply (creates asked)
 transaction_status (OfNames asked reply) = names.reply_status reply (creates_file asked)
+transaction_status (OfLook page counts) = page_status page counts
 
 -- the body of that response
 abbrev pub transaction_body : Transaction → List ℕ
 transaction_body (OfKeys asked reply) = reply_text reply
 transaction_body (OfNames asked reply) = names.reply_text reply
+transaction_body (OfLook page counts) = page_text page counts

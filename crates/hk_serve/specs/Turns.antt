@@ -4,14 +4,14 @@ use Rattle.std.specs.Io.KnownBytes.{Appends}
 use Rattle.hk_base.specs.Writing.{WroteFront}
 use Rattle.http_wire.specs.declared.faults.SendFault.{SendFault}
 use Rattle.http_wire.specs.declared.faults.SendFault.TheVariants as send
-use Rattle.http_wire.specs.Message.{Message}
+use Rattle.http_wire.specs.Message.{Message, is_head}
 use Rattle.http_wire.specs.Requests.{TakesRequest}
 use Rattle.http_wire.specs.Responses.{IsStatus}
 use Rattle.http_wire.specs.declared.responses.Response.{Response}
 use Rattle.hk_base.specs.declared.ended.Ended.{Ended}
 use Rattle.hk_base.specs.declared.ended.Ended.TheVariants as ended
-use Rattle.hk_serve.specs.Ends.{Ends, EndsAfter}
-use Rattle.hk_serve.specs.Exchanges.{ComesOf, Exchange, Leaves, RequestOutcome, Stand, body_of, response_of, status_of}
+use Rattle.hk_serve.specs.Ends.{Ends, EndsBy}
+use Rattle.hk_serve.specs.Exchanges.{ComesOf, Exchange, Leaves, RequestOutcome, ServicesSay, Stand, body_of, response_of, sent_text, status_of}
 use Rattle.hk_serve.specs.Transactions.{Answering}
 
 -- The response belongs to an outcome.
@@ -31,10 +31,21 @@ GoesOnAfter request bytes bytes' (Some ended.ReadFault) = ⊥
 GoesOnAfter request bytes bytes' (Some ended.WriteFault) = ⊥
 GoesOnAfter request bytes bytes' (Some ended.NoMemory) = ⊥
 
--- what is written of the response to a request, and whether the connection goes on
+-- what is written of this response to a request, and whether the connection goes on
+abbrev pub SendsSo : Message → List ℕ → ℕ → ℕ → Option (List ℕ) → Option (List ℕ) → Option Ended → Type 0
+SendsSo request text bytes bytes' written now None = GoesOnAfter request bytes bytes' None × Appends written now text
+SendsSo request text bytes bytes' written now (Some how) = EndsBy (bytes + request.size) request text written now how
+
+-- the same with the response of an exchange
 abbrev pub AnswersSo : Exchange → ℕ → ℕ → Option (List ℕ) → Option (List ℕ) → Option Ended → Type 0
-AnswersSo exchange bytes bytes' written now None = GoesOnAfter exchange.request bytes bytes' None × Appends written now (response_of exchange)
-AnswersSo exchange bytes bytes' written now (Some how) = EndsAfter (bytes + exchange.request.size) exchange written now how
+AnswersSo exchange bytes bytes' written now result = SendsSo exchange.request (response_of exchange) bytes bytes' written now result
+
+-- A request that is for the services was answered.
+pub record ServicesAnswered {D : Type 0} (answers : Answering D) (request : Message) (bytes bytes' : ℕ) (desk desk' : D) (written now : Option (List ℕ)) (result : Option Ended) : Type 0 where
+  pub outcome : RequestOutcome
+  pub comes : ServicesSay request outcome
+  pub leaves : Leaves answers desk outcome desk'
+  pub response : SendsSo request (sent_text (is_head request) (status_of outcome) (body_of outcome)) bytes bytes' written now result
 
 -- A request was answered.
 pub record Answered {D : Type 0} (answers : Answering D) (request : Message) (bytes bytes' : ℕ) (desk desk' : D) (written now : Option (List ℕ)) (result : Option Ended) : Type 0 where

@@ -6,12 +6,13 @@ ghost use Rattle.hk_base.specs.Writing.{WroteFront};
 ghost use Rattle.http_wire.specs.Reading.{ahead};
 ghost use Rattle.http_wire.specs.Responses.{IsStatus};
 ghost use Rattle.kms_rest.specs.Requests.{Says};
-ghost use Rattle.hk_serve.specs.Exchanges.{ComesOf, IsForNames, Leaves, RequestOutcome, sent_text};
+ghost use Rattle.hk_serve.specs.Exchanges.{IsForNames, IsForPage, IsForServices, IsGet, Leaves, RequestOutcome, ServicesSay, sent_text};
 ghost use Rattle.hk_serve.specs.Served.{Served};
-ghost use Rattle.hk_serve.specs.Turns.{Answered, Responds, GoesOnAfter, Turns};
+ghost use Rattle.hk_serve.specs.Turns.{Answered, Responds, GoesOnAfter, SendsSo, ServicesAnswered, Turns};
 
 use crate::asks::{ask_keys, ask_names};
 use crate::desk::Desk;
+use crate::pages::{is_get, page_of, send_text};
 use crate::refusals::{ended_by, stop};
 use hk_base::{Ended, NoMemory, Sink, Source};
 use http_wire::{
@@ -19,6 +20,7 @@ use http_wire::{
 };
 use kms_rest::{LazyRouter as KeysRouter, RestFault, respond_fault, to_call_with};
 use name_rest::{LazyRouter as NamesRouter, respond_name_fault, to_name_with};
+use service_health::{Page, method_response, page_response};
 use std::alloc::Global;
 
 /// The number of bytes at which a connection ends: 2^40 in all its requests.
@@ -91,7 +93,7 @@ impl Connection {
     ) -> Result<Response, NoMemory>
         requires { E.ready desk.old }
         ensures comes { (outcome : RequestOutcome) ×
-            (ComesOf request.now outcome ×
+            (ServicesSay request.now outcome ×
             (Leaves E.answers desk.old outcome desk.new × IfOk result (Responds outcome))) }
         ensures ready { E.ready desk.new }
         ensures same { (self.new.buffer ≡ self.old.buffer) × (self.new.bytes ≡ self.old.bytes) }
@@ -112,7 +114,7 @@ impl Connection {
         requires ready { E.ready desk.old }
         requires says { Says request.now (Err fault) }
         ensures comes { (outcome : RequestOutcome) ×
-            (ComesOf request.now outcome ×
+            (ServicesSay request.now outcome ×
             (Leaves E.answers desk.old outcome desk.new × IfOk result (Responds outcome))) }
         ensures ready { E.ready desk.new }
         ensures same { (self.new.buffer ≡ self.old.buffer) × (self.new.bytes ≡ self.old.bytes) }
@@ -132,7 +134,7 @@ impl Connection {
         requires ready { E.ready desk.old }
         requires names { IsForNames request.now }
         ensures comes { (outcome : RequestOutcome) ×
-            (ComesOf request.now outcome ×
+            (ServicesSay request.now outcome ×
             (Leaves E.answers desk.old outcome desk.new × IfOk result (Responds outcome))) }
         ensures ready { E.ready desk.new }
         ensures same { (self.new.buffer ≡ self.old.buffer) × (self.new.bytes ≡ self.old.bytes) }
@@ -159,7 +161,142 @@ impl Connection {
         None
     }
 
+    /// Answers a request for the services. Returns `None` if the connection goes on.
+    fn answer_by_services<K: Sink, E: Desk>(
+        &mut self,
+        request: &Request,
+        sink: &mut K,
+        desk: &mut E,
+    ) -> Option<Ended>
+        requires ready { E.ready desk.old }
+        requires few { self.old.bytes < 2 ^ 40 }
+        ensures answered { ServicesAnswered E.answers request.now self.old.bytes self.new.bytes
+            desk.old desk.new (K.written sink.old) (K.written sink.new) result }
+        ensures ready { E.ready desk.new }
+        ensures same { self.new.buffer ≡ self.old.buffer }
+        ensures later { K.faults sink.old ≤ K.faults sink.new }
+        ensures write_fault { result ≡ Some Ended.WriteFault →
+            Rose (K.faults sink.old) (K.faults sink.new) }
+        ensures no_read_fault { result ≡ Some Ended.ReadFault → ⊥ }
+    {
+        let Ok(response) = self.response_to(request, desk) else {
+            return Some(Ended::NoMemory);
+        };
+        let sent = send(self.alloc, sink, request.is_head(), &response);
+        drop(response);
+        match sent {
+            Ok(()) => self.after(request),
+            Err(fault) => Some(ended_by(fault)),
+        }
+    }
+
+    /// Writes the text of the response to a request. Returns `None` if the connection goes on.
+    fn send_page<K: Sink>(&mut self, request: &Request, sink: &mut K, text: &[u8]) -> Option<Ended>
+        requires few { self.old.bytes < 2 ^ 40 }
+        ensures sends { SendsSo request.now text.now self.old.bytes self.new.bytes
+            (K.written sink.old) (K.written sink.new) result }
+        ensures same { self.new.buffer ≡ self.old.buffer }
+        ensures later { K.faults sink.old ≤ K.faults sink.new }
+        ensures write_fault { result ≡ Some Ended.WriteFault →
+            Rose (K.faults sink.old) (K.faults sink.new) }
+        ensures no_read_fault { result ≡ Some Ended.ReadFault → ⊥ }
+    {
+        match send_text(sink, text) {
+            Ok(()) => self.after(request),
+            Err(fault) => Some(ended_by(fault)),
+        }
+    }
+
+    /// Answers a request for a page by another method than GET, without the desk. Returns `None` if the
+    /// connection goes on.
+    #[tactic(auto, using(crate::proofs::PageLemmas::method_refused))]
+    fn refuse_method<K: Sink, E: Desk>(
+        &mut self,
+        page: Page,
+        request: &Request,
+        sink: &mut K,
+        _desk: &mut E,
+    ) -> Option<Ended>
+        requires page { IsForPage request.now page }
+        requires method { ¬ IsGet request.now }
+        requires ready { E.ready _desk.old }
+        requires few { self.old.bytes < 2 ^ 40 }
+        ensures answered { Answered E.answers request.now self.old.bytes self.new.bytes _desk.old
+            _desk.new (K.written sink.old) (K.written sink.new) result }
+        ensures ready { E.ready _desk.new }
+        ensures same { self.new.buffer ≡ self.old.buffer }
+        ensures later { K.faults sink.old ≤ K.faults sink.new }
+        ensures write_fault { result ≡ Some Ended.WriteFault →
+            Rose (K.faults sink.old) (K.faults sink.new) }
+        ensures no_read_fault { result ≡ Some Ended.ReadFault → ⊥ }
+    {
+        let Ok(text) = method_response(self.alloc, request.is_head()) else {
+            return Some(Ended::NoMemory);
+        };
+        let ended = self.send_page(request, sink, text.as_slice());
+        drop(text);
+        ended
+    }
+
+    /// Answers a request for a page. Returns `None` if the connection goes on.
+    #[tactic(auto, using(crate::proofs::PageLemmas::page_shown))]
+    fn show_page<K: Sink, E: Desk>(
+        &mut self,
+        page: Page,
+        request: &Request,
+        sink: &mut K,
+        desk: &mut E,
+    ) -> Option<Ended>
+        requires page { IsForPage request.now page }
+        requires method { IsGet request.now }
+        requires ready { E.ready desk.old }
+        requires few { self.old.bytes < 2 ^ 40 }
+        ensures answered { Answered E.answers request.now self.old.bytes self.new.bytes desk.old
+            desk.new (K.written sink.old) (K.written sink.new) result }
+        ensures ready { E.ready desk.new }
+        ensures same { self.new.buffer ≡ self.old.buffer }
+        ensures later { K.faults sink.old ≤ K.faults sink.new }
+        ensures write_fault { result ≡ Some Ended.WriteFault →
+            Rose (K.faults sink.old) (K.faults sink.new) }
+        ensures no_read_fault { result ≡ Some Ended.ReadFault → ⊥ }
+    {
+        let counts = desk.look(page);
+        let Ok(text) = page_response(self.alloc, page, &counts) else {
+            return Some(Ended::NoMemory);
+        };
+        let ended = self.send_page(request, sink, text.as_slice());
+        drop(text);
+        ended
+    }
+
+    /// Answers a request for a page by its method. Returns `None` if the connection goes on.
+    fn answer_page<K: Sink, E: Desk>(
+        &mut self,
+        page: Page,
+        request: &Request,
+        sink: &mut K,
+        desk: &mut E,
+    ) -> Option<Ended>
+        requires page { IsForPage request.now page }
+        requires ready { E.ready desk.old }
+        requires few { self.old.bytes < 2 ^ 40 }
+        ensures answered { Answered E.answers request.now self.old.bytes self.new.bytes desk.old
+            desk.new (K.written sink.old) (K.written sink.new) result }
+        ensures ready { E.ready desk.new }
+        ensures same { self.new.buffer ≡ self.old.buffer }
+        ensures later { K.faults sink.old ≤ K.faults sink.new }
+        ensures write_fault { result ≡ Some Ended.WriteFault →
+            Rose (K.faults sink.old) (K.faults sink.new) }
+        ensures no_read_fault { result ≡ Some Ended.ReadFault → ⊥ }
+    {
+        if is_get(request) {
+            return self.show_page(page, request, sink, desk);
+        }
+        self.refuse_method(page, request, sink, desk)
+    }
+
     /// Answers a request. Returns `None` if the connection goes on.
+    #[tactic(auto, using(crate::proofs::PageLemmas::services_answered))]
     fn answer<K: Sink, E: Desk>(
         &mut self,
         request: &Request,
@@ -177,14 +314,9 @@ impl Connection {
             Rose (K.faults sink.old) (K.faults sink.new) }
         ensures no_read_fault { result ≡ Some Ended.ReadFault → ⊥ }
     {
-        let Ok(response) = self.response_to(request, desk) else {
-            return Some(Ended::NoMemory);
-        };
-        let sent = send(self.alloc, sink, request.is_head(), &response);
-        drop(response);
-        match sent {
-            Ok(()) => self.after(request),
-            Err(fault) => Some(ended_by(fault)),
+        match page_of(request) {
+            Some(page) => self.answer_page(page, request, sink, desk),
+            None => self.answer_by_services(request, sink, desk),
         }
     }
 
@@ -262,7 +394,8 @@ impl Connection {
 /// Serves the requests of a connection in order (RFC 9112). It reads a request from the source, passes
 /// its call or order to the desk, and writes the response to the sink before it reads the next request.
 /// A request with the method HEAD gets the head of its response alone (RFC 9110).
-/// The desk gets no others. A request is one of the namesystem if the key management service has no
+/// The desk gets no others, but it is asked to look at both services for a GET of `/`, `/health` or
+/// `/metrics`. Another method is answered there by 405. A request is one of the namesystem if the key management service has no
 /// route with its path. A request that is neither a call nor an order is answered without the desk. If
 /// there is no memory to read it, the answer is K13 or N22 with status 503.
 ///

@@ -1,13 +1,14 @@
 //! The services of a connection.
-ghost use Rattle.std.specs.Prelude.{ℕ, List};
+ghost use Rattle.std.specs.Prelude.{[], ℕ, List};
 ghost use Rattle.kms_calls.specs.declared.calls.KmsReply.{KmsReply};
 ghost use Rattle.name_calls.specs.declared.calls.NameReply.{NameReply};
-ghost use Rattle.hk_serve.specs.Transactions.{OfKeys, OfNames, Transaction};
+ghost use Rattle.hk_serve.specs.Transactions.{OfKeys, OfLook, OfNames, Transaction};
 
 use hk_base::Text;
 use kms_calls::{KmsCall, KmsReply};
 use name_calls::NameReply;
 use name_rest::NameOrder;
+use service_health::{CallCounts, Page};
 
 /// Answers the calls and the orders of a connection.
 pub trait Desk {
@@ -27,5 +28,11 @@ pub trait Desk {
     fn name(&mut self, user: Text, order: NameOrder) -> NameReply
         requires { ready self.old }
         ensures answers { answers self.old user (OfNames order result) self.new }
+        ensures ready { ready self.new };
+
+    /// Looks at both services for a page, and returns what it counted. Neither service is called.
+    fn look(&mut self, page: Page) -> CallCounts
+        requires { ready self.old }
+        ensures answers { answers self.old [] (OfLook page result) self.new }
         ensures ready { ready self.new };
 }

@@ -6,9 +6,12 @@ mod asks;
 mod connection;
 mod desk;
 mod laws;
+mod notes;
+mod pages;
 mod refusals;
 
 pub use connection::serve_conn;
 pub use desk::Desk;
 pub use hk_base::Ended;
 pub use laws::connections_are_those_of_the_bytes;
+pub use notes::{changes_keys, changes_names, keys_note, names_note};

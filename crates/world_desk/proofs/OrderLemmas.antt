@@ -11,7 +11,9 @@ use Rattle.name_calls.specs.declared.calls.NameRefusal.{NameRefusal}
 use Rattle.name_calls.specs.declared.calls.NameReply.{NameReply}
 use Rattle.name_calls.specs.declared.paths.NPath.{NPath}
 use Rattle.name_rest.specs.declared.order.NameOrder.{NameOrder}
-use Rattle.hk_serve.specs.Transactions.{OfKeys, OfNames}
+use Rattle.hk_serve.specs.Transactions.{OfKeys, OfLook, OfNames}
+use Rattle.service_health.specs.declared.counts.CallCounts.{CallCounts}
+use Rattle.service_health.specs.declared.pages.Page.{Page}
 use Rattle.kms_acls.specs.Agreement.{AreListsOf}
 use Rattle.kms_calls.specs.declared.calls.KmsCall.{KmsCall}
 use Rattle.kms_calls.specs.declared.calls.KmsReply.{KmsReply}
@@ -240,4 +242,11 @@ happens_call state to_come now a user asked answer given b leads is = record {
     is_order = ap (λ (l : Line). (event.Kms user asked, l) ∷ []) is;
     drives_on = refl;
   };
+}
+
+-- a look is no event
+pub happens_look : {D W : Type 0} (state : D → DiskState) (to_come : W → ℕ → ℕ) (a : Standing D W) (user : List ℕ) (page : Page) (counts : CallCounts) → HappensAtDesk state to_come a user (OfLook page counts) a
+happens_look state to_come a user page counts = record {
+  now = 0;
+  passes = λ lines lists. record { course = []; leads_on = tt; is_order = refl; drives_on = refl };
 }

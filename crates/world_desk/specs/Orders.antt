@@ -5,7 +5,7 @@ use Rattle.hk_events.specs.declared.event.Event.{Event}
 use Rattle.hk_events.specs.declared.event.Event.TheVariants as event
 use Rattle.hk_events.specs.declared.event.Line.{Line}
 use Rattle.hk_events.specs.declared.event.Line.TheVariants as line
-use Rattle.hk_serve.specs.Transactions.{OfKeys, OfNames, Transaction}
+use Rattle.hk_serve.specs.Transactions.{OfKeys, OfLook, OfNames, Transaction}
 use Rattle.name_calls.specs.declared.calls.Ask.{Ask}
 use Rattle.name_calls.specs.declared.calls.Ask.TheVariants as ask
 use Rattle.name_calls.specs.declared.calls.NameCall.{NameCall}
@@ -108,10 +108,11 @@ pub record IsOrderFrom (first : Event) (given : NameReply) (events : List Answer
   pub none_follows : NoneFollows events
   pub reply_is : given ≡ reply_after events
 
--- These events are those of a transaction. A call of the key management service is one event.
+-- These events are those of a transaction. A call of the key management service is one event, and a look is none.
 abbrev pub IsOrder : Text → Transaction → List AnsweredEvent → Type 0
 IsOrder user (OfKeys asked given) events = events ≡ (event.Kms user asked, line.Kms given) ∷ []
 IsOrder user (OfNames asked given) events = IsOrderFrom (first_event user asked) given events
+IsOrder user (OfLook page counts) events = events ≡ []
 
 -- ---- the drive after a submission
 
@@ -123,6 +124,7 @@ submitted_by _ _ = None
 abbrev pub submitted : Transaction → Option NPath
 submitted (OfKeys asked given) = None
 submitted (OfNames asked given) = submitted_by asked given
+submitted (OfLook page counts) = None
 
 -- these events are those of a drive of the zone, if there is one
 abbrev pub IsDrive : Option NPath → List AnsweredEvent → Type 0

@@ -9,10 +9,11 @@ ghost use Rattle.world_desk.specs.Worlds.{HappensAtDesk, HoldsSameDesk, IsDeskRe
 use crate::orders::{answer, answer_order};
 use hk_base::{Clock, Disk, Ended, Sink, Source, Text, Words};
 use hk_events::{Event, Line};
-use hk_serve::{Desk, serve_conn};
+use hk_serve::{Desk, changes_keys, changes_names, keys_note, names_note, serve_conn};
 use kms_calls::{KmsCall, KmsReply};
 use name_calls::NameReply;
 use name_rest::NameOrder;
+use service_health::{CallCounts, Page};
 use std::alloc::Global;
 use world_run::World;
 
@@ -25,6 +26,8 @@ pub struct WorldDesk<'a, D, W, C> {
     disk: &'a mut D,
     words: &'a mut W,
     clock: &'a mut C,
+    /// The calls and orders that it answered.
+    counts: CallCounts,
 }
 
 /// Returns the reply in the answer to a call of the key management service.
@@ -62,6 +65,7 @@ impl<'a, D, W, C> WorldDesk<'a, D, W, C> {
             disk,
             words,
             clock,
+            counts: CallCounts::new(),
         }
     }
 }
@@ -75,15 +79,27 @@ impl<'a, D: Disk, W: Words, C: Clock> Desk for WorldDesk<'a, D, W, C> {
 
     fn kms(&mut self, user: Text, call: KmsCall) -> KmsReply {
         let now = self.clock.now_ms();
+        let change = changes_keys(&call);
         let event = Event::Kms { user, call };
-        reply_in(answer(self.world, self.disk, self.words, now, event))
+        let reply = reply_in(answer(self.world, self.disk, self.words, now, event));
+        let at = self.counts.keys.entries.saturating_add(1);
+        self.counts = self.counts.after_call(keys_note(change, &reply, at));
+        reply
     }
 
     fn name(&mut self, user: Text, order: NameOrder) -> NameReply {
         let now = self.clock.now_ms();
-        answer_order(
+        let change = changes_names(&order);
+        let reply = answer_order(
             self.alloc, self.world, self.disk, self.words, now, user, &order,
-        )
+        );
+        let at = self.counts.names.entries.saturating_add(1);
+        self.counts = self.counts.after_call(names_note(change, &reply, at));
+        reply
+    }
+
+    fn look(&mut self, _page: Page) -> CallCounts {
+        self.counts
     }
 }
 

@@ -1,0 +1,4 @@
+pub mod Counts
+pub mod Pages
+pub mod Responses
+pub mod Texts
