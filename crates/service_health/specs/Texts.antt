@@ -1,5 +1,5 @@
 -- The texts of the pages.
-use Rattle.std.specs.Prelude.{ℕ, Bool, true, false, List, [], ◌++◌, codes}
+use Rattle.std.specs.Prelude.{ℕ, Bool, true, false, List, ◌++◌, codes}
 use Rattle.std.specs.Fmt.{decimal}
 use Rattle.service_health.specs.declared.counts.CallTotals.{CallTotals}
 use Rattle.service_health.specs.declared.counts.CallCounts.{CallCounts}

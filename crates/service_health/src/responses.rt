@@ -1,7 +1,6 @@
 //! The responses with pages.
-ghost use Rattle.std.specs.Prelude.{◌≡◌, ◌++◌, codes, length, IfOk, OnOk};
-ghost use Rattle.std.specs.Fmt.{decimal};
-ghost use Rattle.service_health.specs.Responses.{crlf, field_line, method_body, method_lines, method_response, page_response, status_line, typed_head};
+ghost use Rattle.std.specs.Prelude.{◌≡◌, ◌++◌, codes, IfOk, OnOk};
+ghost use Rattle.service_health.specs.Responses.{crlf, field_line, first_lines, length_field, method_body, method_head, method_lines, method_response, page_response, status_line, typed_head};
 
 use crate::counts::CallCounts;
 use crate::pages::{Page, page_text};
@@ -20,6 +19,7 @@ fn status_line(fails: bool) -> &'static str
     }
 }
 
+#[tactic(auto, unfolding(crate::specs::Responses::crlf))]
 fn append_line_end(out: &mut ByteList) -> Result<(), NoMemory>
     ensures { OnOk result (out.new ≡ out.old ++ crlf) }
 {
@@ -36,9 +36,18 @@ fn append_field(out: &mut ByteList, name: &str, value: &str) -> Result<(), NoMem
     append_line_end(out)
 }
 
+#[tactic(auto, unfolding(crate::specs::Responses::first_lines))]
+fn append_first_lines(out: &mut ByteList, lines: &str, media_type: &str) -> Result<(), NoMemory>
+    ensures { OnOk result (out.new ≡ out.old ++ first_lines lines.now media_type.now) }
+{
+    append(out, lines)?;
+    append_line_end(out)?;
+    append_field(out, "Content-Type", media_type)
+}
+
+#[tactic(auto, unfolding(crate::specs::Responses::length_field))]
 fn append_length(out: &mut ByteList, body: &[u8]) -> Result<(), NoMemory>
-    ensures { OnOk result
-        (out.new ≡ out.old ++ field_line (codes "Content-Length") (decimal (length body.now))) }
+    ensures { OnOk result (out.new ≡ out.old ++ length_field body.now) }
 {
     let mut digits = Buffer::new();
     append_field(out, "Content-Length", digits.format(body.len()))
@@ -53,9 +62,7 @@ fn append_head(
 ) -> Result<(), NoMemory>
     ensures { OnOk result (out.new ≡ out.old ++ typed_head lines.now media_type.now body.now) }
 {
-    append(out, lines)?;
-    append_line_end(out)?;
-    append_field(out, "Content-Type", media_type)?;
+    append_first_lines(out, lines, media_type)?;
     append_length(out, body)?;
     append_line_end(out)
 }
@@ -87,16 +94,23 @@ fn method_lines() -> &'static str
     "HTTP/1.1 405 Method Not Allowed\r\nAllow: GET"
 }
 
+fn append_method_head(out: &mut ByteList) -> Result<(), NoMemory>
+    ensures { OnOk result (out.new ≡ out.old ++ method_head) }
+{
+    let body = method_body().as_bytes();
+    append_head(out, method_lines(), "application/json", body)
+}
+
 /// Returns the whole response to another method than GET at the path of a page, or its head alone for
 /// the method HEAD (RFC 9110).
 pub fn method_response(alloc: Global, head: bool) -> Result<ByteList, NoMemory>
     ensures { IfOk result (λ text. text ≡ method_response head) }
 {
-    let body = method_body().as_bytes();
     let mut text = ByteList::new(alloc);
-    append_head(&mut text, method_lines(), "application/json", body)?;
-    if !head {
-        text.append(body)?;
+    append_method_head(&mut text)?;
+    if head {
+        return Ok(text);
     }
+    append(&mut text, method_body())?;
     Ok(text)
 }
