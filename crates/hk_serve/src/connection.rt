@@ -209,7 +209,6 @@ impl Connection {
 
     /// Answers a request for a page by another method than GET, without the desk. Returns `None` if the
     /// connection goes on.
-    #[tactic(auto, using(crate::proofs::PageLemmas::method_refused))]
     fn refuse_method<K: Sink, E: Desk>(
         &mut self,
         page: Page,
@@ -239,7 +238,6 @@ impl Connection {
     }
 
     /// Answers a request for a page. Returns `None` if the connection goes on.
-    #[tactic(auto, using(crate::proofs::PageLemmas::page_shown))]
     fn show_page<K: Sink, E: Desk>(
         &mut self,
         page: Page,
