@@ -1,15 +1,12 @@
 -- The writes of a later compaction before its gates: the bytes after each, and what they keep of a log.
-use Rattle.std.proofs.Common.{◌≡◌, ◌≢◌, ◌⊎◌, ℕ, ◌+◌, ◌<◌, ◌≤◌, ◌^◌, Bool, true, false, not, List, [], ◌∷◌, ◌++◌, length, take, drop, set, Some, refl, sym, ◌∙◌, ap, subst, arith, append_assoc, length-append, length-drop, take-append-drop, inl, inr}
-use Rattle.std.specs.List.{AllByRecursion}
+use Rattle.std.proofs.Common.{◌≡◌, ℕ, ◌+◌, ◌≤◌, Bool, true, false, not, List, [], ◌∷◌, ◌++◌, length, drop, set, refl, sym, ◌∙◌, ap, subst, arith, append_assoc, length-append, length-drop}
 use Rattle.std.specs.Int.{w64, to_be_bytes}
 use Rattle.std.proofs.lemmas.List.{drop-append-le, drop_at, set_at}
 use Rattle.hk_base.specs.Disk.{Torn, written}
-use Rattle.frame_log.specs.Format.{IsPayload, frames, front}
-use Rattle.frame_log.specs.FormatTwo.{Always, IsOwn, holding, selector_in}
-use Rattle.frame_log.specs.Bases.{Area, IsArea, area_base, area_start, front_on, moved_on}
+use Rattle.frame_log.specs.Format.{frames}
 use Rattle.frame_log.specs.Compacts.{area_bytes, other_at}
-use Rattle.frame_log.proofs.Bases.{always_shut, before_first, before_second, first_at, moved_long, moved_more, second_at, split_first, split_second}
-use Rattle.frame_log.proofs.Turnings.{as_area, file_by, on_area, ordered, tail_of}
+use Rattle.frame_log.proofs.Bases.{before_first, before_second, first_at, moved_long, moved_more, second_at, split_first, split_second}
+use Rattle.frame_log.proofs.Turnings.{file_by, tail_of}
 use Rattle.frame_log.proofs.Writes.{torn_behind, torn_between, written_at}
 
 -- a file by the bytes of its selector that isn't open

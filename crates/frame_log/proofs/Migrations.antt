@@ -1,13 +1,13 @@
 -- The first compaction of a log: the bytes after each of its steps, and what a crash at it may leave.
-use Rattle.std.proofs.Common.{◌≡◌, ◌⊎◌, ℕ, ◌+◌, ◌<◌, ◌≤◌, ◌^◌, List, [], ◌∷◌, ◌++◌, length, drop, set, Bool, false, if◌then◌else◌, Some, None, refl, sym, ◌∙◌, ap, subst, arith, append_assoc, length-append, inl, inr}
+use Rattle.std.proofs.Common.{◌≡◌, ◌⊎◌, ℕ, ◌+◌, ◌<◌, ◌^◌, List, [], ◌∷◌, ◌++◌, length, drop, set, Bool, false, if◌then◌else◌, Some, None, refl, sym, ◌∙◌, ap, subst, arith, append_assoc, length-append, inl, inr}
 use Rattle.std.specs.List.{AllByRecursion}
 use Rattle.std.specs.Int.{w64, to_be_bytes}
-use Rattle.std.proofs.lemmas.List.{append-nil, drop_at, set_at}
+use Rattle.std.proofs.lemmas.List.{drop_at, set_at}
 use Rattle.hk_base.specs.Disk.{DiskState, LeavesOnly, Only, RunOn, Torn, written}
 use Rattle.hk_base.proofs.Runs.{Going, weaker}
 use Rattle.frame_log.specs.Format.{behind, frames, front, magic}
-use Rattle.frame_log.specs.FormatTwo.{Always, Content, IsOwn, holding, moved, selector_bytes, selector_in, since, counting}
-use Rattle.frame_log.specs.Bases.{Area, IsArea, IsWhole, IsWholeArea, area_at, area_base, behind_selectors, moving_file, selectors_at}
+use Rattle.frame_log.specs.FormatTwo.{Always, Content, IsOwn, holding, moved, selector_bytes, selector_in, counting}
+use Rattle.frame_log.specs.Bases.{IsWholeArea, area_at, area_base, behind_selectors, moving_file, selectors_at}
 use Rattle.frame_log.specs.Compacts.{IsBetween, ShutAt, area_bytes, first_area, first_head, first_selector, frame_room, no_selector}
 use Rattle.frame_log.specs.Stands.{IsShut, Names}
 use Rattle.frame_log.specs.Writes.{WritesOn}

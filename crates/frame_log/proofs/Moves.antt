@@ -1,5 +1,5 @@
 -- A later compaction of a log, from its first write to the gate of the old selector.
-use Rattle.std.proofs.Common.{◌≡◌, ◌≢◌, ◌⊎◌, ℕ, ◌+◌, ◌<◌, ◌≤◌, ◌^◌, Bool, true, false, not, List, [], ◌∷◌, ◌++◌, length, set, if◌then◌else◌, Option, Some, None, Result, Ok, Err, refl, sym, ◌∙◌, ap, subst, arith, length-append, inl, inr}
+use Rattle.std.proofs.Common.{◌≡◌, ◌≢◌, ◌⊎◌, ℕ, ◌+◌, ◌<◌, ◌≤◌, ◌^◌, Bool, true, false, not, List, [], ◌∷◌, ◌++◌, length, set, if◌then◌else◌, Option, Some, None, Result, Ok, Err, refl, sym, ◌∙◌, ap, subst, arith, inl, inr}
 use Rattle.std.specs.Prelude.{IfOk}
 use Rattle.std.specs.List.{AllByRecursion}
 use Rattle.std.specs.Int.{w64, to_be_bytes}
@@ -8,18 +8,18 @@ use Rattle.std.proofs.lemmas.List.{append-nil}
 use Rattle.hk_base.specs.Disk.{DiskState, LeavesOnly, Only, RunOn, Torn, written}
 use Rattle.hk_base.proofs.Runs.{Going, weaker}
 use Rattle.frame_log.specs.Format.{IsPayload, frames}
-use Rattle.frame_log.specs.FormatTwo.{Always, Content, IsOwn, Selector, counting, holding, next_turn, selector_bytes, selector_in, since}
-use Rattle.frame_log.specs.Bases.{Area, IsArea, IsWhole, IsWholeArea, area_at, area_base, area_start, front_on, selectors_at}
+use Rattle.frame_log.specs.FormatTwo.{Always, IsOwn, Selector, counting, holding, next_turn, selector_in}
+use Rattle.frame_log.specs.Bases.{Area, IsWholeArea, area_base, area_start, front_on}
 use Rattle.frame_log.specs.Compacts.{IsBetween, ShutAt, area_bytes, other_at}
 use Rattle.frame_log.specs.Stands.{IsShut, Knows, Names}
 use Rattle.frame_log.specs.Writes.{IsApart, WritesOn}
 use Rattle.frame_log.specs.declared.log.Selected.{Selected}
-use Rattle.frame_log.proofs.Bases.{always_shut, moved_long, reads_on_area}
+use Rattle.frame_log.proofs.Bases.{always_shut, reads_on_area}
 use Rattle.frame_log.proofs.Keepings.{HasBoth, IsKept, behind_both, both_end, both_gap, kept_end, kept_gap, kept_numbers, long_by, numbers_written, other_set, this_set}
 use Rattle.frame_log.proofs.Goings.{going}
 use Rattle.frame_log.proofs.Migrations.{always_weaker}
 use Rattle.frame_log.proofs.Movings.{selector_reads}
-use Rattle.frame_log.proofs.Turnings.{IsTurning, as_area, closing, counts_old, end_at, file_by, next_bytes, next_is, next_whole, on_area, opening, ordered, tail_of}
+use Rattle.frame_log.proofs.Turnings.{IsTurning, as_area, closing, counts_old, end_at, file_by, next_bytes, next_whole, on_area, opening, ordered, tail_of}
 
 -- a selector by its gate
 sel_split : (bytes : List ℕ) (gate : ℕ) → length bytes ≡ 17 → (selector_in bytes).gate ≡ gate → (numbers : List ℕ) × (length numbers ≡ 16) × (bytes ≡ gate ∷ numbers)

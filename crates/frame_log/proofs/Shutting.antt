@@ -1,15 +1,14 @@
 -- An opening shuts the gate of a selector that is torn, while the end gate may be torn too: whatever becomes of that byte, the file may be
 -- read in no other ways than before.
-use Rattle.std.proofs.Common.{◌≡◌, ◌≢◌, ◌⊎◌, ℕ, ◌+◌, ◌-◌, ◌<◌, ◌≤◌, ◌^◌, ◌==◌, Bool, true, false, List, [], ◌∷◌, ◌++◌, length, take, drop, set, Some, refl, sym, ◌∙◌, ap, subst, arith, append_assoc, length-append, inl, inr}
+use Rattle.std.proofs.Common.{◌≡◌, ◌≢◌, ◌⊎◌, ℕ, ◌+◌, ◌-◌, ◌≤◌, ◌==◌, Bool, true, false, List, [], ◌∷◌, ◌++◌, length, take, drop, set, Some, refl, sym, ◌∙◌, ap, subst, arith, length-append, inl, inr}
 use Rattle.std.specs.Prelude.{if◌then◌else◌, nat_le, nat_lt}
-use Rattle.std.specs.List.{AllByRecursion, list_any}
+use Rattle.std.specs.List.{list_any}
 use Rattle.std.specs.Int.{w64, from_be_bytes}
 use Rattle.std.proofs.lemmas.List.{set-append_right, drop-drop, drop_at}
 use Rattle.std.proofs.lemmas.Bool.Decides.{nat_tests}
 use Rattle.std.proofs.lemmas.Bool.{cases_eq}
-use Rattle.frame_log.specs.Format.{Found, LogReading, NoLog, frames, frames_at}
-use Rattle.frame_log.specs.Bases.{moved_on}
-use Rattle.frame_log.specs.FormatTwo.{AreTorn, Content, Damage, Holds, IsOwn, IsTorn, MayRead, Selector, WholeReading, area_in, byte_at, counting, end_gate, first_byte, gates_of, log_in, on_counting, selector_in, sized_area, started, with_ones}
+use Rattle.frame_log.specs.Format.{Found, LogReading, NoLog, frames_at}
+use Rattle.frame_log.specs.FormatTwo.{AreTorn, Content, Damage, Holds, IsTorn, MayRead, Selector, WholeReading, area_in, byte_at, end_gate, first_byte, gates_of, log_in, on_counting, sized_area, started, with_ones}
 use Rattle.frame_log.proofs.Torn.{one_of_three}
 
 -- ---- a log in an area has its end gate behind the place of the area

@@ -1,10 +1,10 @@
 -- Writes within a range of a file, one after another.
-use Rattle.std.proofs.Common.{◌≡◌, ◌⊎◌, ℕ, suc, get_or, ◌+◌, ◌-◌, ◌<◌, ◌≤◌, max, List, [], ◌∷◌, ◌++◌, length, take, drop, set, IsTrue, refl, sym, ◌∙◌, ap, subst, arith, append_assoc, length-append, length-drop, take-append-drop, inl, inr}
+use Rattle.std.proofs.Common.{◌≡◌, ℕ, suc, get_or, ◌+◌, ◌-◌, ◌<◌, ◌≤◌, List, [], ◌∷◌, ◌++◌, length, take, drop, set, IsTrue, refl, sym, ◌∙◌, ap, subst, arith, append_assoc, length-append, length-drop, take-append-drop, inl, inr}
 use Rattle.std.proofs.lemmas.List.{drop_at, drop-drop, drop-take, drop_more, length-take-le, set_split, take_at, take-take}
 use Rattle.hk_base.specs.Disk.{CallOn, DiskState, Follows, LeavesOnly, Reads, RunOn, Tells, Torn, piece, written}
-use Rattle.hk_base.proofs.Runs.{Going, begin, compose, then}
+use Rattle.hk_base.proofs.Runs.{begin, compose, then}
 use Rattle.frame_log.specs.Writes.{IsApart, WritesOn}
-use Rattle.frame_log.proofs.Goings.{going, one}
+use Rattle.frame_log.proofs.Goings.{going}
 
 -- ---- bytes
 

@@ -12,8 +12,8 @@ mod image;
 mod log;
 mod records;
 mod selecting;
-mod walking;
 mod viewing;
+mod walking;
 mod window;
 
 pub use fault::{LogFault, StartFault, StoreRefusal};

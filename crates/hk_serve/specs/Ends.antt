@@ -63,18 +63,18 @@ EndsConnection fault written now ended.TooLong = ⊥
 
 -- how the connection ends after a request, if the requests up to it had this number of bytes: what is written of this
 -- response, and the end that goes with it
-abbrev pub EndsBy : ℕ → Message → List ℕ → Option (List ℕ) → Option (List ℕ) → Ended → Type 0
-EndsBy bytes request text written now ended.Closed = (request.keep ≡ false) × Appends written now text
-EndsBy bytes request text written now ended.TooLong = (request.keep ≡ true) × ((2 ^ 40 ≤ bytes) × Appends written now text)
-EndsBy bytes request text written now ended.WriteFault = WroteFront written now text
-EndsBy bytes request text written now ended.NoMemory = now ≡ written
-EndsBy bytes request text written now ended.End = ⊥
-EndsBy bytes request text written now ended.Wire = ⊥
-EndsBy bytes request text written now ended.ReadFault = ⊥
+abbrev pub ResponseEndsBy : ℕ → Message → List ℕ → Option (List ℕ) → Option (List ℕ) → Ended → Type 0
+ResponseEndsBy bytes request text written now ended.Closed = (request.keep ≡ false) × Appends written now text
+ResponseEndsBy bytes request text written now ended.TooLong = (request.keep ≡ true) × ((2 ^ 40 ≤ bytes) × Appends written now text)
+ResponseEndsBy bytes request text written now ended.WriteFault = WroteFront written now text
+ResponseEndsBy bytes request text written now ended.NoMemory = now ≡ written
+ResponseEndsBy bytes request text written now ended.End = ⊥
+ResponseEndsBy bytes request text written now ended.Wire = ⊥
+ResponseEndsBy bytes request text written now ended.ReadFault = ⊥
 
 -- the same with the response of an exchange
 abbrev pub EndsAfter : ℕ → Exchange → Option (List ℕ) → Option (List ℕ) → Ended → Type 0
-EndsAfter bytes exchange written now how = EndsBy bytes exchange.request (response_of exchange) written now how
+EndsAfter bytes exchange written now how = ResponseEndsBy bytes exchange.request (response_of exchange) written now how
 
 -- The connection ended after a last request. `bytes` counts those of the requests before it.
 pub record EndsBehind {D : Type 0} (answers : Answering D) (bytes : ℕ) (old new : Stand D) (how : Ended) : Type 0 where

@@ -10,7 +10,7 @@ use Rattle.http_wire.specs.Responses.{IsStatus}
 use Rattle.http_wire.specs.declared.responses.Response.{Response}
 use Rattle.hk_base.specs.declared.ended.Ended.{Ended}
 use Rattle.hk_base.specs.declared.ended.Ended.TheVariants as ended
-use Rattle.hk_serve.specs.Ends.{Ends, EndsBy}
+use Rattle.hk_serve.specs.Ends.{Ends, ResponseEndsBy}
 use Rattle.hk_serve.specs.Exchanges.{ComesOf, Exchange, Leaves, RequestOutcome, ServicesSay, Stand, body_of, response_of, sent_text, status_of}
 use Rattle.hk_serve.specs.Transactions.{Answering}
 
@@ -34,7 +34,7 @@ GoesOnAfter request bytes bytes' (Some ended.NoMemory) = ⊥
 -- what is written of this response to a request, and whether the connection goes on
 abbrev pub SendsSo : Message → List ℕ → ℕ → ℕ → Option (List ℕ) → Option (List ℕ) → Option Ended → Type 0
 SendsSo request text bytes bytes' written now None = GoesOnAfter request bytes bytes' None × Appends written now text
-SendsSo request text bytes bytes' written now (Some how) = EndsBy (bytes + request.size) request text written now how
+SendsSo request text bytes bytes' written now (Some how) = ResponseEndsBy (bytes + request.size) request text written now how
 
 -- the same with the response of an exchange
 abbrev pub AnswersSo : Exchange → ℕ → ℕ → Option (List ℕ) → Option (List ℕ) → Option Ended → Type 0

@@ -17,7 +17,7 @@ use Rattle.key_index.specs.Index.{Index, Materials, row_of, rows_of, table_of}
 use Rattle.key_index.specs.Sound.{AllSized, AreSized, IsIndexRow, IsPlacedRow, IsSoundIndex}
 use Rattle.key_index.proofs.Standing.{versions_of}
 use Rattle.key_images.specs.Sizes.{row_len, rows_len}
-use Rattle.key_images.specs.Sources.{AreIn, IsIn, bytes_in, bytes_of, row_by, table_in}
+use Rattle.key_images.specs.Sources.{AreIn, LiesIn, bytes_in, bytes_of, row_by, table_in}
 use Rattle.key_images.proofs.ChunkLemmas.{AreLong, length_concat}
 
 pub head_length : (birth : ℕ) (name : List ℕ) (bits : ℕ) (description : List ℕ) (created : ℕ) → length (key_head birth name bits description created) ≡ 21 + length name + length description
@@ -77,10 +77,10 @@ long_of : (len : ℕ) (file : List ℕ) (places : List ℕ) → AllByRecursion (
 long_of len file [] each = tt
 long_of len file (place ∷ places) each = (omega (arith, each.0.1, length-take len (drop place file), length-drop place file), long_of len file places each.1)
 
-pub row_length : (file : List ℕ) (placed : PlacedRow) → IsPlacedRow placed → IsIn 0 (length file) placed → length (key_row_image (row_by (bytes_of file) placed)) ≡ row_len placed.row
+pub row_length : (file : List ℕ) (placed : PlacedRow) → IsPlacedRow placed → LiesIn 0 (length file) placed → length (key_row_image (row_by (bytes_of file) placed)) ≡ row_len placed.row
 row_length file placed is within = row_by_length (bytes_of file) placed is (long_of (placed.row.bits / 8) file placed.places within)
 
-rows_in_length : (from : ℕ) (held : List ℕ) (rows : List PlacedRow) → AllByRecursion IsPlacedRow rows → AllByRecursion (IsIn from (length held)) rows → length (key_rows_image (map (row_by (bytes_in from held)) rows)) ≡ rows_len rows
+rows_in_length : (from : ℕ) (held : List ℕ) (rows : List PlacedRow) → AllByRecursion IsPlacedRow rows → AllByRecursion (LiesIn from (length held)) rows → length (key_rows_image (map (row_by (bytes_in from held)) rows)) ≡ rows_len rows
 rows_in_length from held [] are within = refl
 rows_in_length from held (placed ∷ rows) are within =
     let one = row_by_length (bytes_in from held) placed are.0 (long_in from (placed.row.bits / 8) held placed.places within.0) in

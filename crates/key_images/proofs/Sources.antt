@@ -9,7 +9,7 @@ use Rattle.key_index.specs.Held.{AreHeld, IsHeld}
 use Rattle.key_index.specs.Index.{Index, Materials, older, row_of, rows_of, table_of}
 use Rattle.key_index.specs.Sound.{IsPlacedRow, IsSoundIndex}
 use Rattle.key_index.proofs.Standing.{length-older}
-use Rattle.key_images.specs.Sources.{AreIn, IsIn, bytes_of, row_by, table_in}
+use Rattle.key_images.specs.Sources.{AreIn, LiesIn, bytes_of, row_by, table_in}
 use Rattle.key_images.proofs.ChunkLemmas.{AreLong}
 use Rattle.key_images.proofs.Spelled.{table_same}
 
@@ -52,7 +52,7 @@ places_in file len (place ∷ places) some long =
 some_bytes : (bits : ℕ) → is_length bits ≡ true → 0 < bits / 8
 some_bytes bits long = grind (arith, long)
 
-pub held_is_within : (m : Materials) (file : List ℕ) (rows : List PlacedRow) → AllByRecursion IsPlacedRow rows → AllByRecursion (IsHeld m file) rows → AllByRecursion (IsIn 0 (length file)) rows
+pub held_is_within : (m : Materials) (file : List ℕ) (rows : List PlacedRow) → AllByRecursion IsPlacedRow rows → AllByRecursion (IsHeld m file) rows → AllByRecursion (LiesIn 0 (length file)) rows
 held_is_within m file [] are held = tt
 held_is_within m file (placed ∷ rows) are held =
     (places_in file (placed.row.bits / 8) placed.places (some_bytes placed.row.bits are.0.row.bits) (subst (AreLong (placed.row.bits / 8)) (sym held.0.pieces) held.0.sized), held_is_within m file rows are.1 held.1)

@@ -16,7 +16,7 @@ use Rattle.key_index.specs.Index.{Index, Materials, row_of, table_of}
 use Rattle.key_index.proofs.Searches.{nothing}
 use Rattle.key_index.specs.Sound.{IsPlacedRow, IsSoundIndex}
 use Rattle.key_images.specs.Sizes.{rows_len}
-use Rattle.key_images.specs.Sources.{AreIn, IsIn, bytes_in, bytes_of, row_by, table_by, table_in}
+use Rattle.key_images.specs.Sources.{AreIn, LiesIn, bytes_in, bytes_of, row_by, table_by, table_in}
 use Rattle.key_images.proofs.Lengths.{table_in_length}
 
 -- a row where none is asked for
@@ -109,7 +109,7 @@ pieces_in from count len (suc n) file [] within = refl
 pieces_in from count len (suc n) file (place ∷ places) within =
     λ i. piece_in from count place len file within.0.0 within.0.1 i ∷ pieces_in from count len n file places within.1 i
 
-rows_in : (from count : ℕ) (file : List ℕ) (rows : List PlacedRow) → AllByRecursion (IsIn from count) rows → map (row_by (bytes_in from (piece from count file))) rows ≡ map (row_by (bytes_of file)) rows
+rows_in : (from count : ℕ) (file : List ℕ) (rows : List PlacedRow) → AllByRecursion (LiesIn from count) rows → map (row_by (bytes_in from (piece from count file))) rows ≡ map (row_by (bytes_of file)) rows
 rows_in from count file [] within = refl
 rows_in from count file (placed ∷ rows) within =
     let same = pieces_in from count (placed.row.bits / 8) (placed.row.versions - 1) file placed.places within.0 in
@@ -131,7 +131,7 @@ wider_row : (from count size len : ℕ) (places : List ℕ) → from + count ≤
 wider_row from count size len [] fits within = tt
 wider_row from count size len (place ∷ places) fits within = ((omega arith, omega (arith, fits, within.0.1)), wider_row from count size len places fits within.1)
 
-pub wider : (from count size : ℕ) (rows : List PlacedRow) → from + count ≤ size → AllByRecursion (IsIn from count) rows → AllByRecursion (IsIn 0 size) rows
+pub wider : (from count size : ℕ) (rows : List PlacedRow) → from + count ≤ size → AllByRecursion (LiesIn from count) rows → AllByRecursion (LiesIn 0 size) rows
 wider from count size [] fits within = tt
 wider from count size (placed ∷ rows) fits within = (wider_row from count size (placed.row.bits / 8) placed.places fits within.0, wider from count size rows fits within.1)
 

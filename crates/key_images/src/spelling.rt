@@ -1,12 +1,12 @@
 //! Telling the image of an index. Older materials are read from the file of the key log.
-ghost use Rattle.std.specs.Prelude.{◌≡◌, ◌+◌, ◌-◌, ◌/◌, ◌<◌, ◌≤◌, ◌++◌, List, ℕ, IfOk, IsTrue, OnErr, length, map, take};
-ghost use Rattle.std.specs.List.{AllByRecursion, HoldsAt, concat};
+ghost use Rattle.std.specs.Prelude.{◌≡◌, ◌+◌, ◌<◌, ◌≤◌, ◌++◌, List, ℕ, IfOk, IsTrue, OnErr, length};
+ghost use Rattle.std.specs.List.{AllByRecursion, HoldsAt};
 ghost use Rattle.hk_base.specs.Disk.{LeavesOnly, Reads, RunOn, Tells, piece};
 ghost use Rattle.hk_base.specs.Faults.{Rose};
 ghost use Rattle.hk_base.specs.Names.{is_key_length};
 ghost use Rattle.key_rows.specs.Image.{key_image, key_row_image};
 ghost use Rattle.image_parts.specs.Parts.{KeepsPart};
-ghost use Rattle.key_images.specs.Sources.{AreIn, IsIn, bytes_of, row_by, table_by};
+ghost use Rattle.key_images.specs.Sources.{AreIn, LiesIn, bytes_of, older_bytes, row_by, table_by};
 
 use crate::parts::{put_head, put_top};
 use crate::sizes::row_size;
@@ -57,14 +57,12 @@ fn put_olders<D: Disk>(
 ) -> Result<u64, Failed>
     requires number { number < length index.now.index.rows }
     requires within { Tells (D.state disk.old) →
-        HoldsAt (IsIn 0 (length ((D.state disk.old).reads 0))) index.now.index.rows number }
+        HoldsAt (LiesIn 0 (length ((D.state disk.old).reads 0))) index.now.index.rows number }
     ensures length { length buf.new ≡ length buf.old }
     ensures told { IfOk result
         (λ told. Tells (D.state disk.old) →
         HoldsAt (λ placed. (all : List ℕ) → KeepsPart at seen all buf.old →
-        KeepsPart at told (all ++ concat
-        (map (bytes_of ((D.state disk.old).reads 0) (placed.row.bits / 8))
-        (take (placed.row.versions - 1) placed.places))) buf.new)
+        KeepsPart at told (all ++ older_bytes ((D.state disk.old).reads 0) placed) buf.new)
         index.now.index.rows number) }
     ensures cause { OnErr result (Rose (D.state disk.old).faults (D.state disk.new).faults) }
     ensures same { Reads 0 (D.state disk.old) (D.state disk.new) }
@@ -96,7 +94,7 @@ fn put_row<D: Disk>(
 ) -> Result<u64, Failed>
     requires number { number < length index.now.index.rows }
     requires within { Tells (D.state disk.old) →
-        HoldsAt (IsIn 0 (length ((D.state disk.old).reads 0))) index.now.index.rows number }
+        HoldsAt (LiesIn 0 (length ((D.state disk.old).reads 0))) index.now.index.rows number }
     ensures length { length buf.new ≡ length buf.old }
     ensures told { IfOk result
         (λ told. Tells (D.state disk.old) →

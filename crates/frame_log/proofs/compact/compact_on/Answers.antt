@@ -1,4 +1,4 @@
-use Rattle.std.proofs.Common.{ℕ, List, Option, Some, None, ◌≡◌, ◌≤◌, ◌^◌, IfSome, sym, subst}
+use Rattle.std.proofs.Common.{Option, ◌≤◌, ◌^◌, IfSome, sym, subst}
 use Rattle.std.specs.List.{AllByRecursion}
 use Rattle.hk_base.specs.Disk.{LeavesOnly, piece}
 use Rattle.frame_log.specs.FormatTwo.{Always, holding}

@@ -1,4 +1,4 @@
-use Rattle.std.proofs.Common.{ℕ, List, [], ◌∷◌, ◌++◌, ◌≡◌, ◌+◌, ◌<◌, ◌^◌, length, refl, sym, ◌∙◌, ap, subst, arith}
+use Rattle.std.proofs.Common.{ℕ, List, [], ◌∷◌, ◌++◌, ◌≡◌, ◌+◌, ◌<◌, ◌^◌, length, refl, ◌∙◌, ap, subst, arith}
 use Rattle.hk_base.specs.Disk.{piece, written}
 use Rattle.hk_base.proofs.Runs.{compose, weaker}
 use Rattle.frame_log.specs.Format.{behind, front, frames}

@@ -1,9 +1,9 @@
-use Rattle.std.proofs.Common.{ℕ, Bool, not, List, [], ◌∷◌, ◌++◌, ◌≡◌, ◌⊎◌, ◌+◌, ◌<◌, ◌≤◌, ◌^◌, length, set, Some, refl, sym, ◌∙◌, ap, subst, arith, length-set}
+use Rattle.std.proofs.Common.{ℕ, Bool, not, List, ◌∷◌, ◌++◌, ◌≡◌, ◌+◌, ◌<◌, ◌^◌, length, set, Some, refl, sym, ◌∙◌, ap, subst, arith, length-set}
 use Rattle.std.specs.Int.{w64, to_be_bytes}
 use Rattle.hk_base.specs.Disk.{LeavesOnly, piece, written}
 use Rattle.hk_base.proofs.Runs.{compose}
 use Rattle.frame_log.specs.Format.{frames}
-use Rattle.frame_log.specs.FormatTwo.{Always, holding, next_turn, selector_in}
+use Rattle.frame_log.specs.FormatTwo.{Always, holding, next_turn}
 use Rattle.frame_log.specs.Bases.{Area, area_base, area_start, front_on}
 use Rattle.frame_log.specs.Compacts.{IsBetween, ShutAt, other_at}
 use Rattle.frame_log.proofs.Keepings.{behind_both}

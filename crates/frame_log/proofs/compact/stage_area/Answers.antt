@@ -1,4 +1,4 @@
-use Rattle.std.proofs.Common.{ℕ, List, ◌++◌, ◌≡◌, ◌+◌, ◌≤◌, length, sym, ◌∙◌, ap, arith, inl}
+use Rattle.std.proofs.Common.{ℕ, List, ◌≡◌, ◌+◌, ◌≤◌, length, sym, ◌∙◌, ap, arith, inl}
 use Rattle.hk_base.specs.Disk.{piece, written}
 use Rattle.frame_log.specs.Compacts.{area_bytes, first_head}
 use Rattle.frame_log.specs.Writes.{WritesOn}

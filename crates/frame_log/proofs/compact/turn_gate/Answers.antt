@@ -1,4 +1,4 @@
-use Rattle.std.proofs.Common.{ℕ, List, ◌≡◌, set, subst, sym, ◌∙◌}
+use Rattle.std.proofs.Common.{ℕ, List, subst, ◌∙◌}
 use Rattle.hk_base.specs.Disk.{Torn}
 use Rattle.hk_base.proofs.Runs.{weaker}
 use Rattle.frame_log.proofs.Writes.{torn_byte, written_byte}

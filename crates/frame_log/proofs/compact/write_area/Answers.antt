@@ -1,10 +1,10 @@
-use Rattle.std.proofs.Common.{ℕ, List, [], ◌∷◌, ◌++◌, ◌≡◌, ◌+◌, ◌≤◌, length, sym, ◌∙◌, ap, arith, append_assoc, length-append}
+use Rattle.std.proofs.Common.{ℕ, List, [], ◌∷◌, ◌++◌, ◌≡◌, ◌+◌, ◌≤◌, length, ◌∙◌, ap, arith, append_assoc, length-append}
 use Rattle.std.specs.Int.{w64, to_be_bytes}
 use Rattle.hk_base.specs.Disk.{piece, written}
 use Rattle.frame_log.specs.Writes.{WritesOn}
 use Rattle.frame_log.proofs.Goings.{one}
 use Rattle.frame_log.proofs.Openings.{run_then}
-use Rattle.frame_log.proofs.Writes.{apart_within, back, back_on, piece_long, piece_written, still, still_on, writes_one, writes_then, writes_whole, writes_within, written_long, written_next, written_torn}
+use Rattle.frame_log.proofs.Writes.{apart_within, back, back_on, piece_long, piece_written, still, still_on, writes_one, writes_then, writes_whole, writes_within, written_long, written_next}
 use Rattle.frame_log.proofs.compact.write_area.Goals as goal
 
 pub write_image-requires-clause-place : goal.write_image-requires-clause-place

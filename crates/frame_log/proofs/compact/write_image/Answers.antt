@@ -1,7 +1,6 @@
-use Rattle.std.proofs.Common.{ℕ, List, ◌≡◌, ◌+◌, ◌-◌, ◌≤◌, min, length, take, refl, sym, ◌∙◌, ap, subst, arith}
+use Rattle.std.proofs.Common.{ℕ, List, ◌≡◌, ◌+◌, ◌-◌, min, length, take, refl, ◌∙◌, ap, subst, arith}
 use Rattle.std.proofs.lemmas.List.{length-take-le}
 use Rattle.hk_base.specs.Disk.{LeavesOnly, Reads, RunOn, piece, written}
-use Rattle.frame_log.specs.Writes.{WritesOn}
 use Rattle.frame_log.proofs.Goings.{one}
 use Rattle.frame_log.proofs.Openings.{run_then}
 use Rattle.frame_log.proofs.Parts.{part_long, part_next, part_place}

@@ -4,7 +4,7 @@ use Rattle.std.specs.Int.{w32, w64, to_be_bytes}
 use Rattle.image_parts.specs.Parts.{KeepsPart}
 use Rattle.key_rows.specs.Image.{key_row_image, key_rows_image}
 use Rattle.key_index.specs.declared.rows.PlacedRow.{PlacedRow}
-use Rattle.key_images.specs.Sources.{IsIn, bytes_of, row_by}
+use Rattle.key_images.specs.Sources.{LiesIn, bytes_of, row_by}
 use Rattle.key_images.proofs.ReadOnly.{reads-none, reads-then, rose_before, still_tells, told_before}
 use Rattle.key_images.proofs.Spelled.{counted, each_get, image_told, keys_more, no_row}
 use Rattle.key_images.proofs.spelling.put_image.Goals as goal
@@ -26,7 +26,7 @@ put_row-requires-clause-within g c telling d =
     let before = told_before inv.only telling in
     let rows = c.args.index.now.index.rows in
     let within : c.loop-number.number < length c.args.index.now.index.rows = omega (arith, counted c.args.index.now.index c.count-number-end.result c.count-number-end.ensures, c.loop-number-test.true, c.loop-number.auto.number-end) in
-    subst (λ (file : List ℕ). IsIn 0 (length file) (get_or rows c.loop-number.number d)) (sym (inv.only.same.reads before)) (each_get (IsIn 0 (length (old.reads 0))) rows c.loop-number.number d (c.requires.within before) within)
+    subst (λ (file : List ℕ). LiesIn 0 (length file) (get_or rows c.loop-number.number d)) (sym (inv.only.same.reads before)) (each_get (LiesIn 0 (length (old.reads 0))) rows c.loop-number.number d (c.requires.within before) within)
 
 pub loop-number-preserved : goal.loop-number-preserved
 loop-number-preserved g c =
