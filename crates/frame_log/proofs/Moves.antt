@@ -1,6 +1,8 @@
 -- A later compaction of a log, from its first write to the gate of the old selector.
-use Rattle.std.proofs.Common.{◌≡◌, ◌≢◌, ◌⊎◌, ℕ, ◌+◌, ◌<◌, ◌≤◌, ◌^◌, Bool, true, false, not, List, [], ◌∷◌, ◌++◌, length, set, if◌then◌else◌, Option, Some, None, Result, Ok, Err, refl, sym, ◌∙◌, ap, subst, arith, inl, inr}
-use Rattle.std.specs.Prelude.{IfOk}
+use Rattle.std.proofs.Common.{◌≡◌, ◌≢◌, ◌⊎◌, ℕ, ◌+◌, ◌<◌, ◌≤◌, ◌^◌, Bool, true, false, not, List, [], ◌∷◌, ◌++◌, length, set, if◌then◌else◌, Option, Some, None, Result, Ok, Err, refl, sym, ◌∙◌, ap, subst, arith, length-append, inl, inr}
+use Rattle.std.proofs.Math.Bridge.{le_prop}
+use Rattle.std.proofs.Math.Logic.{∥∥₁_elim}
+use Rattle.std.specs.Prelude.{IfOk, IfSome}
 use Rattle.std.specs.List.{AllByRecursion}
 use Rattle.std.specs.Int.{w64, to_be_bytes}
 use Rattle.std.proofs.lemmas.Bool.{cases_lt}
@@ -8,11 +10,12 @@ use Rattle.std.proofs.lemmas.List.{append-nil}
 use Rattle.hk_base.specs.Disk.{DiskState, LeavesOnly, Only, RunOn, Torn, written}
 use Rattle.hk_base.proofs.Runs.{Going, weaker}
 use Rattle.frame_log.specs.Format.{IsPayload, frames}
-use Rattle.frame_log.specs.FormatTwo.{Always, IsOwn, Selector, counting, holding, next_turn, selector_in}
-use Rattle.frame_log.specs.Bases.{Area, IsWholeArea, area_base, area_start, front_on}
+use Rattle.frame_log.specs.FormatTwo.{Always, Content, IsOwn, Selector, counting, holding, next_turn, selector_bytes, selector_in, since}
+use Rattle.frame_log.specs.Bases.{Area, IsArea, IsWhole, IsWholeArea, area_at, area_base, area_start, front_of, front_on, selectors_at}
 use Rattle.frame_log.specs.Compacts.{IsBetween, ShutAt, area_bytes, other_at}
-use Rattle.frame_log.specs.Stands.{IsShut, Knows, Names}
+use Rattle.frame_log.specs.Stands.{IsShut, Knows, Names, StandsOn}
 use Rattle.frame_log.specs.Writes.{IsApart, WritesOn}
+use Rattle.frame_log.specs.declared.log.Log.{Log}
 use Rattle.frame_log.specs.declared.log.Selected.{Selected}
 use Rattle.frame_log.proofs.Bases.{always_shut, reads_on_area}
 use Rattle.frame_log.proofs.Keepings.{HasBoth, IsKept, behind_both, both_end, both_gap, kept_end, kept_gap, kept_numbers, long_by, numbers_written, other_set, this_set}
@@ -301,3 +304,26 @@ some_known (Some a) (Some b) selected knows is = (b, refl, subst (λ (s : Select
 pub if_ok : {T E : Type 0} {P Q : T → Type 0} (result : Result T E) → IfOk result P → ((x : T) → P x → Q x) → IfOk result Q
 if_ok (Ok x) is f = f x is
 if_ok (Err e) is f = tt
+
+-- a log without payloads since its image
+pub stands_since : (area : Area) (d : DiskState) (log : Log) → IsWholeArea area → log.unsettled ≡ None → ShutAt (area_base log.file area) log.file log.end d → StandsOn (Some area) d log [] None
+stands_since area d log whole settled s =
+    let same = append-nil (area_base log.file area) in
+    let shut : ShutAt (front_on (area_base log.file area) []) log.file log.end d = subst (λ (l : List ℕ). ShutAt l log.file log.end d) (sym same) s in
+    record {
+      is_base = whole;
+      sized = tt;
+      payload = tt;
+      end = shut.place;
+      waits = settled;
+      reads = shut.reads;
+      leaves = shut.leaves;
+    }
+
+-- its end gate is shut
+pub shut_of : (base : Option Area) (d : DiskState) (log : Log) (payloads : List (List ℕ)) → StandsOn base d log payloads None → ShutAt (front_of log.file base payloads) log.file log.end d
+shut_of base d log payloads s = record { place = s.end; reads = s.reads; leaves = s.leaves }
+
+pub near_of : (area : Option Selected) → ∥ IfSome area (λ now. now.selectors ≤ 2 ^ 62) ∥₁ → IfSome area (λ now. now.selectors ≤ 2 ^ 62)
+near_of None near = tt
+near_of (Some now) near = ∥∥₁_elim near le_prop (λ h. h)

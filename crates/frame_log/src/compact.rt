@@ -11,10 +11,15 @@ ghost use Rattle.frame_log.specs.Compacts.{IsBetween, ShutAt, area_bytes, first_
 ghost use Rattle.frame_log.specs.Stands.{Knows, Names};
 ghost use Rattle.frame_log.specs.Writes.{IsApart, WritesOn};
 
+use crate::LogFault;
 use crate::gates::{OPEN, SHUT};
 use crate::image::Image;
-use crate::log::Selected;
+use crate::log::{Log, Selected};
 use hk_base::{Disk, Failed};
+use std::alloc::Global;
+
+/// The number of bytes of an image that are written at once.
+const PART_SIZE: usize = 8_388_608;
 
 /// Writes bytes at an offset and syncs the file.
 fn put_synced<D: Disk>(disk: &mut D, file: u8, at: u64, bytes: &[u8]) -> Result<(), Failed>
@@ -252,6 +257,7 @@ fn migrate<D: Disk, I: Image>(
         (piece (I.from image.now) (I.count image.now) ((D.state disk.old).reads file)))
         × ShutAt (area_base file area) file (next.place + 8 + size) (D.state disk.new))) }
     ensures limit { IfOk result (λ next. next.place + size + 9 ≤ 2 ^ 62) }
+    ensures selectors { IfOk result (λ next. next.selectors ≤ 2 ^ 62) }
     ensures any_moment { Tells (D.state disk.old) → (payloads : List (List ℕ)) →
         AllByRecursion IsOwn payloads → ShutAt (front file payloads) file end (D.state disk.old)
         → LeavesOnly file (D.state disk.old) (D.state disk.new)
@@ -370,6 +376,7 @@ fn move_on<D: Disk, I: Image>(
         (piece (I.from image.now) (I.count image.now) ((D.state disk.old).reads file)))
         × ShutAt (area_base file later) file (next.place + 8 + size) (D.state disk.new))) }
     ensures limit { IfOk result (λ next. next.place + size + 9 ≤ 2 ^ 62) }
+    ensures selectors { IfOk result (λ next. next.selectors ≤ 2 ^ 62) }
     ensures any_moment { Tells (D.state disk.old) → (area : Area) (payloads : List (List ℕ)) →
         IsWholeArea area → Names now area → AllByRecursion IsPayload payloads
         → ShutAt (front_on (area_base file area) payloads) file end (D.state disk.old)
@@ -434,6 +441,7 @@ fn compact_on<D: Disk, I: Image>(
         (piece (I.from image.now) (I.count image.now) ((D.state disk.old).reads file)))
         × ShutAt (area_base file later) file (next.place + 8 + size) (D.state disk.new))) }
     ensures limit { IfOk result (λ next. next.place + size + 9 ≤ 2 ^ 62) }
+    ensures selectors { IfOk result (λ next. next.selectors ≤ 2 ^ 62) }
     ensures any_moment { Tells (D.state disk.old) → (base : Option Area) (payloads : List (List ℕ)) →
         IsBase base → Knows area base → AllByRecursion (MayFollow (start_of base)) payloads
         → ShutAt (front_of file base payloads) file end (D.state disk.old)
@@ -449,5 +457,74 @@ fn compact_on<D: Disk, I: Image>(
     match area {
         None => return migrate(disk, file, end, image, size, buf),
         Some(now) => return move_on(disk, file, end, now, image, size, buf),
+    }
+}
+
+impl Log {
+    ghost use Rattle.std.specs.Prelude.{IsErrOf};
+    ghost use Rattle.frame_log.specs.declared.fault.LogFault.TheVariants.{Damaged, StoreFault, NoMemory};
+    ghost use Rattle.frame_log.specs.Stands.{StandsOn};
+
+    /// Makes the log start from an image, without any payload since. The image is to stand for what the
+    /// log stands for, and has at most 2^30 bytes. It may read from its own file what lies between the
+    /// present area and the end gate, as it was before the call.
+    ///
+    /// A crash at any moment leaves what the log held, or the image alone. After `StoreFault` the log is
+    /// not to be used again. `NoMemory` is returned before the first write; nothing is then changed.
+    pub fn compact<D: Disk, I: Image>(
+        &mut self,
+        alloc: Global,
+        disk: &mut D,
+        image: &I,
+    ) -> Result<(), LogFault>
+        requires settled { self.old.unsettled ≡ None }
+        requires own { I.file image.now ≡ self.old.file }
+        requires size { (held : List ℕ) → length held ≡ I.count image.now →
+            length (I.image image.now held) ≤ 2 ^ 30 }
+        requires behind { Tells (D.state disk.old) →
+            IfSome self.old.area (λ now. now.place ≤ I.from image.now) }
+        requires before { Tells (D.state disk.old) →
+            I.from image.now + I.count image.now ≤ self.old.end }
+        requires stands { Tells (D.state disk.old) →
+            ((base : Option Area) × (payloads : List (List ℕ))
+            × StandsOn base (D.state disk.old) self.old payloads None
+            × Knows self.old.area base × AllByRecursion (MayFollow (start_of base)) payloads) }
+
+        ensures done { OnOk result
+            (Tells (D.state disk.old) → (base : Option Area) (payloads : List (List ℕ)) →
+            StandsOn base (D.state disk.old) self.old payloads None → Knows self.old.area base
+            → AllByRecursion (MayFollow (start_of base)) payloads
+            → ((area : Area) × StandsOn (Some area) (D.state disk.new) self.new [] None
+            × Knows self.new.area (Some area)
+            × (area.image ≡
+            I.image image.now
+            (piece (I.from image.now) (I.count image.now)
+            ((D.state disk.old).reads self.old.file))))) }
+        ensures any_moment { Tells (D.state disk.old) → (base : Option Area)
+            (payloads : List (List ℕ)) → StandsOn base (D.state disk.old) self.old payloads None →
+            Knows self.old.area base → AllByRecursion (MayFollow (start_of base)) payloads →
+            LeavesOnly self.old.file (D.state disk.old) (D.state disk.new)
+            (Always self.old.file
+            (IsBetween (holding (start_of base) payloads)
+            (I.image image.now
+            (piece (I.from image.now) (I.count image.now)
+            ((D.state disk.old).reads self.old.file))))) }
+        ensures memory { IsErrOf result NoMemory → (self.new ≡ self.old) × (disk.new ≡ disk.old) }
+        ensures damaged { (at : ℕ) → IsErrOf result (Damaged at) → ⊥ }
+        ensures run { RunOn self.old.file (D.state disk.old) (D.state disk.new) }
+        ensures file { self.new.file ≡ self.old.file }
+        ensures now_settled { OnOk result (self.new.unsettled ≡ None) }
+        ensures cause { IsErrOf result StoreFault →
+            Rose (D.state disk.old).faults (D.state disk.new).faults }
+    {
+        let mut buf = vec![in alloc; 0u8; PART_SIZE]?;
+        let size = image.size();
+        let file = self.file;
+        let end = self.end;
+        let area = self.area;
+        let next = compact_on(disk, file, end, area, image, size, &mut buf)?;
+        self.area = Some(next);
+        self.end = next.place + 8 + size;
+        Ok(())
     }
 }

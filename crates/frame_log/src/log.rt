@@ -31,6 +31,7 @@ pub struct Log {
     ghost file_in: { file < 2 },
     ghost end_in: { end ≤ 2 ^ 62 },
     ghost unsettled_in: { ∥ IfSome unsettled (λ n. n ≤ 1048576) ∥₁ },
+    ghost area_in: { ∥ IfSome area (λ now. now.selectors ≤ 2 ^ 62) ∥₁ },
 }
 
 /// Returns whether the first eight bytes are the magic of this file.
