@@ -9,7 +9,7 @@ use Rattle.frame_log.specs.Format.{behind, frames, front, magic}
 use Rattle.frame_log.specs.FormatTwo.{Always, Content, IsOwn, holding, moved, selector_bytes, selector_in, counting}
 use Rattle.frame_log.specs.Bases.{IsWholeArea, area_at, area_base, behind_selectors, moving_file, selectors_at}
 use Rattle.frame_log.specs.Compacts.{IsBetween, ShutAt, area_bytes, first_area, first_head, first_selector, frame_room, no_selector}
-use Rattle.frame_log.specs.Stands.{IsShut, Names}
+use Rattle.frame_log.specs.Stands.{IsShut, NamesArea}
 use Rattle.frame_log.specs.Writes.{WritesOn}
 use Rattle.frame_log.specs.declared.log.Selected.{Selected}
 use Rattle.frame_log.proofs.Bases.{always_moving, always_shut, moved_long, moved_more, reads_on_magic}
@@ -73,7 +73,7 @@ module _ (old : List (List ℕ)) (image : List ℕ) (near : 8 + length (frames o
   }
 
   -- the log knows its area
-  pub area_named : (selected : Selected) (end : ℕ) → end ≡ 8 + length (frames old) → selected.selectors ≡ end + 15 → selected.second ≡ false → selected.turn ≡ 1 → selected.place ≡ end + 49 → Names selected (first_area old image)
+  pub area_named : (selected : Selected) (end : ℕ) → end ≡ 8 + length (frames old) → selected.selectors ≡ end + 15 → selected.second ≡ false → selected.turn ≡ 1 → selected.place ≡ end + 49 → NamesArea selected (first_area old image)
   unfolding place
   area_named selected end from selectors second turn at =
       let counts : (selector_in (selector_bytes (first_selector (8 + length (frames old) + 49)))).gate ≡ 1 = ap (λ s. s.gate) first_in in

@@ -1,5 +1,5 @@
 -- A later compaction of a log, from its first write to the gate of the old selector.
-use Rattle.std.proofs.Common.{◌≡◌, ◌≢◌, ◌⊎◌, ℕ, ◌+◌, ◌<◌, ◌≤◌, ◌^◌, Bool, true, false, not, List, [], ◌∷◌, ◌++◌, length, set, if◌then◌else◌, Option, Some, None, Result, Ok, Err, refl, sym, ◌∙◌, ap, subst, arith, length-append, inl, inr}
+use Rattle.std.proofs.Common.{◌≡◌, ◌≢◌, ◌⊎◌, ℕ, ◌+◌, ◌<◌, ◌≤◌, ◌^◌, Bool, true, false, not, List, [], ◌∷◌, ◌++◌, length, set, if◌then◌else◌, Option, Some, None, Result, Ok, Err, refl, sym, ◌∙◌, ap, subst, arith, inl, inr}
 use Rattle.std.proofs.Math.Bridge.{le_prop}
 use Rattle.std.proofs.Math.Logic.{∥∥₁_elim}
 use Rattle.std.specs.Prelude.{IfOk, IfSome}
@@ -10,10 +10,10 @@ use Rattle.std.proofs.lemmas.List.{append-nil}
 use Rattle.hk_base.specs.Disk.{DiskState, LeavesOnly, Only, RunOn, Torn, written}
 use Rattle.hk_base.proofs.Runs.{Going, weaker}
 use Rattle.frame_log.specs.Format.{IsPayload, frames}
-use Rattle.frame_log.specs.FormatTwo.{Always, Content, IsOwn, Selector, counting, holding, next_turn, selector_bytes, selector_in, since}
-use Rattle.frame_log.specs.Bases.{Area, IsArea, IsWhole, IsWholeArea, area_at, area_base, area_start, front_of, front_on, selectors_at}
+use Rattle.frame_log.specs.FormatTwo.{Always, IsOwn, Selector, counting, holding, next_turn, selector_in}
+use Rattle.frame_log.specs.Bases.{Area, IsWholeArea, area_base, area_start, front_of, front_on}
 use Rattle.frame_log.specs.Compacts.{IsBetween, ShutAt, area_bytes, other_at}
-use Rattle.frame_log.specs.Stands.{IsShut, Knows, Names, StandsOn}
+use Rattle.frame_log.specs.Stands.{IsShut, Knows, NamesArea, StandsOn}
 use Rattle.frame_log.specs.Writes.{IsApart, WritesOn}
 use Rattle.frame_log.specs.declared.log.Log.{Log}
 use Rattle.frame_log.specs.declared.log.Selected.{Selected}
@@ -203,7 +203,7 @@ module _ (file : ℕ) (order : Bool) (old : List (List ℕ)) (end : ℕ) (on num
         ∙ next_bytes file end p.shut old on (next_numbers place) b.gap image b.new_gap img payloads b.rest b.more facts order 0
 
 -- what is known of a log on an area, by what it keeps in memory
-pub present_of : (file : ℕ) (selected : Selected) (area : Area) (payloads : List (List ℕ)) → IsWholeArea area → Names selected area → AllByRecursion IsPayload payloads → selected.turn < 2 ^ 64
+pub present_of : (file : ℕ) (selected : Selected) (area : Area) (payloads : List (List ℕ)) → IsWholeArea area → NamesArea selected area → AllByRecursion IsPayload payloads → selected.turn < 2 ^ 64
     → (on : List ℕ) × (numbers : List ℕ) × (area ≡ ordered selected.second area.old area.end (1 ∷ on) (0 ∷ numbers) area.gap area.image) × ((selector_in (1 ∷ on)).turn ≡ selected.turn) × IsPresent area.old area.end on numbers area.gap area.image payloads
 present_of file selected area payloads whole names fits small =
     let o = as_ordered selected.second area whole.is.first whole.is.second names.counts names.alone in
@@ -233,7 +233,7 @@ present_of file selected area payloads whole names fits small =
     this_is true on numbers same = ap (λ a. a.second) same
 
 -- the new area lies where it may
-pub may_lie : (file : ℕ) (selected : Selected) (area : Area) (payloads : List (List ℕ)) (end place size : ℕ) → IsWholeArea area → Names selected area → end ≡ length (front_on (area_base file area) payloads)
+pub may_lie : (file : ℕ) (selected : Selected) (area : Area) (payloads : List (List ℕ)) (end place size : ℕ) → IsWholeArea area → NamesArea selected area → end ≡ length (front_on (area_base file area) payloads)
     → (selected.selectors + 43 + size ≤ selected.place → place ≡ selected.selectors + 34) → (selected.place < selected.selectors + 43 + size → place ≡ end + 1)
     → ((place ≡ behind_both area.old) × (size + 9 ≤ length area.gap)) ⊎ (place ≡ behind_both area.old + length area.gap + 8 + length area.image + length (frames payloads) + 1)
 may_lie file selected area payloads end place size whole names is before behind = elim (cases_lt selected.place (selected.selectors + 43 + size)) [
@@ -260,7 +260,7 @@ module _ (file : ℕ) (old : List (List ℕ)) (end : ℕ) (on next gap image mor
         leaves = λ c h. (more, only c h ∙ reads);
       })
 
-  pub now_names : (order : Bool) (selected : Selected) → selected.selectors ≡ 8 + length (frames old) + 15 → selected.second ≡ not order → selected.turn ≡ (selector_in (1 ∷ next)).turn → selected.place ≡ behind_both old + length gap → Names selected (ordered order old end (0 ∷ on) (1 ∷ next) gap image)
+  pub now_names : (order : Bool) (selected : Selected) → selected.selectors ≡ 8 + length (frames old) + 15 → selected.second ≡ not order → selected.turn ≡ (selector_in (1 ∷ next)).turn → selected.place ≡ behind_both old + length gap → NamesArea selected (ordered order old end (0 ∷ on) (1 ∷ next) gap image)
   now_names false selected at second turn place = record {
     selectors = at;
     counts = ap (λ (b : Bool). (selector_in (if b then 1 ∷ next else 0 ∷ on)).gate) second;
@@ -296,10 +296,10 @@ none_known None None knows is = refl
 none_known None (Some b) knows is = absurd knows
 none_known (Some a) base knows is = absurd (cc is)
 
-pub some_known : (area : Option Selected) (base : Option Area) (selected : Selected) → Knows area base → area ≡ Some selected → (known : Area) × (base ≡ Some known) × Names selected known
+pub some_known : (area : Option Selected) (base : Option Area) (selected : Selected) → Knows area base → area ≡ Some selected → (known : Area) × (base ≡ Some known) × NamesArea selected known
 some_known None base selected knows is = absurd (cc is)
 some_known (Some a) None selected knows is = absurd knows
-some_known (Some a) (Some b) selected knows is = (b, refl, subst (λ (s : Selected). Names s b) (cc is) knows)
+some_known (Some a) (Some b) selected knows is = (b, refl, subst (λ (s : Selected). NamesArea s b) (cc is) knows)
 
 pub if_ok : {T E : Type 0} {P Q : T → Type 0} (result : Result T E) → IfOk result P → ((x : T) → P x → Q x) → IfOk result Q
 if_ok (Ok x) is f = f x is

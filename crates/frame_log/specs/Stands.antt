@@ -1,7 +1,7 @@
 -- The invariant of a log on its disk.
-use Rattle.std.specs.Prelude.{◌≡◌, ◌⊎◌, ◌≤◌, ℕ, List, [], ◌∷◌, ◌++◌, length, Option, Some, None, IfSome, option_map, if◌then◌else◌}
+use Rattle.std.specs.Prelude.{◌≡◌, ◌⊎◌, ◌≤◌, ℕ, Bool, List, [], ◌∷◌, ◌++◌, length, Option, Some, None, IfSome, option_map, if◌then◌else◌}
 use Rattle.std.specs.List.{AllByRecursion}
-use Rattle.hk_base.specs.Disk.{DiskState, Image}
+use Rattle.hk_base.specs.Disk.{DiskState, Image, LeavesOnly}
 use Rattle.frame_log.specs.Format.{behind, IsPayload, IsAtRest, IsHalfOpen}
 pub use Rattle.frame_log.specs.Format.{front}
 use Rattle.frame_log.specs.Bases.{Area, IsBase, area_at, front_of, selectors_at}
@@ -38,8 +38,16 @@ pub record StandsOn (base : Option Area) (disk : DiskState) (log : Log) (payload
 abbrev pub Stands : DiskState → Log → List (List ℕ) → Option (List ℕ) → Type 0
 Stands disk log payloads unsettled = StandsOn None disk log payloads unsettled
 
+-- what a crash leaves of a log while a record is added to it or settled: the log, or the log and the frame behind its end gate
+abbrev pub LeavesAdding : Option Area → Log → List (List ℕ) → List ℕ → DiskState → DiskState → Type 0
+LeavesAdding base log payloads payload old new = LeavesOnly log.file old new (Is (front_of log.file base payloads) (Some payload))
+
+-- these payloads, and then one more if it is kept
+abbrev pub with_kept : Bool → List (List ℕ) → List ℕ → List (List ℕ)
+with_kept kept payloads payload = if kept then payloads ++ payload ∷ [] else payloads
+
 -- The selector that counts is open and names the area, and the other one is shut.
-pub record Names (selected : Selected) (area : Area) : Type 0 where
+pub record NamesArea (selected : Selected) (area : Area) : Type 0 where
   pub selectors : selected.selectors ≡ selectors_at area
   pub counts : (selector_in (if selected.second then area.second else area.first)).gate ≡ 1
   pub alone : (selector_in (if selected.second then area.first else area.second)).gate ≡ 0
@@ -49,7 +57,7 @@ pub record Names (selected : Selected) (area : Area) : Type 0 where
 -- the log knows what it stands on
 abbrev pub Knows : Option Selected → Option Area → Type 0
 Knows None None = Unit {0}
-Knows (Some selected) (Some area) = Names selected area
+Knows (Some selected) (Some area) = NamesArea selected area
 Knows None (Some area) = ⊥
 Knows (Some selected) None = ⊥
 

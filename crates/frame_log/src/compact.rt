@@ -5,10 +5,10 @@ ghost use Rattle.std.specs.Int.{w64, to_be_bytes};
 ghost use Rattle.hk_base.specs.Disk.{DiskState, LeavesOnly, Only, RunOn, Tells, piece, written};
 ghost use Rattle.hk_base.specs.Faults.{Rose};
 ghost use Rattle.frame_log.specs.Format.{IsPayload, behind, front};
-ghost use Rattle.frame_log.specs.FormatTwo.{Always, IsOwn, holding, moved, next_turn};
+ghost use Rattle.frame_log.specs.FormatTwo.{IsOwn, holding, moved, next_turn};
 ghost use Rattle.frame_log.specs.Bases.{Area, IsBase, IsWholeArea, MayFollow, area_base, area_start, front_of, front_on, start_of};
-ghost use Rattle.frame_log.specs.Compacts.{IsBetween, ShutAt, area_bytes, first_head, other_at};
-ghost use Rattle.frame_log.specs.Stands.{Knows, Names};
+ghost use Rattle.frame_log.specs.Compacts.{CompactsTo, LeavesOneOf, OfEither, OfFirst, OfLog, OfSelected, ShutAt, StartsFrom, area_bytes, first_head, other_at};
+ghost use Rattle.frame_log.specs.Stands.{Knows, NamesArea};
 ghost use Rattle.frame_log.specs.Writes.{IsApart, WritesOn};
 
 use crate::LogFault;
@@ -249,22 +249,14 @@ fn migrate<D: Disk, I: Image>(
         × ShutAt (front file payloads) file end (D.state disk.old)) }
 
     ensures moved { IfOk result
-        (λ next. Tells (D.state disk.old) → (payloads : List (List ℕ)) →
-        AllByRecursion IsOwn payloads → ShutAt (front file payloads) file end (D.state disk.old)
-        → ((area : Area) × IsWholeArea area × Names next area
-        × (area.image ≡
-        I.image image.now
-        (piece (I.from image.now) (I.count image.now) ((D.state disk.old).reads file)))
-        × ShutAt (area_base file area) file (next.place + 8 + size) (D.state disk.new))) }
+        (λ next. Tells (D.state disk.old) → OfFirst file end (D.state disk.old) (λ payloads.
+        CompactsTo (I.image image.now) (I.from image.now) (I.count image.now) size file next
+        (D.state disk.old) (D.state disk.new))) }
     ensures limit { IfOk result (λ next. next.place + size + 9 ≤ 2 ^ 62) }
     ensures selectors { IfOk result (λ next. next.selectors ≤ 2 ^ 62) }
-    ensures any_moment { Tells (D.state disk.old) → (payloads : List (List ℕ)) →
-        AllByRecursion IsOwn payloads → ShutAt (front file payloads) file end (D.state disk.old)
-        → LeavesOnly file (D.state disk.old) (D.state disk.new)
-        (Always file
-        (IsBetween (holding None payloads)
-        (I.image image.now
-        (piece (I.from image.now) (I.count image.now) ((D.state disk.old).reads file))))) }
+    ensures any_moment { Tells (D.state disk.old) → OfFirst file end (D.state disk.old) (λ payloads.
+        LeavesOneOf file (holding None payloads) (I.image image.now) (I.from image.now)
+        (I.count image.now) (D.state disk.old) (D.state disk.new)) }
     ensures length { length buf.new ≡ length buf.old }
     ensures run { RunOn file (D.state disk.old) (D.state disk.new) }
     ensures cause { OnErr result (Rose (D.state disk.old).faults (D.state disk.new).faults) }
@@ -362,29 +354,19 @@ fn move_on<D: Disk, I: Image>(
     requires behind { Tells (D.state disk.old) → now.place ≤ I.from image.now }
     requires before { Tells (D.state disk.old) → I.from image.now + I.count image.now ≤ end }
     requires stands { Tells (D.state disk.old) →
-        ((area : Area) × (payloads : List (List ℕ)) × IsWholeArea area × Names now area
+        ((area : Area) × (payloads : List (List ℕ)) × IsWholeArea area × NamesArea now area
         × AllByRecursion IsPayload payloads
         × ShutAt (front_on (area_base file area) payloads) file end (D.state disk.old)) }
 
     ensures moved { IfOk result
-        (λ next. Tells (D.state disk.old) → (area : Area) (payloads : List (List ℕ)) →
-        IsWholeArea area → Names now area → AllByRecursion IsPayload payloads
-        → ShutAt (front_on (area_base file area) payloads) file end (D.state disk.old)
-        → ((later : Area) × IsWholeArea later × Names next later
-        × (later.image ≡
-        I.image image.now
-        (piece (I.from image.now) (I.count image.now) ((D.state disk.old).reads file)))
-        × ShutAt (area_base file later) file (next.place + 8 + size) (D.state disk.new))) }
+        (λ next. Tells (D.state disk.old) → OfSelected now file end (D.state disk.old) (λ area payloads.
+        CompactsTo (I.image image.now) (I.from image.now) (I.count image.now) size file next
+        (D.state disk.old) (D.state disk.new))) }
     ensures limit { IfOk result (λ next. next.place + size + 9 ≤ 2 ^ 62) }
     ensures selectors { IfOk result (λ next. next.selectors ≤ 2 ^ 62) }
-    ensures any_moment { Tells (D.state disk.old) → (area : Area) (payloads : List (List ℕ)) →
-        IsWholeArea area → Names now area → AllByRecursion IsPayload payloads
-        → ShutAt (front_on (area_base file area) payloads) file end (D.state disk.old)
-        → LeavesOnly file (D.state disk.old) (D.state disk.new)
-        (Always file
-        (IsBetween (holding (Some (area_start area)) payloads)
-        (I.image image.now
-        (piece (I.from image.now) (I.count image.now) ((D.state disk.old).reads file))))) }
+    ensures any_moment { Tells (D.state disk.old) → OfSelected now file end (D.state disk.old) (λ area payloads.
+        LeavesOneOf file (holding (Some (area_start area)) payloads) (I.image image.now)
+        (I.from image.now) (I.count image.now) (D.state disk.old) (D.state disk.new)) }
     ensures length { length buf.new ≡ length buf.old }
     ensures run { RunOn file (D.state disk.old) (D.state disk.new) }
     ensures cause { OnErr result (Rose (D.state disk.old).faults (D.state disk.new).faults) }
@@ -432,24 +414,14 @@ fn compact_on<D: Disk, I: Image>(
         × ShutAt (front_of file base payloads) file end (D.state disk.old)) }
 
     ensures moved { IfOk result
-        (λ next. Tells (D.state disk.old) → (base : Option Area) (payloads : List (List ℕ)) →
-        IsBase base → Knows area base → AllByRecursion (MayFollow (start_of base)) payloads
-        → ShutAt (front_of file base payloads) file end (D.state disk.old)
-        → ((later : Area) × IsWholeArea later × Names next later
-        × (later.image ≡
-        I.image image.now
-        (piece (I.from image.now) (I.count image.now) ((D.state disk.old).reads file)))
-        × ShutAt (area_base file later) file (next.place + 8 + size) (D.state disk.new))) }
+        (λ next. Tells (D.state disk.old) → OfEither area file end (D.state disk.old) (λ base payloads.
+        CompactsTo (I.image image.now) (I.from image.now) (I.count image.now) size file next
+        (D.state disk.old) (D.state disk.new))) }
     ensures limit { IfOk result (λ next. next.place + size + 9 ≤ 2 ^ 62) }
     ensures selectors { IfOk result (λ next. next.selectors ≤ 2 ^ 62) }
-    ensures any_moment { Tells (D.state disk.old) → (base : Option Area) (payloads : List (List ℕ)) →
-        IsBase base → Knows area base → AllByRecursion (MayFollow (start_of base)) payloads
-        → ShutAt (front_of file base payloads) file end (D.state disk.old)
-        → LeavesOnly file (D.state disk.old) (D.state disk.new)
-        (Always file
-        (IsBetween (holding (start_of base) payloads)
-        (I.image image.now
-        (piece (I.from image.now) (I.count image.now) ((D.state disk.old).reads file))))) }
+    ensures any_moment { Tells (D.state disk.old) → OfEither area file end (D.state disk.old) (λ base payloads.
+        LeavesOneOf file (holding (start_of base) payloads) (I.image image.now)
+        (I.from image.now) (I.count image.now) (D.state disk.old) (D.state disk.new)) }
     ensures length { length buf.new ≡ length buf.old }
     ensures run { RunOn file (D.state disk.old) (D.state disk.new) }
     ensures cause { OnErr result (Rose (D.state disk.old).faults (D.state disk.new).faults) }
@@ -491,24 +463,12 @@ impl Log {
             × Knows self.old.area base × AllByRecursion (MayFollow (start_of base)) payloads) }
 
         ensures done { OnOk result
-            (Tells (D.state disk.old) → (base : Option Area) (payloads : List (List ℕ)) →
-            StandsOn base (D.state disk.old) self.old payloads None → Knows self.old.area base
-            → AllByRecursion (MayFollow (start_of base)) payloads
-            → ((area : Area) × StandsOn (Some area) (D.state disk.new) self.new [] None
-            × Knows self.new.area (Some area)
-            × (area.image ≡
-            I.image image.now
-            (piece (I.from image.now) (I.count image.now)
-            ((D.state disk.old).reads self.old.file))))) }
-        ensures any_moment { Tells (D.state disk.old) → (base : Option Area)
-            (payloads : List (List ℕ)) → StandsOn base (D.state disk.old) self.old payloads None →
-            Knows self.old.area base → AllByRecursion (MayFollow (start_of base)) payloads →
-            LeavesOnly self.old.file (D.state disk.old) (D.state disk.new)
-            (Always self.old.file
-            (IsBetween (holding (start_of base) payloads)
-            (I.image image.now
-            (piece (I.from image.now) (I.count image.now)
-            ((D.state disk.old).reads self.old.file))))) }
+            (Tells (D.state disk.old) → OfLog self.old (D.state disk.old) (λ base payloads.
+            StartsFrom (I.image image.now) (I.from image.now) (I.count image.now) self.new
+            (D.state disk.old) (D.state disk.new))) }
+        ensures any_moment { Tells (D.state disk.old) → OfLog self.old (D.state disk.old) (λ base payloads.
+            LeavesOneOf self.old.file (holding (start_of base) payloads) (I.image image.now)
+            (I.from image.now) (I.count image.now) (D.state disk.old) (D.state disk.new)) }
         ensures memory { IsErrOf result NoMemory → (self.new ≡ self.old) × (disk.new ≡ disk.old) }
         ensures damaged { (at : ℕ) → IsErrOf result (Damaged at) → ⊥ }
         ensures run { RunOn self.old.file (D.state disk.old) (D.state disk.new) }

@@ -79,8 +79,8 @@ impl Log {
     ghost use Rattle.frame_log.specs.Format.{log_of, Found, NoLog, placed, IsAsFound, IsRecovered};
     ghost use Rattle.frame_log.specs.Scan.{view};
     ghost use Rattle.frame_log.specs.Opens.{FailsAs, RecoversLog};
-    ghost use Rattle.frame_log.specs.Bases.{Area, front_of};
-    ghost use Rattle.frame_log.specs.Stands.{Is, Stands, StandsOn};
+    ghost use Rattle.frame_log.specs.Bases.{Area};
+    ghost use Rattle.frame_log.specs.Stands.{LeavesAdding, Stands, StandsOn, with_kept};
     ghost use Rattle.frame_log.specs.Ahead.{Ahead};
 
     /// Reads the log of a file that a crash may have left, and sets its end gate to 0 if it isn't 0.
@@ -229,11 +229,11 @@ impl Log {
             StandsOn base (D.state disk.old) self.old payloads None
             → StandsOn base (D.state disk.new) self.new (payloads ++ payload.now ∷ []) None) }
 
-        // A crash at any moment of the call leaves the log as it was, or with the frame behind its end gate, which may be torn.
+        // A crash at any moment of the call leaves the payloads from before it, and the new one behind an end
+        // gate that may be torn, or not at all.
         ensures any_moment { Tells (D.state disk.old) → (base : Option Area) (payloads : List (List ℕ)) →
             StandsOn base (D.state disk.old) self.old payloads None
-            → LeavesOnly self.old.file (D.state disk.old) (D.state disk.new)
-            (Is (front_of self.old.file base payloads) (Some payload.now)) }
+            → LeavesAdding base self.old payloads payload.now (D.state disk.old) (D.state disk.new) }
 
         ensures unsettled { IsErrOf result StoreFault → Tells (D.state disk.old) →
             (base : Option Area) (payloads : List (List ℕ)) → StandsOn base (D.state disk.old) self.old payloads None
@@ -270,10 +270,11 @@ impl Log {
             StandsOn base (D.state disk.old) self.old payloads (Some payload)) }
 
         ensures settled { IfOk result
-            (λ kept. Tells (D.state disk.old) → (base : Option Area) (payloads : List (List ℕ)) (payload : List ℕ) →
+            (λ kept. Tells (D.state disk.old) →
+            (base : Option Area) (payloads : List (List ℕ)) (payload : List ℕ) →
             StandsOn base (D.state disk.old) self.old payloads (Some payload)
             → StandsOn base (D.state disk.new) self.new
-            (if kept then payloads ++ payload ∷ [] else payloads) None) }
+            (with_kept kept payloads payload) None) }
         ensures kept { IfOk result
             (λ kept. Tells (D.state disk.old) →
             (IsTrue kept ↔
@@ -281,8 +282,7 @@ impl Log {
         ensures any_moment { Tells (D.state disk.old) →
             (base : Option Area) (payloads : List (List ℕ)) (payload : List ℕ) →
             StandsOn base (D.state disk.old) self.old payloads (Some payload)
-            → LeavesOnly self.old.file (D.state disk.old) (D.state disk.new)
-            (Is (front_of self.old.file base payloads) (Some payload)) }
+            → LeavesAdding base self.old payloads payload (D.state disk.old) (D.state disk.new) }
         ensures unsettled { IsErr result → Tells (D.state disk.old) →
             (base : Option Area) (payloads : List (List ℕ)) (payload : List ℕ) →
             StandsOn base (D.state disk.old) self.old payloads (Some payload)

@@ -137,6 +137,7 @@ impl Store {
                 let log = Log {
                     file: KEYS,
                     end: 8,
+                    area: None,
                     unsettled: None,
                 };
                 Ok(Store {

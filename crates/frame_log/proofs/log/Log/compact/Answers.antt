@@ -1,4 +1,4 @@
-use Rattle.std.proofs.Common.{ℕ, List, Option, Some, None, replicate, ◌≡◌, ◌+◌, refl, sym, ap, subst, arith}
+use Rattle.std.proofs.Common.{ℕ, List, replicate, arith}
 use Rattle.std.proofs.lemmas.List.{length-replicate}
 use Rattle.frame_log.proofs.Moves.{near_of, shut_of, stands_since}
 use Rattle.frame_log.proofs.log.Log.compact.Goals as goal
