@@ -4,25 +4,14 @@ ghost use Rattle.hk_base.specs.Disk.{Tells, Reads, RunOn, LeavesOnly};
 ghost use Rattle.hk_base.specs.Faults.{Rose};
 ghost use Rattle.frame_log.specs.declared.fault.LogFault.TheVariants.{Damaged, StoreFault};
 ghost use Rattle.frame_log.specs.Ahead.{Ahead};
-ghost use Rattle.frame_log.specs.Format.{log_of, magic, starts_with, Found, NoLog};
+ghost use Rattle.frame_log.specs.Format.{log_of, Found, NoLog};
 
 use crate::LogFault;
 use crate::gates::pass_frames;
-use crate::log::Log;
+use crate::log::{Log, is_magic};
 use crate::records::Records;
 use hk_base::Disk;
 use std::alloc::Global;
-
-/// Returns whether the first eight bytes of a file are those of a log.
-fn begins_log(file: u8, head: &[u8; 8]) -> bool
-    ensures { result ≡ starts_with (magic file) head.now }
-{
-    if file == 0 {
-        *head == *b"HKMSKEY1"
-    } else {
-        *head == *b"HKMSNAM1"
-    }
-}
 
 /// Looks for the end gate of a log of `size` bytes, and returns a reader at its first payload.
 fn view_passed<D: Disk>(
@@ -53,7 +42,7 @@ fn view_passed<D: Disk>(
 {
     let mut head = [0u8; 8];
     disk.read(file, 0, &mut head)?;
-    if !begins_log(file, &head) {
+    if !is_magic(file, &head) {
         return Err(LogFault::Damaged { at: 0 });
     }
     pass_frames(alloc, disk, file, size)?;

@@ -9,16 +9,16 @@ use Rattle.frame_log.proofs.viewing.view_passed.Goals as goal
 still : {file : ℕ} {old new : DiskState} → CallOn file old new → Tells old → Tells new
 still call tells = subst (λ b. IsTrue b) (sym call.tells) tells
 
-pub returns-then-not-begins_log-clause-damaged : goal.returns-then-not-begins_log-clause-damaged
-returns-then-not-begins_log-clause-damaged g c at is tells =
+pub returns-then-not-is_magic-clause-damaged : goal.returns-then-not-is_magic-clause-damaged
+returns-then-not-is_magic-clause-damaged g c at is tells =
     let file = c.args.file in
     let R = (g.D.Disk.state c.args.disk.now).reads file in
     let long : 10 ≤ length R = omega (arith, c.requires.size tells, c.requires.long) in
     let head : starts_with (magic file) c.read.new.buf ≡ starts_with (magic file) R =
     head_is file c.in_ok-read.field-0 c.read.new.buf R (omega arith) long (omega (arith, c.in_ok-read.ensures.answer tells)) (c.in_ok-read.ensures.bytes tells) in
     let where_at : 0 ≡ at = cc is in
-    let other : c.begins_log.result ≡ false = search rules in
-    other_magic file R long (sym head ∙ sym c.begins_log.ensures ∙ other) ∙ ap NoLog where_at
+    let other : c.is_magic.result ≡ false = search rules in
+    other_magic file R long (sym head ∙ sym c.is_magic.ensures ∙ other) ∙ ap NoLog where_at
 
 pub returns-clause-log : goal.returns-clause-log
 returns-clause-log g c tells =
@@ -29,8 +29,8 @@ returns-clause-log g c tells =
     let long : 10 ≤ length R = omega (arith, c.requires.size tells, c.requires.long) in
     let head : starts_with (magic file) c.read.new.buf ≡ starts_with (magic file) R =
     head_is file c.in_ok-read.field-0 c.read.new.buf R (omega arith) long (omega (arith, c.in_ok-read.ensures.answer tells)) (c.in_ok-read.ensures.bytes tells) in
-    let matches : c.begins_log.result ≡ true = search rules in
-    let begins : starts_with (magic file) R ≡ true = sym head ∙ sym c.begins_log.ensures ∙ matches in
+    let matches : c.is_magic.result ≡ true = search rules in
+    let begins : starts_with (magic file) R ≡ true = sym head ∙ sym c.is_magic.ensures ∙ matches in
     let s = subst (λ (l : List ℕ). IsScanned l c.in_ok-pass_frames.field-0) R1 (c.in_ok-pass_frames.ensures.scan tells1) in
     let is = scanned file R c.in_ok-pass_frames.field-0 s begins in
     let e = c.new.ensures in (
