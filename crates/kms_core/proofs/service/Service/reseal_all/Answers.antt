@@ -37,6 +37,10 @@ returns-in_err-push-clause-answer g c =
     of_err (g.D.Disk.state c.args.disk.now) (g.D.Disk.state c.resealed.new.disk) s (call.Batch c.args.name.now c.args.sent.now) (map (resealed s c.args.name.now) c.args.sent.now) c.from_residual-in_err-push.result refusal.NoMemory now
     (inr (sym (same_causes s c.args.name.now has.key c.args.sent.now has.found) ∙ sym (c.batch_refusal.ensures has.key has.knows) ∙ c.in_default-batch_refusal.is, inl (refl, refl)))
 
+pub returns-in_err-key-clause-reads : goal.returns-in_err-key-clause-reads
+returns-in_err-key-clause-reads g c =
+    reads_more (g.D.Disk.state c.args.disk.now) (g.D.Disk.state c.loop-edek.disk) (g.D.Disk.state c.resealed.new.disk) c.args.self.now c.loop-edek.self c.resealed.new.self c.loop-edek.invariant.reads c.in_err-key.ensures.reads
+
 pub returns-in_err-push-clause-reads : goal.returns-in_err-push-clause-reads
 returns-in_err-push-clause-reads g c =
     reads_more (g.D.Disk.state c.args.disk.now) (g.D.Disk.state c.loop-edek.disk) (g.D.Disk.state c.resealed.new.disk) c.args.self.now c.loop-edek.self c.resealed.new.self c.loop-edek.invariant.reads c.in_ok-key.ensures.reads
