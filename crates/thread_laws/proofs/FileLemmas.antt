@@ -112,6 +112,7 @@ as-second d e (suc file) is = record { reads = refl; leaves = λ bytes l. l; bac
 
 stands-as : (d e : DiskState) (log : Log) (payloads : List (List ℕ)) (unsettled : Option (List ℕ)) → IsAs d e log.file → Stands e log payloads unsettled → Stands d log payloads unsettled
 stands-as d e log payloads unsettled same s = record {
+  is_base = s.is_base;
   sized = s.sized;
   payload = s.payload;
   end = s.end;
